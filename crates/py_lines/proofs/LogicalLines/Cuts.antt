@@ -1,12 +1,11 @@
 -- Logical lines, one after another: where a line ends, the lines so far are done.
 use Rattle.std.specs.Prelude.{codes}
 use Rattle.std.proofs.Common.{◌≡◌, ℕ, ◌+◌, Bool, true, false, not, ◌&&◌, ◌==◌, List, [], ◌∷◌, ◌++◌, length, refl, sym, ap, ◌∙◌, ⊎_elim, inl, inr, append_assoc, append-nil, length-append, arith}
-use Rattle.std.specs.List.{list_all, list_any}
+use Rattle.std.specs.List.{list_any}
 use Rattle.std.proofs.lemmas.Str.{encodes-append, length-le-encodes}
 use Rattle.std.proofs.lemmas.List.{nil_from_length}
 use Rattle.std.proofs.lemmas.Bool.{cond_both, both_ways, and_parts, and_left, or_parts, false_from_ne_true, cases_Bool, or_from}
-use Rattle.unicode_ident.proofs.Computing.{unicode_ident}
-use Rattle.py_lines.specs.Character.{is_mark, is_space, is_word_character, is_word_start, is_digit, is_quote, is_operator, is_line_feed, is_return, is_break, is_hash}
+use Rattle.py_lines.specs.Character.{is_mark, is_space, is_quote, is_operator, is_line_feed, is_return, is_break, is_hash}
 use Rattle.py_lines.specs.Piece.{Class, mark, space, word, string, operator, comment, join, line_end, Piece, begins, ends, spelled}
 use Rattle.py_lines.specs.PieceGrammar.{joined}
 use Rattle.py_lines.specs.Balance.{depth_after, depth_through}

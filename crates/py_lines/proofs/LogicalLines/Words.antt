@@ -6,7 +6,7 @@ use Rattle.std.proofs.lemmas.List.{map-append}
 use Rattle.std.proofs.lemmas.Str.{encodes-append}
 use Rattle.py_lines.specs.Character.{is_digit}
 use Rattle.py_lines.specs.Piece.{Class, word, string, operator, comment, Piece, begins, spelled}
-use Rattle.py_lines.specs.LogicalLine.{byte_len, line_ends, first_or_zero, tokens_of_piece, tokens_from, line_of}
+use Rattle.py_lines.specs.LogicalLine.{byte_len, line_ends, first_or_zero, tokens_of_piece, tokens_from}
 use Rattle.py_lines.specs.Words.{word_in, words_of_piece, words_of, extent_of}
 use Rattle.py_lines.specs.declared.token.TokKind.TheVariants as kind
 

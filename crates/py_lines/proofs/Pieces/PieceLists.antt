@@ -2,7 +2,7 @@
 use Rattle.std.proofs.Common.{◌≡◌, ℕ, false, List, [], ◌∷◌, ◌++◌, refl, sym, ap, ◌∙◌, subst, append_assoc, append-nil, arith}
 use Rattle.py_lines.specs.Piece.{Class, Piece, is_mark_class, begins_marked, spelled}
 use Rattle.py_lines.specs.PieceGrammar.{Grammar, InClassIn, MayPrecedeIn, AreReadIn, joined}
-use Rattle.py_lines.specs.Fields.{fielded, InClass, MayPrecede, AreReadBefore}
+use Rattle.py_lines.specs.Fields.{fielded, AreReadBefore}
 
 abbrev pub piece : Class → List ℕ → Piece
 piece class text = record { class = class; text = text }

@@ -1,7 +1,6 @@
 -- The bits of a word of 64 after the lowest of them are cleared, or the lowest that is set.
-use Rattle.std.proofs.Common.{◌≡◌, ℕ, zero, suc, ◌-◌, ◌*◌, ◌/◌, ◌%◌, ◌^◌, ◌<◌, min, true, false, not, ◌&&◌, eqb, leb, bit_and, sym, ap, ◌∙◌, inl, inr, arith, w64, ◌≤◌}
+use Rattle.std.proofs.Common.{◌≡◌, ℕ, zero, suc, ◌-◌, ◌*◌, ◌/◌, ◌%◌, ◌^◌, ◌<◌, min, true, false, eqb, bit_and, sym, ap, ◌∙◌, arith, w64, ◌≤◌}
 use Rattle.std.specs.Int.{bit_at, trailing_zeros}
-use Rattle.std.proofs.lemmas.Bool.{cases_lt, cases_order, eq-eqb, le-leb, lt-leb, ne_eqb}
 use Rattle.std.proofs.lemmas.Nat.Bits.{bit_at_and, bit_at-lt, bit_at_mask_below, bit_at_mask_inside, bit_at-trailing_zeros, bit_at-zero, bit_at_lowest, bit_at-suc, ones_shl}
 use Rattle.py_lines.specs.Private.Marks.{is_set}
 
@@ -14,8 +13,7 @@ pub cleared_below-is : (bits k i : ℕ) → k < 64 → i < 64 → let left : ℕ
 unfolding is_set
 cleared_below-is bits k i within less =
     let left : ℕ = bit_and bits ((2 ^ 64 - 1) * 2 ^ k % 2 ^ 64) in
-    let both : bit_at left i ≡ min (bit_at bits i) (bit_at (2 ^ 64 - 2 ^ k) i) = ap (λ m. bit_at (bit_and bits m) i) (ones_shl 64 k (omega (arith, within))) ∙ bit_at_and bits (2 ^ 64 - 2 ^ k) i in
-    (
+    let both : bit_at left i ≡ min (bit_at bits i) (bit_at (2 ^ 64 - 2 ^ k) i) = ap (λ m. bit_at (bit_and bits m) i) (ones_shl 64 k (omega (arith, within))) ∙ bit_at_and bits (2 ^ 64 - 2 ^ k) i in (
       λ low. let none : bit_at left i ≡ 0 = omega (arith, both, bit_at_mask_below k 64 i low) in ap (λ b. eqb b 1) none,
       λ high. let same : bit_at left i ≡ bit_at bits i = omega (arith, both, bit_at_mask_inside k 64 i high less, bit_at-lt bits i) in ap (λ b. eqb b 1) same,
     )

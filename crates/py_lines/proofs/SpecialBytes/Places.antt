@@ -1,8 +1,8 @@
 -- The marks of a text after some of it is passed.
 use Rattle.std.proofs.lemmas.Bool.Decides.{nat_tests}
-use Rattle.std.proofs.Common.{◌≡◌, ℕ, ◌+◌, ◌-◌, ◌*◌, ◌%◌, ◌^◌, ◌<◌, ◌≤◌, true, false, not, ◌&&◌, eqb, leb, ltb, List, length, slice_index, bit_and, bit_or, refl, sym, ap, ◌∙◌, inl, inr, arith, w64, ◌++◌, drop, replicate}
+use Rattle.std.proofs.Common.{◌≡◌, ℕ, ◌+◌, ◌-◌, ◌*◌, ◌%◌, ◌^◌, ◌<◌, ◌≤◌, true, false, not, eqb, List, length, slice_index, bit_and, bit_or, refl, sym, ap, ◌∙◌, inl, inr, arith, w64, ◌++◌, drop, replicate}
 use Rattle.std.specs.Int.{bit_at, trailing_zeros}
-use Rattle.std.proofs.lemmas.Bool.{and_parts, cases_eq, cases_lt, eq-eqb, leb-true, le-leb, le-ltb, lt-leb, lt-ltb, ltb-true, ne_eqb, not-true, not-false}
+use Rattle.std.proofs.lemmas.Bool.{cases_eq, cases_lt}
 use Rattle.std.proofs.lemmas.List.{get_or_append_left}
 use Rattle.std.proofs.lemmas.Nat.Bits.{bit_at_set_other, bit_at_set_same}
 use Rattle.py_lines.specs.declared.marks.Marks.{Marks}

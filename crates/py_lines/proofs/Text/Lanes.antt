@@ -4,13 +4,13 @@ use Rattle.std.proofs.Common.{◌≡◌, ℕ, zero, suc, ◌*◌, ◌/◌, ◌%�
 use Rattle.std.specs.List.{count_by, prefix_len}
 use Rattle.std.specs.Simd.Lanes.{chunk, zip2, sel_l, mask_l, top}
 use Rattle.std.specs.Int.Count.{count_trailing_zeros, ones}
-use Rattle.std.proofs.lemmas.Simd.{length-chunk, get_or-chunk, map-map, tops_compared, zip2_splat, zip2_splat_left, zip2_of_maps, leading_from_mask_l, trailing_mask_l, run_in_chunk_le, run_in_chunk_fails, run_in_chunk_stops, bitmask_splat, mask_l-mod, ones-mask_l}
+use Rattle.std.proofs.lemmas.Simd.{length-chunk, map-map, tops_compared, zip2_splat, zip2_splat_left, zip2_of_maps, leading_from_mask_l, trailing_mask_l, run_in_chunk_le, run_in_chunk_fails, run_in_chunk_stops, bitmask_splat, mask_l-mod, ones-mask_l}
 use Rattle.std.proofs.lemmas.Nat.{and_mask, mod-pow-add}
 use Rattle.std.proofs.lemmas.Str.Ascii.{IsAscii-from_all}
 use Rattle.std.proofs.lemmas.List.Elements.{All-from_get_or}
 use Rattle.std.specs.Str.{IsUtf8}
 use Rattle.std.proofs.lemmas.List.{take_rest, length-map, length-drop, length-append, length-replicate, get_or-drop, get_or_append_left, get_or-append_right, get_or-replicate, take-map}
-use Rattle.std.proofs.lemmas.List.Sums.{prefix_len-le-length, prefix_len_passes, prefix_len_stops}
+use Rattle.std.proofs.lemmas.List.Sums.{prefix_len_passes, prefix_len_stops}
 use Rattle.std.proofs.lemmas.Bool.{both_ways, cases_lt, leb-false, not-true, not-false}
 use Rattle.std.proofs.Math.Bool.{not-not, or-false}
 use Rattle.py_lines.specs.Character.{is_one_of}

@@ -1,7 +1,5 @@
-use Rattle.std.proofs.Common.{Bool, ℕ, List, ◌++◌, take, ap, ◌∙◌, subst}
-use Rattle.std.specs.Prelude.{IsTrue, IsUtf8}
-use Rattle.std.specs.Bool.{MatchBool}
-use Rattle.std.specs.Str.{IsAscii, IsNotAscii}
+use Rattle.std.proofs.Common.{ℕ, List, ◌++◌, take, ap, ◌∙◌, subst}
+use Rattle.std.specs.Prelude.{IsUtf8}
 use Rattle.std.proofs.lemmas.List.{take-append-drop}
 use Rattle.std.proofs.lemmas.Str.{IsUtf8-from_ascii, IsUtf8-append}
 use Rattle.py_lines.proofs.Text.Utf8Prefixes.{ascii_text}
