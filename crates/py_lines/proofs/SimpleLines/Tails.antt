@@ -19,6 +19,7 @@ use Rattle.py_lines.specs.Private.FieldText.{is_apart_mode}
 use Rattle.py_lines.specs.Private.Outline.{GoesOnAfter, HasCome, IsEndedBy, IsFreeAfter, IsTail, StandsBefore, StandsClosed, tail_of, tail_on, tail_with, HoldsLineEnds}
 use Rattle.py_lines.proofs.LineScan.LineCount.{ends-last}
 use Rattle.py_lines.proofs.Lexings.LineEnds.{ends-append}
+pub use Rattle.py_lines.proofs.Lexings.LineEnds.{feed_unreturned, return_returns}
 use Rattle.py_lines.proofs.LineScan.PieceEnd.{no_class_bracket}
 use Rattle.py_lines.proofs.LineScan.LineSteps.{sound_steps}
 use Rattle.py_lines.proofs.LineScan.AsciiRuns.{word_byte_continues}
@@ -51,14 +52,6 @@ no_tail read c none = tail_push read c ∙ no_tail_with (tail_of read) c none
 pub quote-no-word : (c : ℕ) → is_quote c ≡ true → is_ascii_word c ≡ false
 unfolding is_quote is_ascii_word
 quote-no-word c h = none_of is_ascii_word (codes "'\"") c refl h
-
-pub feed_unreturned : is_return 10 ≡ false
-unfolding is_return
-feed_unreturned = refl
-
-pub return_returns : is_return 13 ≡ true
-unfolding is_return
-return_returns = refl
 
 -- no letter, digit or underscore, and not CR
 abbrev is_other : ℕ → Bool
