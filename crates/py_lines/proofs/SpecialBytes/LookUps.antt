@@ -3,7 +3,7 @@ use Rattle.std.proofs.Common.{◌≡◌, ℕ, ◌+◌, ◌*◌, ◌/◌, ◌%◌
 use Rattle.std.specs.Simd.Lanes.{Each1, chunk, mask_l, top, zip2}
 use Rattle.std.proofs.lemmas.Bool.{agree_below, agree_below_at}
 use Rattle.std.proofs.lemmas.List.{ext_get_or, get_or-map, length-map}
-use Rattle.std.proofs.lemmas.Simd.{Each1-from_get_or, Each1-get_or, SwzOk, SwzOk-from_below, bit_mask_l, bitmask_splat, get_or-chunk, get_or-swz_l_below, length-chunk, length-swz_l, swz_l, zip2_of_maps}
+use Rattle.std.proofs.lemmas.Simd.{Each1-from_get_or, Each1-get_or, SwzOk, SwzOk-from_below, bit_mask_l, bitmask_splat, get_or-chunk, get_or-swz_l_below, length-chunk, length-swz_l, swz_l, zip2_of_maps, zip2_splat}
 use Rattle.py_lines.specs.Private.Marks.{is_plain, is_set, plain_uppers, upper_bit}
 
 -- sixty-four lanes that hold bytes
@@ -15,6 +15,10 @@ pub record ArePlaces (place_of : ℕ → ℕ) (lanes places : List ℕ) : Type 0
   pub bytes : AreBytes lanes
   pub are : places ≡ map place_of lanes
   pub small : (b : ℕ) → b < 256 → place_of b < 16
+
+-- those that one operation with one number makes of the lanes
+pub places_by : (f : ℕ → ℕ → ℕ) (k : ℕ) (lanes : List ℕ) → AreBytes lanes → ((b : ℕ) → b < 256 → f b k < 16) → ArePlaces (λ b. f b k) lanes (zip2 f lanes (replicate 64 k))
+places_by f k lanes bytes small = record { bytes = bytes; are = zip2_splat f lanes 64 k bytes.0; small = small }
 
 module _ {place_of : ℕ → ℕ} {lanes places : List ℕ} (of : ArePlaces place_of lanes places) where
   pub places-length : length places ≡ 64

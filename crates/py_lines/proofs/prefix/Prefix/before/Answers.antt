@@ -1,27 +1,19 @@
-use Rattle.std.proofs.Common.{ℕ, ◌≡◌, ◌-◌, ◌∙◌, true, sym, ap, inl, inr, arith, slice_index, ⊎_elim}
+use Rattle.std.proofs.Common.{ℕ, ◌≡◌, ◌-◌, ◌∙◌, true, sym, ap, arith, slice_index, ⊎_elim}
 use Rattle.std.proofs.lemmas.Bool.{cases_lt}
 use Rattle.py_lines.specs.Private.Outline.{is_plain_prefix}
 use Rattle.py_lines.specs.Private.Run.{is_ascii_word}
 use Rattle.py_lines.proofs.SimpleLines.Prefixes.{none_before, word_before}
 use Rattle.py_lines.proofs.prefix.Prefix.before.Goals as goal
-use Rattle.py_lines.proofs.prefix.Prefix.before.Goals.{then-at-eq0-via-then-at-eq0, then-at-eq0-via-else-at-eq0+then-not-is_ascii_word, then-at-eq1-via-then-at-eq1, then-at-eq1-via-else-at-eq1+then-not-is_ascii_word-2, then-at-eq2-via-then-at-eq2, then-at-eq2-via-else-at-eq2+then-not-is_ascii_word-3}
 
 pub returns-then-at-eq0 : goal.returns-then-at-eq0
 returns-then-at-eq0 c =
-    ap is_plain_prefix (none_before c.args.bytes.now c.args.at (c.args.at - 1) (omega (arith, c.requires)) (omega arith)
-    (elim c.then-at-eq0.branch [
-      | then-at-eq0-via-then-at-eq0 w ↦ inl w.if-at-eq0.true
-      | then-at-eq0-via-else-at-eq0+then-not-is_ascii_word w ↦ inr (sym w.is_ascii_word.ensures ∙ w.if-not-is_ascii_word.true)
-    ]))
+    ap is_plain_prefix (none_before c.args.bytes.now c.args.at (c.args.at - 1) (omega (arith, c.requires)) (omega arith) (grind (arith, c.then-at-eq0.branch)))
 
 pub returns-then-at-eq1 : goal.returns-then-at-eq1
 returns-then-at-eq1 c =
     let bytes = c.args.bytes.now in
     let at = c.args.at in
-    let none = none_before bytes (at - 1) (at - 2) (omega (arith, c.requires)) (omega arith) (elim c.then-at-eq1.branch [
-      | then-at-eq1-via-then-at-eq1 w ↦ inl (omega (arith, w.if-at-eq1.true))
-      | then-at-eq1-via-else-at-eq1+then-not-is_ascii_word-2 w ↦ inr (sym w.is_ascii_word-else-at-eq1.ensures ∙ w.if-not-is_ascii_word-2.true)
-    ]) in
+    let none = none_before bytes (at - 1) (at - 2) (omega (arith, c.requires)) (omega arith) (grind (arith, c.then-at-eq1.branch)) in
     let last = sym c.is_ascii_word.ensures ∙ c.if-not-is_ascii_word.false in
     word_before bytes (at - 1) at c.of_word.result (omega (arith, c.if-at-eq0.false)) (omega (arith, c.requires)) none
     (λ i from to. let same : i ≡ at - 1 = omega (arith, from, to) in ap (λ j. is_ascii_word (slice_index bytes j)) same ∙ last) c.of_word.ensures
@@ -30,10 +22,7 @@ pub returns-then-at-eq2 : goal.returns-then-at-eq2
 returns-then-at-eq2 c =
     let bytes = c.args.bytes.now in
     let at = c.args.at in
-    let none = none_before bytes (at - 2) (at - 3) (omega (arith, c.requires)) (omega arith) (elim c.then-at-eq2.branch [
-      | then-at-eq2-via-then-at-eq2 w ↦ inl (omega (arith, w.if-at-eq2.true))
-      | then-at-eq2-via-else-at-eq2+then-not-is_ascii_word-3 w ↦ inr (sym w.is_ascii_word-else-at-eq2.ensures ∙ w.if-not-is_ascii_word-3.true)
-    ]) in
+    let none = none_before bytes (at - 2) (at - 3) (omega (arith, c.requires)) (omega arith) (grind (arith, c.then-at-eq2.branch)) in
     let word : (i k : ℕ) → i ≡ k → is_ascii_word (slice_index bytes k) ≡ true → is_ascii_word (slice_index bytes i) ≡ true = λ i k same is. ap (λ j. is_ascii_word (slice_index bytes j)) same ∙ is in
     word_before bytes (at - 2) at c.of_word-then-at-eq2.result (omega (arith, c.if-at-eq0.false)) (omega (arith, c.requires)) none
     (λ i from to. ⊎_elim
