@@ -7,9 +7,6 @@ returns-then-text-self-le64 c from has =
     let loop = c.loop-self in
     finds_end c.args.text.now from loop.self (loop.invariant.2 from has) c.loop-self-test.true (omega (arith, c.if-text-self-le64.true))
 
-pub loop-self-smaller : goal.loop-self-smaller
-loop-self-smaller c = omega (arith, c.at.ensures.base, c.if-text-self-le64.false)
-
 pub loop-self-preserved : goal.loop-self-preserved
 loop-self-preserved c =
     let loop = c.loop-self in

@@ -1,7 +1,5 @@
-use Rattle.std.proofs.Common.{ℕ, ◌≡◌, ◌-◌, ◌∙◌, true, sym, ap, arith, slice_index, ⊎_elim}
-use Rattle.std.proofs.lemmas.Bool.{cases_lt}
+use Rattle.std.proofs.Common.{◌-◌, ap, arith}
 use Rattle.py_lines.specs.Private.Outline.{is_plain_prefix}
-use Rattle.py_lines.specs.Private.Run.{is_ascii_word}
 use Rattle.py_lines.proofs.SimpleLines.Prefixes.{none_before, word_before}
 use Rattle.py_lines.proofs.prefix.Prefix.before.Goals as goal
 
@@ -14,17 +12,14 @@ returns-then-at-eq1 c =
     let bytes = c.args.bytes.now in
     let at = c.args.at in
     let none = none_before bytes (at - 1) (at - 2) (omega (arith, c.requires)) (omega arith) (grind (arith, c.then-at-eq1.branch)) in
-    let last = sym c.is_ascii_word.ensures ∙ c.if-not-is_ascii_word.false in
     word_before bytes (at - 1) at c.of_word.result (omega (arith, c.if-at-eq0.false)) (omega (arith, c.requires)) none
-    (λ i from to. let same : i ≡ at - 1 = omega (arith, from, to) in ap (λ j. is_ascii_word (slice_index bytes j)) same ∙ last) c.of_word.ensures
+    (λ i from to. grind (arith, from, to, c.is_ascii_word.ensures, c.if-not-is_ascii_word.false)) c.of_word.ensures
 
 pub returns-then-at-eq2 : goal.returns-then-at-eq2
 returns-then-at-eq2 c =
     let bytes = c.args.bytes.now in
     let at = c.args.at in
     let none = none_before bytes (at - 2) (at - 3) (omega (arith, c.requires)) (omega arith) (grind (arith, c.then-at-eq2.branch)) in
-    let word : (i k : ℕ) → i ≡ k → is_ascii_word (slice_index bytes k) ≡ true → is_ascii_word (slice_index bytes i) ≡ true = λ i k same is. ap (λ j. is_ascii_word (slice_index bytes j)) same ∙ is in
     word_before bytes (at - 2) at c.of_word-then-at-eq2.result (omega (arith, c.if-at-eq0.false)) (omega (arith, c.requires)) none
-    (λ i from to. ⊎_elim
-    (λ less. word i (at - 2) (omega (arith, from, less)) (sym c.is_ascii_word-else-at-eq1.ensures ∙ c.if-not-is_ascii_word-2.false))
-    (λ more. word i (at - 1) (omega (arith, to, more)) (sym c.is_ascii_word.ensures ∙ c.if-not-is_ascii_word.false)) (cases_lt i (at - 1))) c.of_word-then-at-eq2.ensures
+    (λ i from to. grind (arith, from, to, c.is_ascii_word-else-at-eq1.ensures, c.if-not-is_ascii_word-2.false, c.is_ascii_word.ensures, c.if-not-is_ascii_word.false))
+    c.of_word-then-at-eq2.ensures
