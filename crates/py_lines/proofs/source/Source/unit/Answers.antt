@@ -6,9 +6,6 @@ use Rattle.py_lines.proofs.source.Source.unit.Goals as goal
 pub unit-requires-clause-tokens : goal.unit-requires-clause-tokens
 unit-requires-clause-tokens c = subst (λ (t : List ℕ). EachLiesIn t c.args.self.now.state.tokens.tokens.items) (sym c.range-text.ensures.value) c.requires
 
-pub unit-requires-clause-fits : goal.unit-requires-clause-fits
-unit-requires-clause-fits c = omega (arith, c.range-text.ensures.len)
-
 pub returns : goal.returns
 returns c =
     let s = c.args.self.now in
