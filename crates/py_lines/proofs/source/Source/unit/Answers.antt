@@ -1,4 +1,4 @@
-use Rattle.std.proofs.Common.{ℕ, List, sym, ap, ◌∙◌, subst, arith}
+use Rattle.std.proofs.Common.{ℕ, List, sym, ap, ◌∙◌, subst}
 use Rattle.py_lines.specs.Token.{EachLiesIn}
 use Rattle.py_lines.specs.Private.LineState.{read_line}
 use Rattle.py_lines.proofs.source.Source.unit.Goals as goal
