@@ -18,7 +18,7 @@ pub struct Passed {
 }
 
 /// How many bytes the line end has that the bytes begin with, if they begin with LF or CR LF (Python Language Reference, 2.1.2).
-#[tactic(auto, using(crate::proofs::SimpleLines::FirstBytes::feed_found, crate::proofs::SimpleLines::FirstBytes::returned_found, crate::proofs::Text::FirstCharacters::some_bytes))]
+#[tactic(auto, using(crate::proofs::SimpleLines::FirstBytes::feed_found, crate::proofs::Text::FirstCharacters::some_bytes))]
 #[inline(always)]
 pub fn line_end_len(bytes: &[u8]) -> Option<usize>
     ensures { HasLineEnd bytes.now result }
@@ -36,7 +36,7 @@ pub fn line_end_len(bytes: &[u8]) -> Option<usize>
 }
 
 /// Passes the backslash that the bytes begin with, and what it escapes: a line end, or another byte of ASCII.
-#[tactic(auto, using(crate::proofs::SimpleLines::Strings::escapes_byte, crate::proofs::SimpleLines::Strings::escapes_line_end))]
+#[tactic(auto, using(crate::proofs::SimpleLines::Strings::escapes_line_end))]
 fn escape(bytes: &[u8]) -> Option<Passed>
     ensures { HasEscape bytes.now result }
 {
