@@ -4,8 +4,7 @@ pub mod SettledSoFar
 pub mod DecidedSoFar
 pub mod Released
 pub mod Ended
-pub mod Steps
-pub mod Loops
+pub mod OpenLine
 pub mod ReadyLines
 pub mod LastBytes
 pub mod GivenBack

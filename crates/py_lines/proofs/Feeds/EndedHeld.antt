@@ -21,8 +21,8 @@ use Rattle.py_lines.proofs.Readers.LineFaults.{Within, finished, unfinished_with
 use Rattle.py_lines.proofs.Feeds.Known.{IsKnown, first_at, goes_at, is_known}
 use Rattle.py_lines.proofs.Feeds.DecidedSoFar.{way_open}
 use Rattle.py_lines.proofs.Feeds.Ended.{ended_bytes, ended_unfinished, ended_line}
-use Rattle.py_lines.proofs.Feeds.Loops.{fails_keep, fails_ready, fault_after, holds_on, dropped, holds_self, room_more, runs_out, scans_on}
-use Rattle.py_lines.proofs.Feeds.Steps.{open_stands, open_stop, open_size, reached_by}
+use Rattle.py_lines.proofs.Feeds.OpenLine.{fails_keep, fails_ready, fault_after, holds_on, dropped, holds_self, room_more, runs_out}
+use Rattle.py_lines.proofs.Feeds.OpenLine.{scans_on, open_stands, open_stop, open_size, reached_by}
 use Rattle.py_lines.proofs.Feeds.ReadyLines.{holds_line, ended_holds, some_is}
 use Rattle.py_lines.proofs.Lexings.FirstLines.{all_first}
 use Rattle.py_lines.proofs.Feeds.FedHeld.{never_before}

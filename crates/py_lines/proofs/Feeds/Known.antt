@@ -28,9 +28,7 @@ use Rattle.py_lines.proofs.LineScan.TextSteps.{Base, base_of, Joined, joined}
 -- some of the bytes that the text goes on with
 pub goes_with_first : (text : List ℕ) (place : ℕ) (first later : List ℕ) → GoesOnWith text place (first ++ later) → GoesOnWith text place first
 goes_with_first text place first later goes =
-    sym (take-take (length first) (length (first ++ later)) (drop place text) (omega (arith, length-append first later)))
-    ∙ ap (take (length first)) goes
-    ∙ take-append_seam first later
+    rw (← take-take (length first) (length (first ++ later)) (drop place text) (omega (arith, length-append first later)), goes) (take-append_seam first later)
 
 -- what it goes on with after the first of these bytes
 pub goes_after : (text : List ℕ) (place : ℕ) (first later : List ℕ) → GoesOnWith text place (first ++ later) → GoesOnWith text (place + length first) later

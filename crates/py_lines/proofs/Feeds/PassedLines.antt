@@ -26,7 +26,7 @@ use Rattle.py_lines.proofs.Readers.PassedLines.{AreSettledAt, line_settled, line
 use Rattle.py_lines.proofs.Feeds.Known.{goes_after, goes_with_first}
 use Rattle.py_lines.proofs.Feeds.ReadyLines.{none_ready}
 use Rattle.py_lines.proofs.Feeds.LastBytes.{ends-encoded, ends-later, exact_as, whole_as}
-use Rattle.py_lines.proofs.Feeds.Loops.{begun_open, begun_unchanged, runs_out}
+use Rattle.py_lines.proofs.Feeds.OpenLine.{begun_open, begun_unchanged, runs_out}
 
 -- which bytes come after the first of those that follow is no matter
 same_first : (line xs others more : List ℕ) → 0 < length xs → EndsWhole line (xs ++ others) → EndsWhole line (xs ++ more)
@@ -108,32 +108,14 @@ module _ (bytes : List ℕ) (p : Passed) (some : 0 < p.len) (found : BeginWithLi
   pub byte_follows : p.len < length bytes
   byte_follows = let (b, more, spell, other) = next_byte in omega (arith, ap length spell, length-drop p.len bytes)
 
-  byte_other : slice_index bytes p.len ≡ 10 → ⊥
-  byte_other feeds = let (b, more, spell, other) = next_byte in other (ap first_or_zero (sym spell ∙ drop_more bytes p.len 0 byte_follows) ∙ feeds)
-
   pub byte_after : HoldsAfterLines bytes p.len (slice_index bytes p.len ∷ [])
   byte_after =
       let next : p.len + 1 ≡ suc p.len = omega arith in
       record {
-        exact = inr (returned, (slice_index bytes p.len, refl, byte_other));
+        exact = inr (returned, (slice_index bytes p.len, refl, λ feeds. let (b, more, spell, other) = next_byte in other (ap first_or_zero (sym spell ∙ drop_more bytes p.len 0 byte_follows) ∙ feeds)));
         within = omega (arith, byte_follows);
         next = ap (λ (k : ℕ). take k bytes) next ∙ take-suc bytes p.len 0 byte_follows;
       }
-
--- nothing was passed over
-passes_none : (old new : ScannerState) (bytes : List ℕ) (before : ℕ) → new ≡ old → PassesPieceLines old bytes before 0 new
-passes_none old new bytes before same = subst (λ (s : ScannerState). PassesPieceLines old bytes before 0 s) (sym same) (record {
-  lines = [];
-  texts = refl;
-  ends = omega arith;
-  stands = λ more. absurd (omega (arith, more));
-  began = λ more. absurd (omega (arith, more));
-  held = λ more. absurd (omega (arith, more));
-  scans = λ more. absurd (omega (arith, more));
-  place = omega arith;
-  others = refl;
-  same = λ none. refl;
-})
 
 -- where no line is passed over the scan of the next one begins anew
 module _ (f : Feed) (held : Vec ℕ) (state : LineState) (scan : Scan) (stands : StandsAtLine (scanning_of f)) (kept : held.items ≡ f.held.items) (anew : BeginsAnew (record f.state { scan = scan }) state) where
@@ -143,9 +125,23 @@ module _ (f : Feed) (held : Vec ℕ) (state : LineState) (scan : Scan) (stands :
   pub begun_none : (bytes : List ℕ) (before : ℕ) → IsSoundFeed f → PassesPieceLines (scanning_of f) bytes before 0 (scanning_of begun) × IsSoundFeed begun
   begun_none bytes before sound =
       let none = none_ready f f.ready stands.ready in
-      let same = runs_out sound stands.no_fault none
+      let short = runs_out sound stands.no_fault none
       (begun_unchanged f begun (record f.state { scan = scan }) none (record { held = kept; place = refl; line = refl; ended = refl; fault = refl }) anew) in
-      (passes_none (scanning_of f) (scanning_of begun) bytes before same.0.same, same.1)
+      let same = short.0.same in (
+        subst (λ (s : ScannerState). PassesPieceLines (scanning_of f) bytes before 0 s) (sym same) (record {
+          lines = [];
+          texts = refl;
+          ends = omega arith;
+          stands = λ more. absurd (omega (arith, more));
+          began = λ more. absurd (omega (arith, more));
+          held = λ more. absurd (omega (arith, more));
+          scans = λ more. absurd (omega (arith, more));
+          place = omega arith;
+          others = refl;
+          same = λ none. refl;
+        }),
+        short.1,
+      )
 
 -- the lines that the code has found in the first of these bytes, after which the scan of the next line begins
 module _ (f : Feed) (bytes : List ℕ) (before stop : ℕ) (p : Passed) (stands : StandsAtLine (scanning_of f)) (began : take (length f.held.items) bytes ≡ f.held.items) (stop_is : stop ≡ min before (length bytes)) (found : BeginWithLines (take stop bytes) p) (some : 0 < p.len) where

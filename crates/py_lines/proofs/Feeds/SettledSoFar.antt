@@ -66,9 +66,6 @@ module _ (text : List ℕ) (place line : ℕ) (lines : List LogicalLine) (read r
 wide_alone : (b : ℕ) → 128 ≤ b → StartsWithNoChar (b ∷ [])
 wide_alone b wide = no_char (b ∷ []) (λ n within g. omega arith)
 
-no_feed : (c : ℕ) → (c ≡ 10 → ⊥) → is_line_feed c ≡ false
-no_feed c h = false_from_ne_true _ (λ feeds. h (feed_is c feeds))
-
 -- a line after the lines given, which may stand before what follows
 pub record IsNextLine (place : ℕ) (read more : List ℕ) (u : List Piece) : Type 0 where
   pub body : List Piece
@@ -112,7 +109,7 @@ module _ (text : List ℕ) (place line : ℕ) (lines : List LogicalLine) (read r
           = append-nil _ ∙ encodes-append (spelled k.base ++ read) (b ∷ []) ∙ ap (λ t. encode_utf8_all (spelled k.base ++ read) ++ t) (append-nil _ ∙ encode_ascii b low ∙ sym is) ∙ sym k.known in
           by_rest ((spelled k.base ++ read) ++ b ∷ []) [] (b ∷ []) (record { are = scalars; spell = bytes; bad = nothing_bad })
           (ap (λ t. t ++ b ∷ []) all_spelled) (ends_line, λ none. absurd (omega (arith, ap length none)))
-          (inr (b, refl, no_feed b other, refl))
+          (inr (b, refl, false_from_ne_true _ (λ feeds. other (feed_is b feeds)), refl))
 
   -- a line that has ended for good in the known bytes is settled: the lines given are then not all that is
   pub ended_before : IsSettled (of.bytes text place line lines read rest k) lines → (rest ≡ [] → ends is_return read ≡ false) → ⊥

@@ -12,9 +12,8 @@ use Rattle.py_lines.specs.Private.Feed.{TakesSo, line_held, with_line, Fault, Le
 use Rattle.py_lines.proofs.Lexings.DecidedFaults.{decided_more}
 use Rattle.py_lines.proofs.Feeds.Known.{first_at, goes_after, goes_at, goes_joined, goes_with_first}
 use Rattle.py_lines.proofs.Feeds.FedHeld.{SettleNone, holds_exactly, never_before, scanned_open, settled_fed}
-use Rattle.py_lines.proofs.Feeds.Loops.{holds_on, room_more, scans_on}
+use Rattle.py_lines.proofs.Feeds.OpenLine.{holds_on, room_more, scans_on, reached_by}
 use Rattle.py_lines.proofs.Feeds.ReadyLines.{ended_holds}
-use Rattle.py_lines.proofs.Feeds.Steps.{reached_by}
 
 -- the lines given are settled where none is ready
 pub settled_held : (text : List ℕ) (lines : List LogicalLine) (old : Feed) → old.ready ≡ None → IsScanning (scanning_of old) text lines → SettleNone text old.state.place old.held.items lines

@@ -5,9 +5,8 @@ use Rattle.std.proofs.lemmas.Result.{err_from_is_err_and}
 use Rattle.py_lines.specs.Private.Feed.{Holds, IsScanned}
 use Rattle.py_lines.proofs.Feeds.EndedHeld.{IsLeftOpen, all_scanned, end_fault_fails, end_fault_within, ends_plain, ends_returned}
 use Rattle.py_lines.proofs.Feeds.EndedHeld.{text_fault, text_left, text_empty}
-use Rattle.py_lines.proofs.Feeds.Loops.{scans_on}
+use Rattle.py_lines.proofs.Feeds.OpenLine.{scans_on, none_held, open_size, open_stop, reached_by, within_held}
 use Rattle.py_lines.proofs.Feeds.ReadyLines.{none_is}
-use Rattle.py_lines.proofs.Feeds.Steps.{none_held, open_size, open_stop, reached_by, within_held}
 use Rattle.py_lines.proofs.feed.Feed.end_text.Goals.{Else-is_some}
 use Rattle.py_lines.proofs.feed.Feed.end_text.Goals as goal
 

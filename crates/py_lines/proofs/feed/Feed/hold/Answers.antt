@@ -5,8 +5,7 @@ use Rattle.py_lines.specs.Private.Scan.{ScansIn}
 use Rattle.py_lines.specs.Private.Feed.{whole_end, Stop}
 use Rattle.py_lines.proofs.LineScan.TextSteps.{begun_sound}
 use Rattle.py_lines.proofs.Feeds.GivenBack.{HoldsStop, holds_bytes, holds_line_end, stop_within}
-use Rattle.py_lines.proofs.Feeds.Loops.{begun_unchanged}
-use Rattle.py_lines.proofs.Feeds.Steps.{none_held, open_stop, open_size, reached_next}
+use Rattle.py_lines.proofs.Feeds.OpenLine.{begun_unchanged, none_held, open_stop, open_size, reached_next}
 use Rattle.py_lines.proofs.feed.Feed.hold.Goals.{Joined-stop, in-LineEnd, in_default}
 use Rattle.py_lines.proofs.feed.Feed.hold.Goals as goal
 

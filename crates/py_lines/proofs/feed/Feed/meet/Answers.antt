@@ -1,8 +1,7 @@
 use Rattle.std.proofs.Common.{refl, subst}
 use Rattle.py_lines.specs.Private.Feed.{StopsHeld, Stop}
-use Rattle.py_lines.proofs.Feeds.Steps.{reached_by, within_held}
+use Rattle.py_lines.proofs.Feeds.OpenLine.{reached_by, within_held, held_refused}
 use Rattle.py_lines.proofs.Readers.LineFaults.{refused_within}
-use Rattle.py_lines.proofs.Feeds.Loops.{held_refused}
 use Rattle.py_lines.proofs.feed.Feed.meet.Goals as goal
 use Rattle.py_lines.proofs.feed.Feed.meet.Goals.{In-LineEnd, In-Refused}
 

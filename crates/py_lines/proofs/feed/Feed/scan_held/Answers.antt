@@ -2,7 +2,7 @@ use Rattle.std.proofs.Common.{length, refl, sym, ap, subst, arith}
 use Rattle.py_lines.specs.Private.Run.{Reached}
 use Rattle.py_lines.specs.Private.LineState.{first_mode}
 use Rattle.py_lines.proofs.LineScan.TextSteps.{begun_sound}
-use Rattle.py_lines.proofs.Feeds.Steps.{open_stop, open_size, open_within, next_is}
+use Rattle.py_lines.proofs.Feeds.OpenLine.{open_stop, open_size, open_within, next_is}
 use Rattle.py_lines.proofs.feed.Feed.scan_held.Goals as goal
 
 pub slice_bounds-extend-count : goal.slice_bounds-extend-count

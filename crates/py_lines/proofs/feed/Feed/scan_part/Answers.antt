@@ -5,8 +5,7 @@ use Rattle.std.specs.Str.{StartsWithNoChar}
 use Rattle.py_lines.specs.Settled.{IsHopeless}
 use Rattle.py_lines.specs.Private.Feed.{IsScanned, ScansHeld, Scan}
 use Rattle.py_lines.proofs.Text.Incomplete.{part_none}
-use Rattle.py_lines.proofs.Feeds.Steps.{open_stop, open_size, within_held, next_is, ends_returned, reached_by}
-use Rattle.py_lines.proofs.Feeds.Loops.{holds_self, part_fails}
+use Rattle.py_lines.proofs.Feeds.OpenLine.{open_stop, open_size, within_held, next_is, ends_returned, reached_by, holds_self, part_fails}
 use Rattle.py_lines.proofs.Readers.LineAnswers.{all_within}
 use Rattle.py_lines.proofs.feed.Feed.scan_part.Goals as goal
 

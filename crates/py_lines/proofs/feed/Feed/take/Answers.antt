@@ -2,7 +2,7 @@ use Rattle.std.proofs.Common.{Ok, length, take, ap, subst, length-append, arith}
 use Rattle.std.proofs.lemmas.List.{length-take-le}
 use Rattle.std.proofs.lemmas.Result.{err_from_is_err_and}
 use Rattle.py_lines.specs.Private.Feed.{StandsSo}
-use Rattle.py_lines.proofs.Feeds.Loops.{room_more, runs_out, scans_on}
+use Rattle.py_lines.proofs.Feeds.OpenLine.{room_more, runs_out, scans_on}
 use Rattle.py_lines.proofs.Feeds.Taken.{fails, taken_back}
 use Rattle.py_lines.proofs.feed.Feed.take.Goals as goal
 
