@@ -13,18 +13,14 @@ use Rattle.py_lines.specs.Reading.{Decodes}
 use Rattle.py_lines.specs.Faults.{IsCharacterFault, IsLive}
 use Rattle.py_lines.specs.Lexed.{IsLexed, IsLexedToFault}
 use Rattle.py_lines.specs.Settled.{IsHopeless, Decides, StaysFaulty}
-use Rattle.py_lines.specs.Given.{AreFirstLines}
 use Rattle.py_lines.specs.LogicalLine.{LogicalLine, byte_len}
 use Rattle.py_lines.specs.ScannerState.{GoesOnWith}
-use Rattle.py_lines.specs.declared.line_state.LineState.{LineState}
-use Rattle.py_lines.specs.declared.mode.Mode.{Mode}
 use Rattle.py_lines.specs.declared.mode.Move.{Move}
-use Rattle.py_lines.specs.declared.scan.LineFault.{LineFault}
 use Rattle.py_lines.specs.Private.Machine.{Scanned, Bracket, brackets_of, moved, move_of}
 use Rattle.py_lines.specs.Private.ScanMachine.{meet_of, scan_step}
 use Rattle.py_lines.specs.Private.Scan.{line_start, IsNotEnded, IsUnderWay, is_returned, none_open, is_return_mode, stack_of, stack_if, IsRefusal}
 use Rattle.py_lines.specs.Private.LineState.{IsFaultAfter, first_mode}
-use Rattle.py_lines.specs.Private.Feed.{IsDecidedAt, Fault, FaultKind, Scan}
+use Rattle.py_lines.specs.Private.Feed.{IsDecidedAt, Fault, FaultKind, Scan, LineState, LineFault, Mode, AreFirstLines}
 use Rattle.py_lines.proofs.Text.Utf8Prefixes.{nothing_bad, scalars_more, spell_more}
 use Rattle.py_lines.proofs.Text.Decoding.{decoded}
 use Rattle.py_lines.proofs.Pieces.PieceLists.{piece}

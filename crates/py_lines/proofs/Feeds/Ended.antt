@@ -7,8 +7,6 @@ use Rattle.py_lines.specs.Piece.{spelled}
 use Rattle.py_lines.specs.Reading.{Decodes, IsBalancedReading}
 use Rattle.py_lines.specs.Lexed.{IsLexed, IsLexedToFault}
 use Rattle.py_lines.specs.LogicalLine.{LogicalLine, cut, byte_len, line_of}
-use Rattle.py_lines.specs.declared.line_state.LineState.{LineState}
-use Rattle.py_lines.specs.declared.scan.LineFault.{LineFault}
 use Rattle.py_lines.specs.Private.Machine.{Scanned, is_final}
 use Rattle.py_lines.specs.Private.Scan.{line_start, is_returned, IsUnderWay, stack_of, IsUnfinished}
 use Rattle.py_lines.specs.Private.LineState.{IsFaultAfter, first_mode}
@@ -22,7 +20,7 @@ use Rattle.py_lines.proofs.Readers.LineFaults.{Within, unfinished_fault}
 use Rattle.py_lines.proofs.Feeds.Known as of
 use Rattle.py_lines.proofs.Feeds.Known.{IsKnown}
 use Rattle.py_lines.proofs.Feeds.DecidedSoFar.{joined_here, line_after, prefix_of, refused_bytes}
-use Rattle.py_lines.specs.Private.Feed.{Fault, FaultKind}
+use Rattle.py_lines.specs.Private.Feed.{Fault, FaultKind, LineState, LineFault}
 
 module _ (text : List ℕ) (state : LineState) (lines : List LogicalLine) (read rest : List ℕ) (k : IsKnown text state.place state.line lines read rest) (whole : length text ≡ state.place + length (encode_utf8_all read ++ rest)) (way : IsUnderWay (first_mode state.place) state.scan read) where
   all : of.bytes text state.place state.line lines read rest k ≡ text

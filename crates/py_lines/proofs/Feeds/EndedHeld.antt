@@ -6,14 +6,13 @@ use Rattle.std.proofs.lemmas.List.{nil_from_length, take_all}
 use Rattle.py_lines.specs.LogicalLine.{LogicalLine, byte_len}
 use Rattle.py_lines.specs.Lexed.{IsLexed}
 use Rattle.py_lines.specs.ScannerState.{IsScanning, WhereWhole, fed_of, EndsScan, Finishes, ScannerState}
-use Rattle.py_lines.specs.declared.scan.LineFault.{LineFault}
 use Rattle.py_lines.specs.Private.Machine.{is_final}
 use Rattle.py_lines.specs.Private.Scan.{is_returned, is_return_mode, none_open, stack_of, line_start, IsUnfinished, IsUnderWay}
 use Rattle.py_lines.specs.Private.LineState.{IsEndLineFault, first_mode}
 use Rattle.py_lines.specs.Private.Run.{Reached}
 use Rattle.py_lines.specs.Private.Feed.{EndsText, FailsAt, Holds, IsScanned, HasEndedText, HasReadTokens, HasRoom, HoldsSo, IsHeldOpen}
 use Rattle.py_lines.specs.Private.Feed.{IsSoundFeed, ReadsTokens, ScansHeld, StandsSo, StopsHeld, StopsWith, line_held, with_line}
-use Rattle.py_lines.specs.Private.Feed.{FaultKind, LexError, Stop, Feed, scanning_of, ready_of}
+use Rattle.py_lines.specs.Private.Feed.{FaultKind, LexError, Stop, Feed, scanning_of, ready_of, LineFault}
 use Rattle.py_lines.proofs.LineScan.NextCharacter.{empty_stack}
 use Rattle.py_lines.proofs.Machine.PieceSteps.{pieces_at}
 use Rattle.py_lines.proofs.Readers.LineAnswers.{IsScannedLine, line_at_text_end, line_at_return, returned_final, all_within}

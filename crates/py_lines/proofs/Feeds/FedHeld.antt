@@ -8,12 +8,10 @@ use Rattle.py_lines.specs.LogicalLine.{LogicalLine, line_of}
 use Rattle.std.specs.Str.{all_scalars}
 use Rattle.py_lines.specs.Lexed.{IsLexed}
 use Rattle.py_lines.specs.Settled.{IsSettled, Decides, DecideNone}
-use Rattle.py_lines.specs.Given.{AreFirstLines}
 use Rattle.py_lines.specs.ScannerState.{GoesOnWith, EndsExactly, HoldsReady}
-use Rattle.py_lines.specs.declared.mode.Mode.{Mode}
 use Rattle.py_lines.specs.Private.Scan.{IsApart, ScansIn, is_return_mode, none_open, stack_of, EndsWhole}
 use Rattle.py_lines.specs.Private.LineState.{first_mode}
-use Rattle.py_lines.specs.Private.Feed.{IsScanned, Scan, Stop, Feed}
+use Rattle.py_lines.specs.Private.Feed.{IsScanned, Scan, Stop, Feed, Mode, AreFirstLines}
 use Rattle.py_lines.proofs.Text.Utf8Prefixes.{all_scalars-parts, nothing_bad}
 use Rattle.py_lines.proofs.Lexings.DecidedFaults.{decided_fault}
 use Rattle.py_lines.proofs.Lexings.FirstLines.{first_reading}

@@ -8,10 +8,9 @@ use Rattle.std.proofs.Math.Seq.{take-append-add, take-append_seam}
 use Rattle.py_lines.specs.Character.{is_return}
 use Rattle.py_lines.specs.Piece.{ends, spelled}
 use Rattle.py_lines.specs.LogicalLine.{byte_len}
-use Rattle.py_lines.specs.declared.mode.Mode.{Mode}
 use Rattle.py_lines.specs.Private.Scan.{EndsWhole, ScansIn}
 use Rattle.py_lines.specs.ScannerState.{EndsExactly}
-use Rattle.py_lines.specs.Private.Feed.{EndsWithLine, GivesBack, IsScanned, StopsHeld, whole_end, Scan, Stop, Feed}
+use Rattle.py_lines.specs.Private.Feed.{EndsWithLine, GivesBack, IsScanned, StopsHeld, whole_end, Scan, Stop, Feed, Mode}
 use Rattle.py_lines.proofs.Feeds.ReadyLines.{ended_alone, none_is, some_is}
 
 -- a line's end stays whole where one byte after CR stays

@@ -13,13 +13,12 @@ use Rattle.std.proofs.Math.Seq.{take-append_seam, drop-append_seam}
 use Rattle.py_lines.specs.Character.{is_line_feed}
 use Rattle.py_lines.specs.Piece.{begins}
 use Rattle.py_lines.specs.LogicalLine.{byte_len}
-use Rattle.py_lines.specs.declared.mode.Mode.{Mode}
 use Rattle.py_lines.specs.Private.Run.{Reached}
 use Rattle.py_lines.specs.Private.Scan.{is_return_mode, is_returned, freed, stack_of, EndsWhole, IsUnderWay, ScansIn, line_start, IsRefusal}
 use Rattle.py_lines.specs.Private.LineState.{first_mode, BeginsAnew, IsFaultAfter}
 use Rattle.py_lines.specs.Private.Feed.{IsCutAt, IsOpen, StopsHeld, Scan, Stop, Feed, DropsLine, FailsAt, HasRoom, Holds, HoldsAt}
 use Rattle.py_lines.specs.Private.Feed.{IsDecidedAt, IsSoundFeed, IsUnchanged, ScansHeld, ScansTo, StandsSo, StopsWith, WhereHeld, Fault}
-use Rattle.py_lines.specs.Private.Feed.{FaultKind, LexError, ready_of, scanning_of}
+use Rattle.py_lines.specs.Private.Feed.{FaultKind, LexError, ready_of, scanning_of, LineState, LineFault, Mode}
 use Rattle.py_lines.proofs.Text.Utf8Prefixes.{all_scalars-parts}
 use Rattle.py_lines.proofs.LogicalLines.Cuts.{byte_len-append}
 use Rattle.py_lines.proofs.ScanMachine.Soundness.{StandsSound, stands_sound}
@@ -30,8 +29,6 @@ use Rattle.py_lines.proofs.Readers.LineFaults.{Within, refused_within}
 use Rattle.py_lines.proofs.Lexings.LineEnds.{none_both}
 use Rattle.py_lines.specs.Settled.{IsHopeless}
 use Rattle.py_lines.specs.ScannerState.{ScannerRunsOut}
-use Rattle.py_lines.specs.declared.line_state.LineState.{LineState}
-use Rattle.py_lines.specs.declared.scan.LineFault.{LineFault}
 use Rattle.py_lines.proofs.Text.Incomplete.{part_none}
 use Rattle.py_lines.proofs.Feeds.DecidedSoFar.{by_bytes, by_character}
 

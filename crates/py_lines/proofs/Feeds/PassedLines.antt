@@ -9,12 +9,10 @@ use Rattle.py_lines.specs.Character.{is_return}
 use Rattle.py_lines.specs.Piece.{ends}
 use Rattle.py_lines.specs.LogicalLine.{LogicalLine, byte_len, first_or_zero, line_of}
 use Rattle.py_lines.specs.Settled.{IsSettled}
-use Rattle.py_lines.specs.Given.{AreFirstLines}
 use Rattle.py_lines.specs.ScannerState.{EndsExactly, GoesOnWith, HasSettled, HoldsAfterLines, HoldsReady, IsScanning, PassesPieceLines, ScannerState, StandsAtLine, ready_lines}
-use Rattle.py_lines.specs.declared.line_state.LineState.{LineState}
 use Rattle.py_lines.specs.declared.line_tokens.LineTokens.{LineTokens}
 use Rattle.py_lines.specs.declared.plain_strings.Passed.{Passed}
-use Rattle.py_lines.specs.Private.Feed.{IsSoundFeed, StandsSo, Scan, Feed, ready_of, scanning_of}
+use Rattle.py_lines.specs.Private.Feed.{IsSoundFeed, StandsSo, Scan, Feed, ready_of, scanning_of, LineState, AreFirstLines}
 use Rattle.py_lines.specs.Private.LineState.{BeginsAnew}
 use Rattle.py_lines.specs.Private.Scan.{EndsWhole}
 use Rattle.py_lines.specs.Private.Outline.{AreWholeLines, BeginWithLines}

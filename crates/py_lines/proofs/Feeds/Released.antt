@@ -7,7 +7,6 @@ use Rattle.py_lines.specs.Piece.{spelled}
 use Rattle.py_lines.specs.Fields.{AreReadBefore}
 use Rattle.py_lines.specs.Lexed.{IsLexedWhole, IsLexed}
 use Rattle.py_lines.specs.Settled.{IsSettled}
-use Rattle.py_lines.specs.Given.{AreFirstLines}
 use Rattle.py_lines.specs.LogicalLine.{LogicalLine, byte_len, line_ends}
 use Rattle.py_lines.proofs.Text.Decoding.{decoded}
 use Rattle.py_lines.proofs.LogicalLines.Cuts.{byte_len-append}
@@ -18,7 +17,7 @@ use Rattle.std.proofs.lemmas.Bool.{both_ways}
 use Rattle.std.proofs.Math.Seq.{drop-append_seam}
 use Rattle.py_lines.specs.ScannerState.{ScannerState, GoesOnWith, IsScanning, HasEnded, HoldsReady, HoldsLast, Releases, fed_of, ready_lines}
 use Rattle.py_lines.specs.Private.Feed.{HasRoom, HoldsLine, IsReady, StandsSo, IsSoundFeed, LetsGo, line_held, with_line, Feed, ready_of}
-use Rattle.py_lines.specs.Private.Feed.{scanning_of}
+use Rattle.py_lines.specs.Private.Feed.{scanning_of, AreFirstLines}
 use Rattle.py_lines.proofs.LineScan.LineCount.{line_ends-bytes}
 use Rattle.py_lines.proofs.Feeds.ReadyLines.{ready_seen}
 

@@ -5,10 +5,9 @@ use Rattle.std.proofs.lemmas.List.{length-take-le, nil_from_length, take-append-
 use Rattle.std.proofs.Math.Seq.{take-add, take-append-add, take-append_seam}
 use Rattle.py_lines.specs.LogicalLine.{LogicalLine}
 use Rattle.py_lines.specs.Settled.{Decides, DecideNone, IsSettled}
-use Rattle.py_lines.specs.Given.{AreFirstLines}
 use Rattle.py_lines.specs.ScannerState.{ScannerState, GoesOnWith, HoldsReady, IsScanning, MeetsFault, TakesBytes, WhereFed, fed_of, ready_lines}
 use Rattle.py_lines.specs.Private.Feed.{EndsWithLine, GivesBack, Holds, HoldsSo, IsSoundFeed, ScansHeld, StandsSo, StopsWith, TakesLine}
-use Rattle.py_lines.specs.Private.Feed.{TakesSo, line_held, with_line, Fault, LexError, Stop, Feed, ready_of, scanning_of}
+use Rattle.py_lines.specs.Private.Feed.{TakesSo, line_held, with_line, Fault, LexError, Stop, Feed, ready_of, scanning_of, AreFirstLines}
 use Rattle.py_lines.proofs.Lexings.DecidedFaults.{decided_more}
 use Rattle.py_lines.proofs.Feeds.Known.{first_at, goes_after, goes_at, goes_joined, goes_with_first}
 use Rattle.py_lines.proofs.Feeds.FedHeld.{SettleNone, holds_exactly, never_before, scanned_open, settled_fed}

@@ -7,13 +7,16 @@ use Rattle.py_lines.specs.Piece.{Piece, spelled}
 use Rattle.py_lines.specs.LogicalLine.{LogicalLine, byte_len, end_len_of, line_ends, line_of}
 use Rattle.py_lines.specs.Lexed.{IsLexed}
 use Rattle.py_lines.specs.Settled.{IsHopeless, Decides}
-use Rattle.py_lines.specs.Given.{AreFirstLines}
+pub use Rattle.py_lines.specs.Given.{AreFirstLines}
 use Rattle.py_lines.specs.ScannerState.{ScannerState, EndsExactly, Feeds, GoesOnWith, HoldsLast, TakesBytes, WhereWhole, ready_lines}
 pub use Rattle.py_lines.specs.ScannerState.View.{line_of_feed, ready_of, scanning_of}
 use Rattle.py_lines.specs.Private.Scan.{ScansIn, is_returned}
 use Rattle.py_lines.specs.Private.Run.{Reached}
 use Rattle.py_lines.specs.Private.LineState.{BeginsAnew, KeepsFault, first_mode}
 use Rattle.py_lines.specs.Private.LineTokens.{AreLineText}
+pub use Rattle.py_lines.specs.declared.line_state.LineState.{LineState}
+pub use Rattle.py_lines.specs.declared.scan.LineFault.{LineFault}
+pub use Rattle.py_lines.specs.declared.mode.Mode.{Mode}
 pub use Rattle.py_lines.specs.declared.fault.Fault.{Fault}
 pub use Rattle.py_lines.specs.declared.fault.FaultKind.{FaultKind}
 pub use Rattle.py_lines.specs.declared.fault.LexError.{LexError}

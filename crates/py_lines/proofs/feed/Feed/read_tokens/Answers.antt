@@ -1,7 +1,6 @@
 use Rattle.std.proofs.Common.{ℕ, List, sym, ◌∙◌, ap, not, subst, length, take, arith}
 use Rattle.std.proofs.lemmas.List.{length-take, length-take-le}
-use Rattle.py_lines.specs.declared.line_state.LineState.{LineState}
-use Rattle.py_lines.specs.Private.Feed.{HasReadTokens}
+use Rattle.py_lines.specs.Private.Feed.{HasReadTokens, LineState}
 use Rattle.py_lines.specs.Private.LineTokens.{HoldsTokens, IsLineText}
 use Rattle.py_lines.proofs.Feeds.ReadyLines.{held_line_text, held_within, line_stands, none_is, none_read, some_read}
 use Rattle.py_lines.proofs.feed.Feed.read_tokens.Goals as goal
