@@ -4,15 +4,17 @@ use Rattle.std.specs.declared.alloc.AllocError.{AllocError}
 use Rattle.py_lines.specs.LogicalLine.{LogicalLine}
 use Rattle.py_lines.specs.Token.{EachLiesIn}
 use Rattle.py_lines.specs.Reader.{Continues, Ends, Fails, ReaderRunsOut}
-use Rattle.py_lines.specs.Reader.View.{reader_of}
-use Rattle.py_lines.specs.declared.fault.LexError.{LexError}
-use Rattle.py_lines.specs.declared.fault.LexError.TheVariants as lex
+pub use Rattle.py_lines.specs.Reader.View.{reader_of}
+pub use Rattle.py_lines.specs.declared.fault.LexError.{LexError}
 use Rattle.py_lines.specs.Private.Scan.{Scans}
 use Rattle.py_lines.specs.Private.LineState.{KeepsFault, first_mode, read_line, with_tokens}
 use Rattle.py_lines.specs.Private.LineTokens.{HoldsTokens}
-use Rattle.py_lines.specs.declared.fault.FaultKind.{FaultKind}
-use Rattle.py_lines.specs.declared.scan.Stop.{Stop}
-use Rattle.py_lines.specs.declared.source.Source.{Source}
+pub use Rattle.py_lines.specs.declared.fault.FaultKind.{FaultKind}
+pub use Rattle.py_lines.specs.declared.scan.Stop.{Stop}
+pub use Rattle.py_lines.specs.declared.source.Source.{Source}
+pub use Rattle.py_lines.specs.declared.line_state.LineState.{LineState}
+pub use Rattle.py_lines.specs.declared.scan.LineFault.{LineFault}
+pub use Rattle.py_lines.specs.declared.mode.Mode.{Mode}
 
 -- the logical line that was read last
 abbrev pub line_of_source : Source → LogicalLine
@@ -54,5 +56,5 @@ abbrev pub Advances : Source → Result Bool LexError → Source → Type 0
 Advances old (Ok true) new =
     Continues (reader_of old) (line_of_source new) (reader_of new) × EachLiesIn (line_of_source new).text new.state.tokens.tokens.items
 Advances old (Ok false) new = Ends (reader_of old) (reader_of new)
-Advances old (Err (lex.Fault f)) new = Fails (reader_of old) f (reader_of new)
-Advances old (Err lex.Memory) new = ReaderRunsOut (reader_of old) (reader_of new)
+Advances old (Err (LexError.Fault f)) new = Fails (reader_of old) f (reader_of new)
+Advances old (Err LexError.Memory) new = ReaderRunsOut (reader_of old) (reader_of new)

@@ -1,10 +1,7 @@
 use Rattle.std.proofs.Common.{◌≡◌, ◌≢◌, ◌<◌, ℕ, None, List, length, drop, ap, arith, length-take, refl, subst, sym, ◌∙◌}
-use Rattle.py_lines.specs.declared.line_state.LineState.{LineState}
-use Rattle.py_lines.specs.declared.scan.Stop.{Stop}
-use Rattle.py_lines.specs.declared.source.Source.{Source}
+use Rattle.py_lines.specs.Private.Source.{LineState, Stop, Source, HasScanned}
 use Rattle.py_lines.specs.Private.LineState.{BeginsAnew, first_mode}
 use Rattle.py_lines.specs.Private.Scan.{Scans}
-use Rattle.py_lines.specs.Private.Source.{HasScanned}
 use Rattle.py_lines.proofs.Lexings.FirstLines.{all_first}
 use Rattle.py_lines.proofs.source.Source.advance.Goals as goal
 

@@ -2,7 +2,7 @@ use Rattle.std.proofs.Common.{◌++◌, ◌∷◌, []}
 use Rattle.std.proofs.lemmas.Result.{err_from_is_err_and}
 use Rattle.py_lines.proofs.Readers.LineAnswers.{all_within, place_boundary, line_ended, is_line_text, few_lines_line, continues_line}
 use Rattle.py_lines.proofs.source.Source.end_line.Goals as goal
-use Rattle.py_lines.specs.declared.scan.Stop.{Stop}
+use Rattle.py_lines.specs.Private.Source.{Stop}
 
 pub give-requires : goal.give-requires
 give-requires c =

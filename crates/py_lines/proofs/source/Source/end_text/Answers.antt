@@ -1,14 +1,12 @@
 use Rattle.std.proofs.Common.{◌≡◌, ℕ, ◌-◌, ◌≤◌, Some, Err, inl, inr, true, length, sym, ap, ◌∙◌, subst, arith}
 use Rattle.std.proofs.lemmas.Result.{err_from_is_err_and}
-use Rattle.py_lines.specs.declared.source.Source.{Source}
+use Rattle.py_lines.specs.Private.Source.{Source, Advances, FailsAfter, HasScanned, FaultKind, LexError, Stop, LineFault, Mode}
 use Rattle.py_lines.specs.Private.LineState.{IsEndLineFault}
 use Rattle.py_lines.specs.Private.Machine.{is_final}
-use Rattle.py_lines.specs.Private.Source.{Advances, FailsAfter, HasScanned}
 use Rattle.py_lines.proofs.Machine.PieceSteps.{pieces_at}
 use Rattle.py_lines.proofs.Readers.LineAnswers.{all_within, place_boundary, is_line_text, stop_size, fails_at_bytes, fails_at_end, end_within, last_line, continues_text, few_lines_text}
 use Rattle.py_lines.proofs.Readers.LineFaults.{Within, finished}
 use Rattle.py_lines.proofs.source.Source.end_text.Goals as goal
-use Rattle.py_lines.specs.Private.Feed.{FaultKind, LexError, Stop, LineFault, Mode}
 
 line_fault_within : (s : Source) (has : HasScanned s Stop.TextEnd) (rest : ℕ) (line_fault : LineFault) → (rest ≡ 0 → length s.bytes.now ≤ length s.characters.now) → IsEndLineFault s.state.scan rest (Some line_fault) → Within has.scans.read line_fault.place
 line_fault_within s has rest line_fault full (inl (some, kind, place)) = subst (Within has.scans.read) (sym place) (all_within has.scans.read s.state.scan.stop (stop_size s has))

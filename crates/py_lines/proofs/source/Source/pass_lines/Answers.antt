@@ -1,10 +1,8 @@
 use Rattle.std.proofs.Common.{◌≡◌, Bool, ℕ, ◌+◌, ◌-◌, ◌<◌, ◌≤◌, ◌∙◌, List, take, drop, ap, length, sym, subst, false, arith, rules, is_some}
 use Rattle.std.specs.Str.{IsCharBoundary}
-use Rattle.py_lines.specs.declared.line_state.LineState.{LineState}
+use Rattle.py_lines.specs.Private.Source.{LineState, Source, reader_of}
 use Rattle.py_lines.specs.declared.plain_strings.Passed.{Passed}
-use Rattle.py_lines.specs.declared.source.Source.{Source}
 use Rattle.py_lines.specs.Lines.{PassesUpTo}
-use Rattle.py_lines.specs.Reader.View.{reader_of}
 use Rattle.py_lines.specs.Private.Outline.{BeginWithLines}
 use Rattle.py_lines.proofs.Feeds.ReadyLines.{none_is}
 use Rattle.py_lines.proofs.Readers.PassedLines.{boundary, few, further, passes_up_to, room}
