@@ -103,12 +103,10 @@ module _ (text : List ℕ) (state : LineState) (lines : List LogicalLine) (read 
       pub refused_bytes : StartsWithNoChar rest → IsLexedToFault (of.bytes text state.place state.line lines read rest k) lines fault
       refused_bytes bad = go rest refl
         where
-          stop : state.scan.stop ≡ byte_len read
-          stop = way_stop (first_mode state.place) state.scan read way (begun_sound state.place)
-
           go : (left : List ℕ) → rest ≡ left → IsLexedToFault (of.bytes text state.place state.line lines read rest k) lines fault
           go [] none = absurd (omega (arith, some, ap length none))
           go (d ∷ ds) is =
+              let stop = way_stop (first_mode state.place) state.scan read way (begun_sound state.place) in
               let known = of.bytes text state.place state.line lines read rest k in
               let decodes = subst (λ t. Decodes known (spelled k.base ++ read) t) is (of.decodes text state.place state.line lines read rest k bad) in
               subst (λ l. IsLexedToFault known l fault) (sym k.cut)

@@ -38,13 +38,6 @@ ends-encoded [] = refl
 ends-encoded (c ∷ []) = ap (ends is_return) (append-nil (encode_utf8 c)) ∙ ends-encode c
 ends-encoded (c ∷ d ∷ cs) = ends-later is_return (encode_utf8 c) (encode_utf8_all (d ∷ cs)) (λ none. omega (arith, length-le-encodes (d ∷ cs), ap length none)) ∙ ends-encoded (d ∷ cs)
 
--- what comes after a line goes by its last character
-pub exact_as : (line other more : List ℕ) → ends is_return line ≡ ends is_return other → EndsExactly line more → EndsExactly other more
-exact_as line other more same exact = subst (λ (b : Bool). ((b ≡ false) × (more ≡ [])) ⊎ ((b ≡ true) × IsOneOther more)) same exact
-
-pub whole_as : (line other more : List ℕ) → ends is_return line ≡ ends is_return other → EndsWhole line more → EndsWhole other more
-whole_as line other more same whole = subst (λ (b : Bool). (b ≡ false) ⊎ ((c : ℕ) × (others : List ℕ) × (more ≡ c ∷ others) × (c ≡ 10 → ⊥))) same whole
-
--- so it comes after its bytes
+-- what comes after a line comes after its bytes
 pub exactly_encoded : (line more : List ℕ) → EndsExactly line more → EndsExactly (encode_utf8_all line) more
-exactly_encoded line more exact = exact_as line (encode_utf8_all line) more (sym (ends-encoded line)) exact
+exactly_encoded line more exact = rw (← ends-encoded line) at exact

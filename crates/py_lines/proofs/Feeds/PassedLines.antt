@@ -23,7 +23,7 @@ use Rattle.py_lines.proofs.Text.CharacterTests.{return_is}
 use Rattle.py_lines.proofs.Readers.PassedLines.{AreSettledAt, line_settled, lines_at, lines_spell, shown, take_slice}
 use Rattle.py_lines.proofs.Feeds.Known.{goes_after, goes_with_first}
 use Rattle.py_lines.proofs.Feeds.ReadyLines.{none_ready}
-use Rattle.py_lines.proofs.Feeds.LastBytes.{ends-encoded, ends-later, exact_as, whole_as}
+use Rattle.py_lines.proofs.Feeds.LastBytes.{ends-encoded, ends-later}
 use Rattle.py_lines.proofs.Feeds.OpenLine.{begun_open, begun_unchanged, runs_out}
 
 -- which bytes come after the first of those that follow is no matter
@@ -56,7 +56,7 @@ all_settled (t ∷ u ∷ texts) text place line given read more n after are full
     let near : GoesOnWith text place (own_bytes ++ own.more) = goes_with_first text place (own_bytes ++ own.more) own.unseen (subst (GoesOnWith text place) (ap (λ b. own_bytes ++ b) own.spell ∙ sym (append_assoc own_bytes own.more own.unseen)) split) in
     let one = line_settled text place line given first t own.more are.own are.some near own.exact (later_bytes ++ after) are.whole in
     let here = line_of place line (are.whole.body ++ are.whole.last ∷ []) in
-    let others = all_settled (u ∷ texts) text (place + byte_len t) (line + are.own) (given ++ here ∷ []) are.later more are.more after are.lines (omega (arith, some, length-le-encodes are.later)) one.0 (goes_after text place own_bytes (later_bytes ++ more) split) (exact_as read are.later more (last_ends read t are.later are.spell some) exact) in
+    let others = all_settled (u ∷ texts) text (place + byte_len t) (line + are.own) (given ++ here ∷ []) are.later more are.more after are.lines (omega (arith, some, length-le-encodes are.later)) one.0 (goes_after text place own_bytes (later_bytes ++ more) split) (rw (last_ends read t are.later are.spell some) at exact) in
     let place_is : place + byte_len t + byte_len are.later ≡ place + byte_len read = omega (arith, ap length spell, length-append own_bytes later_bytes) in
     let line_is : line + are.own + are.more ≡ line + n = omega (arith, are.count) in
     let rest = lines_at (u ∷ texts) (place + byte_len t) (line + are.own) are.later are.more after are.lines in
@@ -75,7 +75,7 @@ lines_whole t [] read n after are =
     subst (λ u. EndsWhole u after) all (subst (λ u. EndsWhole t (encode_utf8_all u ++ after)) are.lines.0 are.whole.whole)
 lines_whole t (u ∷ texts) read n after are =
     let some : 0 < length are.later = omega (arith, ap length are.lines.spell, length-append u are.lines.later, are.lines.some) in
-    whole_as are.later read after (sym (last_ends read t are.later are.spell some)) (lines_whole u texts are.later are.more after are.lines)
+    rw (← last_ends read t are.later are.spell some) at (lines_whole u texts are.later are.more after are.lines)
 
 bytes_whole : (bytes : List ℕ) (p : Passed) → 0 < p.len → BeginWithLines bytes p → EndsWhole (take p.len bytes) (drop p.len bytes)
 bytes_whole bytes p some found = by found.texts found.whole
@@ -83,7 +83,7 @@ bytes_whole bytes p some found = by found.texts found.whole
     by : (texts : List (List ℕ)) → AreWholeLines texts found.read p.line_ends (drop p.len bytes) → EndsWhole (take p.len bytes) (drop p.len bytes)
     by [] are = absurd (omega (arith, some, ap length found.spell, ap byte_len are.0, length-take-le p.len bytes found.within))
     by (t ∷ texts) are =
-        whole_as found.read (take p.len bytes) (drop p.len bytes) (sym (ends-encoded found.read) ∙ ap (ends is_return) found.spell) (lines_whole t texts found.read p.line_ends (drop p.len bytes) are)
+        rw (sym (ends-encoded found.read) ∙ ap (ends is_return) found.spell) at (lines_whole t texts found.read p.line_ends (drop p.len bytes) are)
 
 -- after lines that CR alone doesn't end nothing is held
 pub nothing_after : (bytes : List ℕ) (p : Passed) → 0 < p.len → BeginWithLines bytes p → (slice_index bytes (p.len - 1) ≡ 13 → ⊥) → HoldsAfterLines bytes p.len []
@@ -176,7 +176,7 @@ module _ (f : Feed) (bytes : List ℕ) (before stop : ℕ) (p : Passed) (stands 
         }
 
     exact : EndsExactly found.read held.items
-    exact = exact_as (take p.len bytes) found.read held.items (ap (ends is_return) (sym read_is) ∙ ends-encoded found.read) holds_here.exact
+    exact = rw (ap (ends is_return) (sym read_is) ∙ ends-encoded found.read) at holds_here.exact
 
     module _ (scan : Scan) (tokens : LineTokens) where
       abbrev after : Feed
