@@ -1,5 +1,5 @@
 -- What a call that feeds a piece answers, for every text that goes on so.
-use Rattle.std.proofs.Common.{◌≡◌, ℕ, ◌+◌, ◌≤◌, ◌^◌, ◌⊎◌, true, Ok, Err, None, Some, List, ◌++◌, length, take, drop, refl, sym, ap, ◌∙◌, subst, inl, inr, append-nil, arith}
+use Rattle.std.proofs.Common.{◌≡◌, ℕ, ◌+◌, ◌⊎◌, true, Err, None, Some, List, length, take, drop, refl, sym, ap, ◌∙◌, subst, inl, inr, append-nil, arith}
 use Rattle.std.specs.Prelude.{is_some}
 use Rattle.py_lines.specs.LogicalLine.{LogicalLine}
 use Rattle.py_lines.specs.ScannerState.{ScannerState, TakesBytes, ScannerRunsOut, Feeds, FeedsNaming, LacksBoth, Releases, TakesNaming}

@@ -1,12 +1,11 @@
 -- The last byte of characters: it is CR just where their last character is.
-use Rattle.std.proofs.Common.{◌≡◌, ℕ, ◌≤◌, ◌⊎◌, Bool, true, false, List, [], ◌∷◌, ◌++◌, length, refl, sym, ap, ◌∙◌, subst, ⊎_elim, append-nil, arith}
+use Rattle.std.proofs.Common.{◌≡◌, ℕ, ◌≤◌, Bool, false, List, [], ◌∷◌, ◌++◌, length, refl, sym, ap, ◌∙◌, ⊎_elim, append-nil, arith}
 use Rattle.std.specs.Prelude.{encode_utf8, encode_utf8_all}
 use Rattle.std.proofs.lemmas.Bool.{cases_lt, false_from_ne_true}
 use Rattle.std.proofs.lemmas.Str.{length-le-encodes}
 use Rattle.py_lines.specs.Character.{is_return}
 use Rattle.py_lines.specs.Piece.{ends}
-use Rattle.py_lines.specs.ScannerState.{EndsExactly, IsOneOther}
-use Rattle.py_lines.specs.Private.Scan.{EndsWhole}
+use Rattle.py_lines.specs.ScannerState.{EndsExactly}
 use Rattle.py_lines.proofs.Text.CharacterTests.{return_is}
 use Rattle.py_lines.proofs.Text.Utf8Shapes.{one, two, three, four}
 use Rattle.py_lines.proofs.Lexings.LineEnds.{ends-append}

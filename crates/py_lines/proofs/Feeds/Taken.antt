@@ -7,7 +7,7 @@ use Rattle.py_lines.specs.LogicalLine.{LogicalLine}
 use Rattle.py_lines.specs.Settled.{Decides, DecideNone, IsSettled}
 use Rattle.py_lines.specs.ScannerState.{ScannerState, GoesOnWith, HoldsReady, IsScanning, MeetsFault, TakesBytes, WhereFed, fed_of, ready_lines}
 use Rattle.py_lines.specs.Private.Feed.{EndsWithLine, GivesBack, Holds, HoldsSo, IsSoundFeed, ScansHeld, StandsSo, StopsWith, TakesLine}
-use Rattle.py_lines.specs.Private.Feed.{TakesSo, line_held, with_line, Fault, LexError, Stop, Feed, ready_of, scanning_of, AreFirstLines}
+use Rattle.py_lines.specs.Private.Feed.{TakesSo, line_held, Fault, LexError, Stop, Feed, ready_of, scanning_of, AreFirstLines}
 use Rattle.py_lines.proofs.Lexings.DecidedFaults.{decided_more}
 use Rattle.py_lines.proofs.Feeds.Known.{first_at, goes_after, goes_at, goes_joined, goes_with_first}
 use Rattle.py_lines.proofs.Feeds.FedHeld.{SettleNone, holds_exactly, never_before, scanned_open, settled_fed}
@@ -124,8 +124,8 @@ taken_back old mid new sound no_fault not_ready piece fits first n before within
     let size : length new.held.items ≡ min g.kept (length mid.held.items) = ap length g.text.held ∙ length-take g.kept mid.held.items in
     let parts : min g.kept (length mid.held.items) ≡ length old.held.items + n = ⊎_elim (λ more. omega (arith, more, left, at, size, whole)) (λ all. omega (arith, all, left, at, size, whole)) g.more in
     let items : take g.kept mid.held.items ≡ old.held.items ++ take n piece =
-        sym (take_min g.kept mid.held.items) ∙ ap (λ (k : ℕ). take k mid.held.items) parts ∙ ap (take (length old.held.items + n)) holds.held
-        ∙ take-append-add old.held.items (take first piece) n ∙ ap (λ l. old.held.items ++ l) (take-take n first piece (omega (arith, parts, whole))) in
+    sym (take_min g.kept mid.held.items) ∙ ap (λ (k : ℕ). take k mid.held.items) parts ∙ ap (take (length old.held.items + n)) holds.held
+    ∙ take-append-add old.held.items (take first piece) n ∙ ap (λ l. old.held.items ++ l) (take-take n first piece (omega (arith, parts, whole))) in
     let earlier : take before mid.held.items ≡ old.held.items = ap (take before) holds.held ∙ ap (λ (k : ℕ). take k (old.held.items ++ take first piece)) at ∙ take-append_seam old.held.items (take first piece) in
     taken old sound no_fault not_ready piece fits n (omega (arith, parts, whole, within)) new (holds_on holds g.text items holds.fault)
     (λ none. some (⊎_elim (λ more. omega (arith, more, none, parts, at, whole)) (λ all. omega (arith, all, none, parts, whole)) g.more))

@@ -7,10 +7,13 @@ use Rattle.py_lines.proofs.feed.lacks_both.Goals as goal
 -- whether one is found: the empty word stands before the first byte
 tells : (bytes word : List ℕ) (r : Option ℕ) → 0 < length bytes → FindsNeedle bytes word 0 r → (is_some r ≡ false → LacksWord bytes word) × (is_some r ≡ true → ¬ (LacksWord bytes word))
 tells bytes word None some nowhere = (λ none k low high. nowhere k low (omega (arith, high)), λ is. absurd (cc))
-tells bytes word (Some n) some (before, occurs) = (λ none. absurd (cc), λ is lacks. ⊎_elim
-    (λ longer. lacks n (omega arith) (omega (arith, longer, occurs.fits)) occurs)
-    (λ empty. lacks 0 (omega arith) some (record { fits = omega (arith, empty); reads = λ j within. absurd (omega (arith, empty, within)) }))
-    (cases_lt 0 (length word)))
+tells bytes word (Some n) some (before, occurs) = (
+  λ none. absurd (cc),
+  λ is lacks. ⊎_elim
+      (λ longer. lacks n (omega arith) (omega (arith, longer, occurs.fits)) occurs)
+      (λ empty. lacks 0 (omega arith) some (record { fits = omega (arith, empty); reads = λ j within. absurd (omega (arith, empty, within)) }))
+      (cases_lt 0 (length word)),
+)
 
 pub returns-then-is_none-clause-yes : goal.returns-then-is_none-clause-yes
 returns-then-is_none-clause-yes c = λ is. (

@@ -1,8 +1,8 @@
-use Rattle.std.proofs.Common.{◌≡◌, ◌≢◌, ◌<◌, None, Ok, length, sym, ap, ◌∙◌, subst, arith}
+use Rattle.std.proofs.Common.{◌≢◌, Ok, length, sym, ap, ◌∙◌, subst, arith}
 use Rattle.std.specs.Vec.{vec_len}
 use Rattle.std.proofs.lemmas.Bool.{eqb-false}
 use Rattle.std.proofs.lemmas.Result.{err_from_is_err_and}
-use Rattle.py_lines.specs.Private.Feed.{Holds, IsScanned}
+use Rattle.py_lines.specs.Private.Feed.{IsScanned}
 use Rattle.py_lines.proofs.Feeds.EndedHeld.{IsLeftOpen, all_scanned, end_fault_fails, end_fault_within, ends_plain, ends_returned}
 use Rattle.py_lines.proofs.Feeds.EndedHeld.{text_fault, text_left, text_empty}
 use Rattle.py_lines.proofs.Feeds.OpenLine.{scans_on, none_held, open_size, open_stop, reached_by, within_held}

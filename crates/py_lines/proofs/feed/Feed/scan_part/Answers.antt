@@ -1,5 +1,5 @@
-use Rattle.std.proofs.Common.{Some, Ok, ◌≡◌, ◌<◌, [], length, refl, sym, ◌∙◌, subst, ⊎_elim, arith}
-use Rattle.std.proofs.lemmas.Bool.{both_ways, cases_lt}
+use Rattle.std.proofs.Common.{Some, Ok, ◌≡◌, ◌<◌, [], length, refl, sym, ◌∙◌, subst, arith}
+use Rattle.std.proofs.lemmas.Bool.{both_ways}
 use Rattle.std.proofs.lemmas.List.{nil_from_length}
 use Rattle.std.specs.Str.{StartsWithNoChar}
 use Rattle.py_lines.specs.Settled.{IsHopeless}

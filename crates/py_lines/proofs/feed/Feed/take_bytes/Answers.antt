@@ -1,4 +1,4 @@
-use Rattle.std.proofs.Common.{◌≡◌, None, sym, ap, ◌∙◌, not}
+use Rattle.std.proofs.Common.{ap, ◌∙◌, not}
 use Rattle.py_lines.specs.ScannerState.View.{ready_of}
 use Rattle.py_lines.proofs.Feeds.FedScanner.{takes_more, takes_open, takes_short}
 use Rattle.py_lines.proofs.Feeds.ReadyLines.{none_is}
