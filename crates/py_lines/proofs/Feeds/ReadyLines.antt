@@ -79,7 +79,7 @@ abbrev pub ended_holds : (f : Feed) (end_len : ℕ) → StopsHeld f (Stop.LineEn
 ended_holds f end_len s = holds_line f end_len s.read s.rest (pieces_alone s) s.scalars s.spell s.number (ended_alone s)
 
 module _ (f : Feed) (end_len : ℕ) (h : HoldsLine f end_len) where
-  -- its text
+  -- the line that stands in what is held lies there, and is characters
   pub held_within : f.state.scan.stop ≤ length f.held.items
   held_within = omega (arith, h.stop, ap length h.spell, length-append (encode_utf8_all h.read) h.rest)
 
