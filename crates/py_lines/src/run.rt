@@ -253,7 +253,6 @@ pub fn comment_run(bytes: &[u8]) -> usize
 /// How many bytes the comment has that a text begins with, if it is whole characters and a line end follows it.
 #[tactic(auto, using(crate::proofs::LineScan::Spans::ascii_comment))]
 #[inline(always)]
-#[tactic(auto, using(crate::proofs::LineScan::Spans::ascii_comment))]
 pub fn whole_comment(bytes: &[u8]) -> Option<usize>
     ensures { IsWholeComment bytes.now result }
 {

@@ -16,7 +16,7 @@ use Rattle.py_lines.specs.Private.Feed.{IsSoundFeed, StandsSo, Scan, Feed, ready
 use Rattle.py_lines.specs.Private.LineState.{BeginsAnew}
 use Rattle.py_lines.specs.Private.Scan.{EndsWhole}
 use Rattle.py_lines.specs.Private.Outline.{AreWholeLines, BeginWithLines}
-use Rattle.py_lines.proofs.SimpleLines.Tails.{return_returns}
+use Rattle.py_lines.proofs.Lexings.LineEnds.{return_returns}
 use Rattle.py_lines.proofs.SimpleLines.Lines.{lines_few}
 use Rattle.py_lines.proofs.LineScan.LineCount.{ends-last}
 use Rattle.py_lines.proofs.Text.CharacterTests.{return_is}

@@ -25,22 +25,22 @@ use Rattle.py_lines.specs.Private.Scan.{line_start, EndsWhole}
 use Rattle.py_lines.specs.Private.Outline.{AreWholeLines, BeginWithLines, IsEndedBy, IsWholeLine}
 use Rattle.py_lines.proofs.Pieces.PieceLists.{piece, spelled-push}
 use Rattle.py_lines.proofs.Machine.Starts.{start-mark}
-use Rattle.py_lines.proofs.Lexings.LineEnds.{line_string}
+use Rattle.py_lines.proofs.Lexings.LineEnds.{line_string, return_returns}
 use Rattle.py_lines.proofs.LineScan.LineCount.{ends-last}
 use Rattle.py_lines.proofs.LineScan.LineSteps.{follows_whole, returned_fit, sound_steps}
 use Rattle.py_lines.proofs.LineScan.PieceEnd.{no_class_bracket}
 use Rattle.py_lines.proofs.LineScan.TextSteps.{begun_sound}
 use Rattle.py_lines.proofs.LogicalLines.Cuts.{one_line}
-use Rattle.py_lines.proofs.SimpleLines.Tails.{ended_stack, return_returns}
+use Rattle.py_lines.proofs.SimpleLines.Tails.{ended_stack}
 use Rattle.py_lines.proofs.SimpleLines.Lines.{lines_few, lines_scalars}
 use Rattle.py_lines.proofs.Readers.LineAnswers.{IsReadLine, text_from}
-use Rattle.py_lines.specs.Settled.{IsSettled}
-use Rattle.py_lines.specs.Given.{AreFirstLines}
-use Rattle.py_lines.specs.ScannerState.{EndsExactly, GoesOnWith}
 use Rattle.py_lines.proofs.Feeds.Known.{IsKnown, goes_with_first, is_known}
 use Rattle.py_lines.proofs.Feeds.SettledSoFar.{IsNextLine, settled_ready}
 use Rattle.py_lines.proofs.Feeds.Released.{released}
 use Rattle.py_lines.proofs.Lexings.FirstLines.{given_begin}
+use Rattle.py_lines.specs.Settled.{IsSettled}
+use Rattle.py_lines.specs.Given.{AreFirstLines}
+use Rattle.py_lines.specs.ScannerState.{EndsExactly, GoesOnWith}
 
 -- the pieces of a line that was passed, and what may follow them
 pub record IsPassedLine (read : List ℕ) (pieces : List Piece) : Type 0 where

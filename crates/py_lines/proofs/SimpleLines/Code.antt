@@ -35,7 +35,8 @@ use Rattle.py_lines.proofs.LineScan.PieceEnd.{closed_text}
 use Rattle.py_lines.proofs.LineScan.Runs.{break_low, ends-run, line_ends-run, space_low, stays-no_break}
 use Rattle.py_lines.proofs.LineScan.AsciiRuns.{word_byte_continues, word_byte_low, ascii_scalar, operator-no_break, word_starts, space-not-quote}
 use Rattle.py_lines.proofs.LineScan.TextSteps.{begun_sound}
-use Rattle.py_lines.proofs.SimpleLines.Tails.{apart_tail, come_sound, feed_unreturned, free_closed, free_goes_on, no_tail, no_tail_with, return_returns, stands, tail_on-append, tail_push}
+use Rattle.py_lines.proofs.SimpleLines.Tails.{apart_tail, come_sound, free_closed, free_goes_on, no_tail, no_tail_with, stands, tail_on-append, tail_push}
+use Rattle.py_lines.proofs.Lexings.LineEnds.{feed_unreturned, return_returns}
 use Rattle.py_lines.proofs.LineTokens.Spellings.{high_bytes}
 use Rattle.py_lines.proofs.Text.CharacterTests.{Each, excluded, feed_is, none_of, operator_ascii}
 use Rattle.py_lines.proofs.Text.Utf8Prefixes.{all_scalars-append}

@@ -32,7 +32,8 @@ use Rattle.py_lines.proofs.LineScan.AsciiRuns.{all_pass, is_low, is_low_from, lo
 use Rattle.py_lines.proofs.LineScan.PlainStrings.{inside_closes}
 use Rattle.py_lines.proofs.Text.CharacterTests.{none_of, quote-not-word}
 use Rattle.py_lines.proofs.SimpleLines.Code.{WordOrEnds, come_on, grown, holds_return, holds_returned, holds_line_end, holds_more, holds_one, one_unreturned, opens, pieces, quote-not-space, word_or_ends}
-use Rattle.py_lines.proofs.SimpleLines.Tails.{feed_unreturned, no_tail, quote-no-word}
+use Rattle.py_lines.proofs.Lexings.LineEnds.{feed_unreturned}
+use Rattle.py_lines.proofs.SimpleLines.Tails.{no_tail, quote-no-word}
 use Rattle.py_lines.proofs.SimpleLines.Joins.{slash-not-break}
 use Rattle.py_lines.proofs.SimpleLines.FirstBytes.{first_then, line_end_low, taken_one, taken_two, first_later}
 use Rattle.py_lines.proofs.SimpleLines.Runs.{goes_on, lines_go_on, stay_spelled}

@@ -18,8 +18,8 @@ use Rattle.py_lines.proofs.Machine.PieceSteps.{scanned}
 use Rattle.py_lines.proofs.Pieces.PieceLists.{piece, spelled-push}
 use Rattle.py_lines.proofs.LineScan.LineSteps.{returned_fit, sound_steps}
 use Rattle.py_lines.proofs.LineScan.LineCount.{ends-last}
-use Rattle.py_lines.proofs.Lexings.LineEnds.{line_string}
-use Rattle.py_lines.proofs.SimpleLines.Tails.{come_sound, ended_stack, free_tail, return_returns}
+use Rattle.py_lines.proofs.Lexings.LineEnds.{line_string, return_returns}
+use Rattle.py_lines.proofs.SimpleLines.Tails.{come_sound, ended_stack, free_tail}
 
 -- a machine that stands in no piece holds nothing
 free_at : (m : Mode) (done : List Piece) (held : List ℕ) → m ≡ modes.Free → HoldsOpen m done held → scanned done m held ≡ fresh done

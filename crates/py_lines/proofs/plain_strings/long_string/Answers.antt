@@ -1,5 +1,5 @@
 use Rattle.std.proofs.Common.{◌+◌, arith, refl, rules}
-use Rattle.py_lines.proofs.SimpleLines.Strings.{after_rest, long_ended}
+use Rattle.py_lines.proofs.SimpleLines.Strings.{after_rest, long_ended, long_first}
 use Rattle.py_lines.proofs.plain_strings.long_string.Goals as goal
 
 pub parts-init : goal.parts-init

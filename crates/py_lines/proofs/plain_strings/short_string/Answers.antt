@@ -1,5 +1,5 @@
 use Rattle.std.proofs.Common.{◌+◌, arith, refl}
-use Rattle.py_lines.proofs.SimpleLines.Strings.{after_rest, short_ended, short_escape, short_run}
+use Rattle.py_lines.proofs.SimpleLines.Strings.{after_rest, short_ended, short_escape, short_first, short_run}
 use Rattle.py_lines.proofs.plain_strings.short_string.Goals as goal
 
 pub parts-init : goal.parts-init

@@ -1,7 +1,7 @@
 use Rattle.std.proofs.Common.{refl, sym, ap, ◌∙◌, arith, ⊎_elim}
 use Rattle.py_lines.specs.declared.passing.Passing.{Passing}
 use Rattle.py_lines.proofs.LineScan.AsciiRuns.{free_is}
-use Rattle.py_lines.proofs.LineScan.WholePieces.{StandsAt, begins_passing, operators_passed, stands_ended, stands_left, stands_next}
+use Rattle.py_lines.proofs.LineScan.WholePieces.{StandsAt, begins_passing, few, operators_passed, stands_ended, stands_left, stands_next}
 use Rattle.py_lines.proofs.SimpleLines.Passing.{passed_further}
 use Rattle.py_lines.proofs.scan.Scan.take_pieces.Goals.{After-pass_operators, else-specials-test, then-specials-test+in-Unpassed}
 use Rattle.py_lines.proofs.scan.Scan.take_pieces.Goals as goal
@@ -21,6 +21,23 @@ specials-smaller c =
     let next = c.next-at-in-Passed.ensures q.all.len far.1 in
     let further = far.0 in
     omega (arith, further, next.after, next.within)
+
+pub close_passed-requires-clause-after : goal.close_passed-requires-clause-after
+close_passed-requires-clause-after c =
+    let q = c.pass.new.self in
+    (c.next-at-in-Passed.ensures q.all.len (passed_further _ _ _ _ _ _ q _ c.in-Passed.ensures).1).after
+
+pub close_passed-requires-clause-within : goal.close_passed-requires-clause-within
+close_passed-requires-clause-within c =
+    let q = c.pass.new.self in
+    (c.next-at-in-Passed.ensures q.all.len (passed_further _ _ _ _ _ _ q _ c.in-Passed.ensures).1).within
+
+pub close_passed-requires-clause-few : goal.close_passed-requires-clause-few
+close_passed-requires-clause-few c =
+    let q = c.pass.new.self in
+    let far = passed_further _ _ _ _ _ _ q _ c.in-Passed.ensures in
+    few _ _ _ _ _ (stands_next c.args.self.now c.args.bytes.now c.specials.at c.specials.self c.specials.passing c.specials.invariant c.pass.new.brackets q
+        c.next-at-in-Passed.result c.next-at-in-Passed.new.self c.in-Passed.ensures (c.next-at-in-Passed.ensures q.all.len far.1))
 
 pub specials-preserved : goal.specials-preserved
 specials-preserved c =

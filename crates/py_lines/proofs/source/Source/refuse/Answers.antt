@@ -1,7 +1,6 @@
 use Rattle.std.proofs.Common.{sym, subst, Err}
 use Rattle.py_lines.specs.Private.Source.{Advances, LexError, Stop}
-use Rattle.py_lines.proofs.Readers.LineAnswers.{place_boundary, refused_place_within, fails_at_character, place_room}
-use Rattle.py_lines.proofs.Readers.EndAnswers.{refused_place_within, fails_at_character}
+use Rattle.py_lines.proofs.Readers.LineAnswers.{place_boundary, refused_place_within, fails_at_character}
 use Rattle.py_lines.proofs.source.Source.refuse.Goals as goal
 
 pub fail-requires : goal.fail-requires
