@@ -7,7 +7,6 @@ use Rattle.py_lines.specs.OpenFields.{at_start}
 use Rattle.py_lines.specs.Faults.{IsLiveIn, open_short, IsFaultAtIn, at_end}
 use Rattle.py_lines.specs.declared.fault.FaultKind.TheVariants.{OpenString}
 use Rattle.py_lines.proofs.FieldMachine.WorkedRows.{tested}
-use Rattle.py_lines.proofs.Fields.WorkedRows.{piece}
 use Rattle.py_lines.proofs.Machine.PieceSteps.{scanned}
 use Rattle.py_lines.proofs.Elsewhere.SameRuns.{plain_runs_live}
 use Rattle.py_lines.specs.declared.mode.Mode.TheVariants as modes

@@ -21,7 +21,6 @@ use Rattle.py_lines.proofs.Pieces.PieceLists.{piece, spelled-push}
 use Rattle.py_lines.proofs.Machine.LiveTexts as live
 use Rattle.py_lines.proofs.Machine.Starts as begun
 use Rattle.py_lines.proofs.Machine.Soundness.{MoveHolds, move_holds, StartHolds, start_holds}
-use Rattle.py_lines.proofs.Machine.Spellings.{Tells, word_tells, other_begins}
 use Rattle.py_lines.proofs.ScanMachine.BodyMoves.{IsBodyMode}
 use Rattle.py_lines.proofs.FieldScans.Frames.{AreOpenAlike, neutral_alike}
 use Rattle.py_lines.proofs.FieldMachine.PlainSteps.{IsOpenAfter, open_after}

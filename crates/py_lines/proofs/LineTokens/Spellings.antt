@@ -17,7 +17,7 @@ use Rattle.py_lines.specs.Private.Run.{word_spelling}
 use Rattle.py_lines.proofs.Text.CharacterTests.{Each, none_of}
 use Rattle.py_lines.proofs.Text.Utf8Shapes.{two, three, four}
 use Rattle.py_lines.proofs.LineScan.AsciiRuns.{is_low, low_encodes, low_is}
-use Rattle.py_lines.proofs.Machine.Spellings.{prefix_spelling, name_stays, number_stays, other_begins, word_tells}
+use Rattle.py_lines.proofs.Machine.Spellings.{prefix_spelling, other_begins, word_tells}
 
 -- a word is a prefix exactly where its spelling says so
 field_begins : (s : Spelling) → is_field_spelling s ≡ true → begins_string s ≡ true

@@ -37,7 +37,7 @@ use Rattle.py_lines.proofs.Text.Utf8Prefixes.{prefix_chars, all_scalars-parts}
 use Rattle.py_lines.proofs.Pieces.PieceLists.{piece, AreReadBefore-first}
 use Rattle.py_lines.proofs.Pieces.OpenBrackets.{stack_before}
 use Rattle.py_lines.proofs.Fields.Nesting.{string_map}
-use Rattle.py_lines.proofs.Machine.EarlierPieces.{GrowsIf, closed_grows, started_grows, run_grows}
+use Rattle.py_lines.proofs.Machine.EarlierPieces.{closed_grows, started_grows}
 use Rattle.py_lines.proofs.Machine.LiveTexts.{keeps}
 use Rattle.py_lines.proofs.Machine.PieceSteps.{pieces_at, steps_by-append, scanned, word_by}
 use Rattle.py_lines.proofs.ScanMachine.Advance.{steps_push}

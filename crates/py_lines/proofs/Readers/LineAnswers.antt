@@ -41,7 +41,6 @@ use Rattle.py_lines.specs.Private.Source.{line_of_source, scanned_text, GivesTok
 use Rattle.py_lines.proofs.Lexings.Existence.{first_at}
 use Rattle.py_lines.proofs.Text.Utf8Prefixes.{prefix_chars, all_scalars-parts, one_decoding}
 use Rattle.py_lines.proofs.Pieces.PieceLists.{spelled-append, AreReadIn-append, AreReadBefore-second, piece}
-use Rattle.py_lines.proofs.Lexings.LineEnds.{line_first}
 use Rattle.py_lines.proofs.LogicalLines.TokenPlaces.{each_after}
 use Rattle.py_lines.proofs.LogicalLines.Cuts.{byte_len-append, one_line, line_depth, one_part}
 use Rattle.py_lines.proofs.LineScan.LineCount.{line_ends-bytes}

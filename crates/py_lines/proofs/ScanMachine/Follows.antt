@@ -17,10 +17,10 @@ use Rattle.py_lines.proofs.Pieces.OpenBrackets.{stack_push}
 use Rattle.py_lines.proofs.Machine.PieceSteps.{scanned, pieces_at, is_word_mode}
 use Rattle.py_lines.proofs.Machine.LiveTexts.{keeps, stack_closed}
 use Rattle.py_lines.proofs.Machine.Starts.{StartsSo, starts_so, start-operator}
-use Rattle.py_lines.proofs.Text.CharacterTests.{excluded, quote-not-word, break-not-others}
+use Rattle.py_lines.proofs.Text.CharacterTests.{quote-not-word, break-not-others}
 use Rattle.py_lines.proofs.Machine.Soundness.{word_on}
 use Rattle.py_lines.proofs.FieldMachine.Completeness.{start_breaks}
-use Rattle.py_lines.proofs.Machine.Spellings.{spelling_on-push, word_told, other_begins}
+use Rattle.py_lines.proofs.Machine.Spellings.{word_told, other_begins}
 use Rattle.py_lines.proofs.Machine.OpenStrings.{start-not-mark}
 use Rattle.py_lines.proofs.FieldMachine.Runs.{steps_of}
 use Rattle.py_lines.proofs.FieldMachine.PieceRuns.{opening_operator, word_goes}

@@ -3,7 +3,6 @@ use Rattle.std.specs.Prelude.{encode_utf8_all}
 use Rattle.std.specs.Char.{len_utf8}
 use Rattle.std.proofs.lemmas.List.{take_rest}
 use Rattle.std.proofs.lemmas.Str.{len_utf8_bounds}
-use Rattle.py_lines.specs.Private.Run.{HoldsRun}
 use Rattle.py_lines.proofs.LineTokens.Strings.{InFirst, at_start, begins_string, first_run, first_stands, passed_all, passed_before, passed_with, still_first}
 use Rattle.py_lines.proofs.Text.FirstCharacters.{first_size}
 use Rattle.py_lines.proofs.scan.Scan.take_first.Goals as goal

@@ -37,14 +37,14 @@ close_passed-requires-clause-few c =
     let q = c.pass.new.self in
     let far = passed_further _ _ _ _ _ _ q _ c.in-Passed.ensures in
     few _ _ _ _ _ (stands_next c.args.self.now c.args.bytes.now c.specials.at c.specials.self c.specials.passing c.specials.invariant c.pass.new.brackets q
-        c.next-at-in-Passed.result c.next-at-in-Passed.new.self c.in-Passed.ensures (c.next-at-in-Passed.ensures q.all.len far.1))
+    c.next-at-in-Passed.result c.next-at-in-Passed.new.self c.in-Passed.ensures (c.next-at-in-Passed.ensures q.all.len far.1))
 
 pub specials-preserved : goal.specials-preserved
 specials-preserved c =
     let q = c.pass.new.self in
     let far = passed_further _ _ _ _ _ _ q _ c.in-Passed.ensures in
     let next = stands_next c.args.self.now c.args.bytes.now c.specials.at c.specials.self c.specials.passing c.specials.invariant c.pass.new.brackets q
-        c.next-at-in-Passed.result c.next-at-in-Passed.new.self c.in-Passed.ensures (c.next-at-in-Passed.ensures q.all.len far.1) in
+    c.next-at-in-Passed.result c.next-at-in-Passed.new.self c.in-Passed.ensures (c.next-at-in-Passed.ensures q.all.len far.1) in
     ⊎_elim (λ same. rw same next) (λ closed. operators_passed _ _ _ _ _ next _ closed) c.close_passed.ensures
 
 pub returns-in-LineEnd-clause-reached : goal.returns-in-LineEnd-clause-reached
