@@ -32,7 +32,7 @@ pub fn last_operator_end(plain: &[u8]) -> usize
 }
 
 /// Passes the plain bytes before this one up to the last operator, if one stands among them. No piece is open after it.
-#[inline(never)]
+#[inline(always)]
 fn pass_operators(passing: &mut Passing, bytes: &[u8], at: usize)
     requires after { passing.old.all.len ≤ at }
     requires within { at ≤ length bytes.now }
