@@ -1,8 +1,10 @@
 //! Pieces that bytes hold whole. After closed ones they are passed at once, from one byte that isn't plain to the next.
 
-ghost use Rattle.std.specs.Prelude.{◌≡◌, ◌+◌, ◌<◌, ◌≤◌, ◌^◌, ◌⊎◌, length};
+ghost use Rattle.std.specs.Prelude.{◌≡◌, ◌+◌, ◌<◌, ◌≤◌, ◌^◌, length};
+ghost use Rattle.py_lines.specs.Private.Marks.{HasMarks};
 ghost use Rattle.py_lines.specs.Private.Run.{WhereverReached};
-ghost use Rattle.py_lines.specs.Private.WholePieces.{IsNoLonger, IsOperatorEnd, LeavesOff, PassesOperators, closed_after};
+ghost use Rattle.py_lines.specs.Private.WholePieces.{FindsSpecial, IsNoLonger, IsOperatorEnd, LeavesOff, PassesOperators};
+ghost use Rattle.py_lines.specs.Private.WholePieces.{closed_after};
 
 use crate::class::Class;
 use crate::mode::Mode;
@@ -36,7 +38,7 @@ pub fn last_operator_end(plain: &[u8]) -> usize
 fn pass_operators(passing: &mut Passing, bytes: &[u8], at: usize)
     requires after { passing.old.all.len ≤ at }
     requires within { at ≤ length bytes.now }
-    requires few { passing.old.all.line_ends ≤ at }
+    requires few { passing.old.all.line_ends ≤ passing.old.all.len }
     ensures { PassesOperators bytes.now at passing.old passing.new }
 {
     let len = last_operator_end(&bytes[passing.all.len..at]);
@@ -44,18 +46,20 @@ fn pass_operators(passing: &mut Passing, bytes: &[u8], at: usize)
     passing.pass_to(to, 0, len > 0);
 }
 
-/// The same, where what was passed has not closed itself, as an empty string.
+/// The next byte that isn't plain, or the end of the bytes. What was passed and need not have closed itself, as an empty string, is
+/// closed by the last operator before it. LF and brackets close themselves: after them that isn't asked again.
 #[inline(always)]
-fn close_passed(passing: &mut Passing, bytes: &[u8], at: usize)
-    requires after { passing.old.all.len ≤ at }
-    requires within { at ≤ length bytes.now }
-    requires few { passing.old.all.line_ends ≤ at }
-    ensures { (passing.new ≡ passing.old)
-        ⊎ PassesOperators bytes.now at passing.old passing.new }
+fn next_special(passing: &mut Passing, bytes: &[u8]) -> usize
+    requires marked { HasMarks bytes.now passing.old.all.len passing.old.marks }
+    requires few { passing.old.all.line_ends ≤ passing.old.all.len }
+    ensures { FindsSpecial bytes.now passing.old result passing.new }
 {
-    if passing.closed.len < passing.all.len {
-        pass_operators(passing, bytes, at);
+    if passing.closed.len == passing.all.len {
+        return passing.marks.next(bytes);
     }
+    let at = passing.marks.next(bytes);
+    pass_operators(passing, bytes, at);
+    at
 }
 
 impl Scan {
@@ -92,10 +96,7 @@ impl Scan {
         let mut at = passing.marks.next(bytes);
         'specials: while at < bytes.len() {
             match passing.pass(&mut self.brackets, bytes, at, self.stop + at) {
-                Special::Passed => {
-                    at = passing.marks.next(bytes);
-                    close_passed(&mut passing, bytes, at);
-                }
+                Special::Passed => at = next_special(&mut passing, bytes),
                 Special::LineEnd(len) => {
                     self.close_after(passing.all, bytes[passing.all.len - 1] == b'\r');
                     return Left::LineEnd(len);

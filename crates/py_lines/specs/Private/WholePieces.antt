@@ -1,6 +1,7 @@
 -- Whole pieces, which the scan of a line passes over: what they leave.
 use Rattle.std.specs.Prelude.{◌≡◌, ℕ, ◌+◌, ◌-◌, ◌≤◌, ◌⊎◌, Bool, true, List, length, nat_lt, take, drop, slice_index}
 use Rattle.py_lines.specs.declared.class.Class.TheVariants as class
+use Rattle.py_lines.specs.declared.marks.Marks.{Marks}
 use Rattle.py_lines.specs.declared.mode.Mode.{Mode}
 use Rattle.py_lines.specs.declared.mode.Mode.TheVariants as modes
 use Rattle.py_lines.specs.declared.passing.Passing.{Passing}
@@ -9,7 +10,7 @@ use Rattle.py_lines.specs.declared.scan.Scan.{Scan}
 use Rattle.py_lines.specs.declared.scan.Stop.TheVariants as stops
 use Rattle.py_lines.specs.declared.whole_pieces.Left.{Left}
 use Rattle.py_lines.specs.declared.whole_pieces.Left.TheVariants as left
-use Rattle.py_lines.specs.Private.Marks.{is_of_class}
+use Rattle.py_lines.specs.Private.Marks.{FindsNext, is_of_class}
 use Rattle.py_lines.specs.Private.Passing.{passed_to}
 use Rattle.py_lines.specs.Private.Run.{Reached}
 use Rattle.py_lines.specs.Private.Scan.{ScansIn}
@@ -33,6 +34,12 @@ abbrev pub PassesOperators : List ℕ → ℕ → Passing → Passing → Type 0
 PassesOperators bytes at old new =
     (len : ℕ) × IsOperatorEnd (take (at - old.all.len) (drop old.all.len bytes)) len
     × (new ≡ passed_to old (old.all.len + len) 0 (nat_lt 0 len))
+
+-- the next byte that isn't plain stands there, or the bytes end, and operators before it were passed, or none
+abbrev pub FindsSpecial : List ℕ → Passing → ℕ → Passing → Type 0
+FindsSpecial bytes old at new =
+    (marks : Marks) × FindsNext bytes old.all.len at marks
+    × ((new ≡ record old { marks = marks }) ⊎ PassesOperators bytes at (record old { marks = marks }) new)
 
 -- the scan where no piece is open after these bytes; CR may stand last
 abbrev pub closed_after : Scan → Passed → Bool → Scan

@@ -16,36 +16,25 @@ specials-init c = record {
 
 pub specials-smaller : goal.specials-smaller
 specials-smaller c =
-    let q = c.pass.new.self in
-    let far = passed_further _ _ _ _ _ _ q _ c.in-Passed.ensures in
-    let next = c.next-at-in-Passed.ensures q.all.len far.1 in
+    let far = passed_further _ _ _ _ _ _ c.pass.new.self _ c.in-Passed.ensures in
     let further = far.0 in
+    let next = c.next_special-at.ensures.1 in
     omega (arith, further, next.after, next.within)
 
-pub close_passed-requires-clause-after : goal.close_passed-requires-clause-after
-close_passed-requires-clause-after c =
-    let q = c.pass.new.self in
-    (c.next-at-in-Passed.ensures q.all.len (passed_further _ _ _ _ _ _ q _ c.in-Passed.ensures).1).after
+pub next_special-at-requires-clause-marked : goal.next_special-at-requires-clause-marked
+next_special-at-requires-clause-marked c = (passed_further _ _ _ _ _ _ c.pass.new.self _ c.in-Passed.ensures).1
 
-pub close_passed-requires-clause-within : goal.close_passed-requires-clause-within
-close_passed-requires-clause-within c =
-    let q = c.pass.new.self in
-    (c.next-at-in-Passed.ensures q.all.len (passed_further _ _ _ _ _ _ q _ c.in-Passed.ensures).1).within
-
-pub close_passed-requires-clause-few : goal.close_passed-requires-clause-few
-close_passed-requires-clause-few c =
-    let q = c.pass.new.self in
-    let far = passed_further _ _ _ _ _ _ q _ c.in-Passed.ensures in
-    few _ _ _ _ _ (stands_next c.args.self.now c.args.bytes.now c.specials.at c.specials.self c.specials.passing c.specials.invariant c.pass.new.brackets q
-    c.next-at-in-Passed.result c.next-at-in-Passed.new.self c.in-Passed.ensures (c.next-at-in-Passed.ensures q.all.len far.1))
+pub next_special-at-requires-clause-few : goal.next_special-at-requires-clause-few
+next_special-at-requires-clause-few c =
+    let so = c.in-Passed.ensures in
+    omega (arith, ap (λ (p : Passing). p.all.line_ends) so.is, ap (λ (p : Passing). p.all.len) so.is, so.over.few, few _ _ _ _ _ c.specials.invariant)
 
 pub specials-preserved : goal.specials-preserved
 specials-preserved c =
-    let q = c.pass.new.self in
-    let far = passed_further _ _ _ _ _ _ q _ c.in-Passed.ensures in
-    let next = stands_next c.args.self.now c.args.bytes.now c.specials.at c.specials.self c.specials.passing c.specials.invariant c.pass.new.brackets q
-    c.next-at-in-Passed.result c.next-at-in-Passed.new.self c.in-Passed.ensures (c.next-at-in-Passed.ensures q.all.len far.1) in
-    ⊎_elim (λ same. rw same next) (λ closed. operators_passed _ _ _ _ _ next _ closed) c.close_passed.ensures
+    let found = c.next_special-at.ensures in
+    let next = stands_next c.args.self.now c.args.bytes.now c.specials.at c.specials.self c.specials.passing c.specials.invariant c.pass.new.brackets
+    c.pass.new.self c.next_special-at.result found.0 c.in-Passed.ensures found.1 in
+    ⊎_elim (λ same. rw same next) (λ closed. operators_passed _ _ _ _ _ next _ closed) found.2
 
 pub returns-in-LineEnd-clause-reached : goal.returns-in-LineEnd-clause-reached
 returns-in-LineEnd-clause-reached c =
@@ -59,6 +48,13 @@ stands c = elim c.specials-test.branch [
   | else-specials-test w ↦ rw (w.self-is, w.passing-is) c.specials.invariant
   | then-specials-test+in-Unpassed w ↦ rw (w.self-is, w.passing-is, w.in-Unpassed.ensures.1, w.in-Unpassed.ensures.0) c.specials.invariant
 ]
+
+pub pass_operators-requires-clause-few : goal.pass_operators-requires-clause-few
+pass_operators-requires-clause-few c =
+    let on : StandsAt c.args.self.now c.args.bytes.now c.specials.at c.specials-test.self c.specials-test.passing = elim c.specials-test.branch [
+      | else-specials-test w ↦ rw (w.self-is, w.passing-is) c.specials.invariant
+      | then-specials-test+in-Unpassed w ↦ rw (w.self-is, w.passing-is, w.in-Unpassed.ensures.1, w.in-Unpassed.ensures.0) c.specials.invariant
+    ] in on.passed.few
 
 pub returns-clause-reached : goal.returns-clause-reached
 returns-clause-reached c =
