@@ -201,7 +201,6 @@ impl Scan {
     }
 
     /// Takes the next character in a string with fields.
-    #[tactic(auto, using(crate::proofs::LineScan::StringSteps::goes_on, crate::proofs::LineScan::StringSteps::closes_it, crate::proofs::LineScan::StringSteps::refuses_it))]
     fn push_in_string(&mut self, c: char) -> Progress
         requires bytes { self.old.stop + len_utf8 c < 2 ^ 64 }
         requires lines { self.old.count.line + 1 < 2 ^ 64 }
@@ -251,7 +250,6 @@ impl Scan {
     }
 
     /// Takes the next character of the line, after closed pieces or in the open one.
-    #[tactic(auto, using(crate::proofs::LineScan::NextCharacter::takes_fielded))]
     fn push(&mut self, c: char) -> Progress
         requires bytes { self.old.stop + len_utf8 c < 2 ^ 64 }
         requires lines { self.old.count.line + 1 < 2 ^ 64 }
@@ -363,7 +361,6 @@ impl Scan {
     }
 
     /// How many bytes of whole characters leave the open piece as it is, and end no line. In a string with fields they are taken there.
-    #[tactic(auto, using(crate::proofs::LineScan::Runs::held_in, crate::proofs::LineScan::Runs::string_held))]
     fn hold_run(&mut self, bytes: &[u8]) -> usize
         requires bytes { self.old.stop + length bytes.now < 2 ^ 64 }
         requires quote { HasAsciiQuote self.old.piece.mode }

@@ -7,7 +7,7 @@ use Rattle.py_lines.specs.declared.scan.Scan.{Scan}
 use Rattle.py_lines.specs.Private.Machine.{move_of}
 use Rattle.py_lines.specs.Private.ScanMachine.{meet_of}
 use Rattle.py_lines.specs.Private.Scan.{freed, in_mode, with_character, line_end_progress, stack_of, none_open, is_return_mode}
-use Rattle.py_lines.proofs.LineScan.NextCharacter.{met_so, takes_grown, takes_closed, takes_returned, takes_broken}
+use Rattle.py_lines.proofs.LineScan.NextCharacter.{met_so, takes_fielded, takes_grown, takes_closed, takes_returned, takes_broken}
 use Rattle.py_lines.proofs.LineScan.StringSteps.{no_fields}
 use Rattle.py_lines.proofs.scan.Scan.push.Goals as goal
 
@@ -15,6 +15,10 @@ pub returns-in-Free : goal.returns-in-Free
 unfolding meet_of move_of
 returns-in-Free c = λ s read on not_yet.
     takes_broken c.args.self.now s read c.args.c on c.begin.new.self (ap (λ (m : Mode). meet_of m c.args.c) (sym on.tallies.counts.mode ∙ c.in-Free.is)) not_yet c.begin.result c.begin.ensures
+
+pub returns-in-Fielded : goal.returns-in-Fielded
+returns-in-Fielded c = λ s read on not_yet.
+    takes_fielded c.args.self.now s read c.args.c on c.push_in_string.new.self c.push_in_string.result (sym on.tallies.counts.mode ∙ c.in-Fielded.is) c.push_in_string.ensures
 
 pub returns-in_default-mode : goal.returns-in_default-mode
 returns-in_default-mode c = λ s read on not_yet.
