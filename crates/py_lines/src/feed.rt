@@ -113,8 +113,10 @@ impl Feed {
     ghost use Rattle.py_lines.specs.ScannerState.View.{ready_of, scanning_of};
     ghost use Rattle.py_lines.specs.LogicalLine.{LogicalLine};
     ghost use Rattle.py_lines.specs.UnitLine.{line_in};
-    ghost use Rattle.py_lines.specs.Private.Feed.{HasRoom, IsOpen, IsHeldOpen, IsCutAt, FailsAt, ReadsTokens, ScansHeld, StopsHeld, StopsWith, IsScanned};
-    ghost use Rattle.py_lines.specs.Private.Feed.{whole_end, GivesBack, HoldsPiece, HoldsSo, TakesSo, WaitsSo, HoldsLine, IsSoundFeed, EndsText, LetsGo};
+    ghost use Rattle.py_lines.specs.Private.Feed.{HasRoom, IsOpen, IsHeldOpen, IsCutAt, FailsAt};
+    ghost use Rattle.py_lines.specs.Private.Feed.{ReadsTokens, ScansHeld, StopsHeld, StopsWith, IsScanned};
+    ghost use Rattle.py_lines.specs.Private.Feed.{whole_end, GivesBack, HoldsPiece, HoldsSo, TakesSo};
+    ghost use Rattle.py_lines.specs.Private.Feed.{WaitsSo, HoldsLine, IsSoundFeed, EndsText, LetsGo};
 
     /// At this byte of a text, which is on this line. Nothing was fed.
     pub fn at(alloc: Global, place: u64, line: u64) -> Feed

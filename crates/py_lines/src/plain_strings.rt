@@ -82,7 +82,6 @@ fn short_string(bytes: &[u8]) -> Option<Passed>
 }
 
 /// Passes a quote of the text of a string of three such quotes, with which the bytes begin, and the line end or the text after it.
-#[tactic(auto, using(crate::proofs::SimpleLines::Strings::lone_line_end_part, crate::proofs::SimpleLines::Strings::lone_text_part, crate::proofs::LineScan::Runs::quote_ascii))]
 fn lone_quote(quote: u8, bytes: &[u8]) -> Option<Passed>
     requires quote { is_quote quote ≡ true }
     requires some { 0 < length bytes.now }
@@ -108,7 +107,6 @@ fn lone_quote(quote: u8, bytes: &[u8]) -> Option<Passed>
 
 /// Passes what stands at these bytes of a string of three such quotes, after a run of its text: a line end, a quote of its text, or an
 /// escape.
-#[tactic(auto, using(crate::proofs::SimpleLines::Strings::line_end_part, crate::proofs::SimpleLines::Strings::part_of_escape))]
 fn part_of_long(quote: u8, bytes: &[u8]) -> Option<Passed>
     requires { is_quote quote ≡ true }
     ensures { PassesOrNot bytes.now result (IsInLong quote) (IsInLong quote) }
@@ -123,7 +121,6 @@ fn part_of_long(quote: u8, bytes: &[u8]) -> Option<Passed>
 }
 
 /// Passes text of a string of three such quotes: its lines up to the last block, and the run of text after them.
-#[tactic(auto, using(crate::proofs::SimpleLines::Strings::long_lines, crate::proofs::SimpleLines::Strings::text_part, crate::proofs::LineScan::Runs::quote_ascii))]
 #[inline(always)]
 fn text_of_long(quote: u8, bytes: &[u8]) -> Passed
     requires { is_quote quote ≡ true }

@@ -47,7 +47,7 @@ fn pass_operators(passing: &mut Passing, bytes: &[u8], at: usize)
 }
 
 /// The next byte that isn't plain, or the end of the bytes. What was passed and need not have closed itself, as an empty string, is
-/// closed by the last operator before it. LF and brackets close themselves: after them that isn't asked again.
+/// closed by the last operator before it, if one stands there.
 #[inline(always)]
 fn next_special(passing: &mut Passing, bytes: &[u8]) -> usize
     requires marked { HasMarks bytes.now passing.old.all.len passing.old.marks }
@@ -79,8 +79,7 @@ impl Scan {
         };
     }
 
-    /// Takes pieces, as long as they follow one another, up to the line's end. It stops at a place where all are closed. A piece that has
-    /// not closed itself, as an empty string, is closed by the next operator: else lists of such pieces would be passed again and again.
+    /// Takes pieces, as long as they follow one another, up to the line's end. It stops at a place where all are closed.
     #[inline(always)]
     pub fn take_pieces<'s>(&mut self, bytes: &'s [u8]) -> Left<'s>
         requires bytes { self.old.stop + length bytes.now < 2 ^ 64 }
@@ -96,6 +95,7 @@ impl Scan {
         let mut at = passing.marks.next(bytes);
         'specials: while at < bytes.len() {
             match passing.pass(&mut self.brackets, bytes, at, self.stop + at) {
+                // Were operators looked for at the end alone, a list of empty strings would be passed again after each comma.
                 Special::Passed => at = next_special(&mut passing, bytes),
                 Special::LineEnd(len) => {
                     self.close_after(passing.all, bytes[passing.all.len - 1] == b'\r');
