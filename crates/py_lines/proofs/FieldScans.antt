@@ -1,4 +1,4 @@
--- The scan of a string with fields keeps count of the machine with fields.
+-- What the scan of a line keeps of what is open: it follows the machine with fields.
 pub mod FrameArrays
 pub mod Frames
 pub mod Moves

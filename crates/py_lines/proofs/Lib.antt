@@ -17,13 +17,14 @@
 -- string, list and spot that the definitions call open. It is sound (proofs/FieldSoundness). What it holds, in each mode and of
 -- each field that is open, is stated for any limit on what may stand at a depth, so one proof gives two theorems: where it may
 -- end, its pieces read the text; and they are shallow if each character had room. What it holds says which lists of pieces and
--- which strings are open, and what is open can be closed, so a text is live exactly if the machine goes through it with room.
+-- which strings are open, and what is open can be closed, so a text is live exactly if the machine goes through it with room. The code
+-- goes by this machine, in mode.rt, field_mode.rt and field_scan.rt.
 --
--- That of specs/Private/ScanMachine.antt is the one that the code goes by, in mode.rt, field_mode.rt and field_scan.rt. To it a string with
--- fields is one open piece, and the machine with fields says how far that has come. It goes as that machine does (proofs/ScanMachine),
--- and so is sound, and reaches the end of what is read.
+-- That of specs/Private/ScanMachine.antt finds the pieces of a line. To it a string with fields is one open piece, and the machine with
+-- fields says how far that has come. Where one of the two has come, so has the other, and their states belong together (`IsTied`,
+-- proofs/ScanMachine/Follows): so this one is sound, and reaches the end of what is read.
 --
--- The stack of open brackets is no part of a machine's state: it is a fold over the finished pieces (`brackets_of`).
+-- In its state there is no stack of open brackets: that is a fold over the finished pieces (`brackets_of`).
 -- An operator is finished with its character, so the stack is in step with the text: one step does both (`advance`,
 -- proofs/ScanMachine/Advance), and theorems on whole texts go by it. Brackets are in pairs exactly if the stack is empty
 -- at the end (proofs/Pieces).
@@ -39,28 +40,31 @@
 -- machine goes on to the text's end or to its fault, so the lines of the whole text begin with them. A reader at the
 -- start has given none, so every text has some lexing. Settled pieces begin all pieces that read more, so their lines are final.
 --
--- The scan (proofs/LineScan): the code follows the machine through one logical line, and knows where it ends and what is
--- open in it. Where no piece is open it passes over whole pieces as over simple lines (SimpleLines/Passing), in whatever mode the line
--- began, and stands again where all of them are closed: after an operator, a string, or a line end or a join with LF (WholePieces).
--- In other pieces the characters that leave the open piece as it is are held in one step. After a line end the machine goes on as
--- it does alone, so the next line is scanned from its own start.
+-- What is open in a line (proofs/FieldScans): the scan keeps the mode, the place and the frames of the state of the machine with fields
+-- (`Follows`, specs/Private/FieldScan), and each character keeps it so (Taking, Openings). What the scan says of a fault is what that
+-- state says (FieldFaults). Characters of one piece, code of a field up to a sign, and simple text of a string, with whole fields, are
+-- taken at once (Runs). Simple text leads the machine from one place of a string to another, whatever was open before (`Leads`,
+-- specs/Private/FieldText; Texts and TextLengths).
+--
+-- The scan of one logical line (proofs/LineScan): where it has come from the line's start, both machines have (`IsUnderWay`,
+-- specs/Private/Scan). A character that ends the line in one of them does so in the other, since their states belong together
+-- (LineSteps). So the scan, which follows the machine with fields, knows where the line ends, and the other machine has its pieces. What
+-- is taken at once finishes none of these (Runs). Where no piece and no field is open the scan passes over whole pieces as over simple
+-- lines (SimpleLines/Passing), in whatever mode the line began, and stands again where all of them are closed: after an operator, a
+-- string, or a line end or a join with LF (WholePieces). A string with fields whose text is simple is passed so too (WholeStrings). After
+-- a line end the machine goes on as it does alone, so the next line is scanned from its own start.
 --
 -- The tokens of a whole line (proofs/LineTokens): they are read from its text alone, piece by piece, and so for all pieces
 -- that the text spells. Each class of pieces begins with other bytes. A word, a space or a comment is the run of bytes that
 -- the text begins with, since what follows it can't go on with it. A string is what the scan closes first: by one reading no
 -- other piece stands there. So what was read is always the first part of the line's pieces, and at the end all of them.
 --
--- The scan of a string with fields (proofs/FieldScans): what it keeps is the mode, the place and the frames of that machine's
--- state (`Follows`, specs/Private/FieldScan), and each character keeps it so. Simple text, with whole fields, leads the machine from
--- one place of a string to another (`Leads`, specs/Private/FieldText; FieldScans/Texts and TextLengths), whatever was open before: so a
--- string is taken whole (LineScan/WholeStrings), and a part of one as a run (FieldScans/Runs).
---
 -- Bytes that open or close something (proofs/SpecialBytes) are found by masks of 64 bytes.
 --
--- Simple lines (proofs/SimpleLines) are passed over from one such byte to the next. After each step (Passing) the machine of the
--- scan has gone through the line so far, and a piece is open that goes on or ends there; the word that the bytes end with is
+-- Simple lines (proofs/SimpleLines) are passed over from one such byte to the next. After each step (Passing) the machine that finds
+-- the pieces has gone through the line so far, and a piece is open that goes on or ends there; the word that the bytes end with is
 -- known from the bytes alone. Where marks alone show the end of a string or a comment, its bytes are known from them
--- (MarkedPieces). The open brackets are kept as the scan keeps them (LineScan/BracketStack). After a line end outside brackets
+-- (MarkedPieces). The open brackets are kept as frames, as the scan keeps them (LineScan/BracketStack). After a line end outside brackets
 -- the line is whole, and the machine begins the next one (Lines). That such lines are the text's next is in Readers/PassedLines,
 -- and where it comes in pieces in Feeds/PassedLines.
 --

@@ -1,9 +1,10 @@
--- The scan of one logical line follows the machine.
+-- The scan of one logical line, which goes as both machines do: where it may end, and what pieces it has.
 pub mod BracketStack
 pub mod StringSteps
 pub mod PieceEnd
 pub mod NextCharacter
 pub mod LineSteps
+pub mod OpenPieces
 pub mod TextSteps
 pub mod LineCount
 pub mod Runs

@@ -1,5 +1,4 @@
--- The machine that reads for the readers, in which a string with fields is one open piece: its steps, and its tie to the
--- machine with fields.
+-- The scanning machine, to which a string with fields is one open piece: its steps, and its tie to the machine with fields.
 pub mod Steps
 pub mod Advance
 pub mod Rebased

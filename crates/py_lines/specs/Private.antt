@@ -1,4 +1,4 @@
--- What contracts of private functions alone cite: the machine that goes through a text, the scan of one logical line,
+-- What contracts of private functions alone cite: the machines that go through a text, the scan of one logical line,
 -- and the reader of lines. No public contract names a word of these files.
 pub mod Machine
 pub mod FieldMachine

@@ -419,7 +419,7 @@ impl Feed {
             return 0;
         }
         let clear = &bytes[..before.min(bytes.len())];
-        let lines = simple_lines(&mut self.state.scan.brackets, clear);
+        let lines = simple_lines(&mut self.state.scan.inside.frames, clear);
         if !hold_after_lines(&mut self.held, clear, lines) {
             self.state.restart();
             return 0;

@@ -1,16 +1,14 @@
-//! The piece that is open in a string with fields, and what a character does to it.
+//! The piece that is open, in code or in a string with fields, and what a character does to it.
 
 ghost use Rattle.std.specs.Prelude.{◌≡◌};
 ghost use Rattle.py_lines.specs.Private.FieldMachine.{between_move, body_move, after_open_backslash};
 ghost use Rattle.py_lines.specs.Private.FieldFaults.{is_waiting, quotes_specification};
-ghost use Rattle.py_lines.specs.Private.FieldScan.{at_in, region_in, mode_from, field_move_from, keeps_byte, meets_field};
+ghost use Rattle.py_lines.specs.Private.FieldScan.{at_in, region_in, mode_from, field_move_from, is_free_mode, is_returned_mode, keeps_byte, meets_field};
 ghost use Rattle.py_lines.specs.Private.ScanMachine.{host_in};
 
-use crate::character::{
-    is_backslash, is_brace, is_break, is_line_feed, is_return, is_space, is_word_character,
-};
+use crate::character::{is_backslash, is_brace, is_break, is_line_feed, is_return};
 use crate::host::{Region, StringWithFields};
-use crate::mode::{Mode, Move, Spelling};
+use crate::mode::{Mode, Move};
 
 /// How far a string has come between two parts of its text.
 #[derive(Clone, Copy)]
@@ -29,16 +27,16 @@ pub enum At {
     AfterBrace,
 }
 
-/// The piece that is open in a string with fields.
+/// The piece that is open.
 #[derive(Clone, Copy)]
 pub enum FieldMode {
-    /// In a field's code: this piece is open.
+    /// In code, of the line or of a field: this piece is open.
     Code(Mode),
     /// In the text of a string. The flag says whether each brace stands for itself, up to the next `}`.
     Body(StringWithFields, Region, bool, At),
 }
 
-/// What a character does in a string with fields.
+/// What a character does.
 #[derive(Clone, Copy)]
 pub enum FieldMove {
     Grows(FieldMode),
@@ -127,6 +125,22 @@ fn body_move(host: StringWithFields, region: Region, named: bool, at: At, c: cha
 }
 
 impl FieldMode {
+    /// Whether no piece is open, after the text's start.
+    #[inline(always)]
+    pub fn is_free(self) -> bool
+        ensures { result ≡ is_free_mode self }
+    {
+        matches!(self, FieldMode::Code(Mode::Free))
+    }
+
+    /// Whether the open piece is the CR of a line end.
+    #[inline(always)]
+    pub fn is_return(self) -> bool
+        ensures { result ≡ is_returned_mode self }
+    {
+        matches!(self, FieldMode::Code(Mode::Return))
+    }
+
     /// Whether a `{` of a literal part stands directly before, which may open a field.
     pub fn is_waiting(self) -> bool
         ensures { result ≡ is_waiting (mode_from self) }
@@ -151,30 +165,21 @@ impl FieldMode {
         }
     }
 
-    /// Whether a byte is a character of ASCII that ends no line, and leaves the piece that is open as it is.
+    /// Whether a byte is a character of ASCII that ends no line, and leaves the string's text that is open as it is.
     pub fn keeps(self, b: u8) -> bool
         ensures { result ≡ keeps_byte self b }
     {
         let c = b as char;
-        b < 128
-            && !is_break(c)
-            && match self {
-                FieldMode::Body(host, _, _, At::Between) => {
-                    c != host.quote && !is_backslash(c) && !is_brace(c)
-                }
-                FieldMode::Code(Mode::Inside(quote) | Mode::Long(quote)) => {
-                    c != quote && !is_backslash(c)
-                }
-                FieldMode::Code(Mode::Word(Spelling::Number | Spelling::Name)) => {
-                    is_word_character(c)
-                }
-                FieldMode::Code(Mode::Space) => is_space(c),
-                FieldMode::Code(Mode::Comment) => true,
-                _ => false,
+        match self {
+            FieldMode::Body(host, _, _, At::Between) => {
+                b < 128 && !is_break(c) && c != host.quote && !is_backslash(c) && !is_brace(c)
             }
+            _ => false,
+        }
     }
 
     /// What a character does to the piece that is open.
+    #[inline(always)]
     #[tactic(auto, unfolding(crate::specs::Private::FieldScan::code_move))]
     pub fn meet(self, c: char) -> FieldMove
         ensures { field_move_from result ≡ meets_field self c }

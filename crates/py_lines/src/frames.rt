@@ -1,9 +1,26 @@
-//! What is open in a string with fields, kept without memory.
+//! The brackets and fields that are open at a place of a line, kept without memory.
+
+ghost use Rattle.std.specs.Prelude.{◌≡◌};
+ghost use Rattle.py_lines.specs.Balance.{closing_of};
 
 use crate::host::{Region, StringWithFields};
 use std::marker::Model;
 
-/// What is open in a string: a bracket in a field's code, or a field.
+/// How many brackets and fields may be open at once.
+pub const MAX_DEPTH: usize = 200;
+
+/// The bracket that closes an opening one.
+pub fn closing_of(opener: char) -> char
+    ensures { result ≡ closing_of opener }
+{
+    match opener {
+        '(' => ')',
+        '[' => ']',
+        _ => '}',
+    }
+}
+
+/// What is open: a bracket in code, or a field.
 #[derive(Clone, Copy)]
 pub enum Frame {
     /// A bracket, and the byte where it stands.
@@ -100,25 +117,29 @@ pub struct Frames {
     slots: [Slot; 200],
     /// How many they are.
     depth: u8,
+    /// How many of them are fields.
+    fields: u8,
 }
 
 // Clauses see what is open, the innermost first.
 impl Model for Frames {
     ghost use Rattle.std.specs.Prelude.{◌≡◌, ◌≤◌, List, length, take};
     ghost use Rattle.py_lines.specs.declared.frames.Frame.{Frame};
-    ghost use Rattle.py_lines.specs.Private.Frames.{AreNested, frames_in};
+    ghost use Rattle.py_lines.specs.Private.Frames.{AreNested, fields_of, frames_in};
 
     ghost Value = { List Frame };
 
     ghost view = { λ f. frames_in (take f.depth f.slots) };
 
     ghost invariant = { λ f. (length f.slots ≡ 200) × (f.depth ≤ 200)
-        × AreNested (frames_in (take f.depth f.slots)) };
+        × AreNested (frames_in (take f.depth f.slots))
+        × (f.fields ≡ fields_of (frames_in (take f.depth f.slots))) };
 }
 
 impl Frames {
     ghost use Rattle.std.specs.Prelude.{◌≡◌, ◌==◌, ◌<◌, List, [], ◌∷◌, drop, length};
-    ghost use Rattle.py_lines.specs.Private.Frames.{IsInnermostFrame, OpensIn, in_bracket, place_of};
+    ghost use Rattle.py_lines.specs.Private.Frames.{ClosesBracket, IsInnermostFrame, OpensBracket, OpensIn};
+    ghost use Rattle.py_lines.specs.Private.Frames.{has_field, place_of};
     ghost use Rattle.py_lines.specs.declared.frames.Frame.{Frame};
 
     /// Nothing is open.
@@ -137,6 +158,7 @@ impl Frames {
         Frames {
             slots: [empty; 200],
             depth: 0,
+            fields: 0,
         }
     }
 
@@ -145,9 +167,11 @@ impl Frames {
         ensures { self.new ≡ [] }
     {
         self.depth = 0;
+        self.fields = 0;
     }
 
     /// Whether nothing is open.
+    #[inline(always)]
     pub fn is_empty(&self) -> bool
         ensures { result ≡ (length self.now == 0) }
     {
@@ -162,6 +186,14 @@ impl Frames {
         self.depth as usize
     }
 
+    /// Whether a field is open.
+    #[inline(always)]
+    pub fn has_field(&self) -> bool
+        ensures { result ≡ has_field self.now }
+    {
+        self.fields > 0
+    }
+
     /// What was opened last and is still open.
     pub fn innermost(&self) -> Option<Frame>
         ensures { IsInnermostFrame result self.now }
@@ -170,13 +202,6 @@ impl Frames {
             return None;
         }
         Some(self.slots[self.depth as usize - 1].frame())
-    }
-
-    /// Whether it is a bracket that was opened last.
-    pub fn in_bracket(&self) -> bool
-        ensures { result ≡ in_bracket self.now }
-    {
-        matches!(self.innermost(), Some(Frame::Bracket(_, _)))
     }
 
     /// The byte of what was opened last, if something is open.
@@ -188,6 +213,7 @@ impl Frames {
     }
 
     /// Opens a bracket or a field.
+    #[inline(always)]
     pub fn push(&mut self, frame: Frame)
         requires room { length self.old < 200 }
         requires opens { OpensIn frame self.old }
@@ -195,14 +221,52 @@ impl Frames {
     {
         self.slots[self.depth as usize] = Slot::of(frame);
         self.depth += 1;
+        if let Frame::Field(_) = frame {
+            self.fields += 1;
+        }
     }
 
     /// Closes the innermost, if something is open.
+    #[inline(always)]
     pub fn pop(&mut self)
         ensures rest { self.new ≡ drop 1 self.old }
         ensures nested { (frame : Frame) (others : List Frame)
             → self.old ≡ frame ∷ others → OpensIn frame others }
     {
+        let Some(frame) = self.innermost() else {
+            return;
+        };
         self.depth = self.depth.saturating_sub(1);
+        match frame {
+            Frame::Bracket(_, _) => {}
+            Frame::Field(_) => self.fields = self.fields.saturating_sub(1),
+        }
+    }
+
+    /// Opens a bracket at this byte, if there is room for it.
+    #[inline(always)]
+    pub fn open(&mut self, opener: char, place: usize) -> bool
+        ensures { OpensBracket self.old opener place result self.new }
+    {
+        if self.len() >= MAX_DEPTH {
+            return false;
+        }
+        self.push(Frame::Bracket(opener, place));
+        true
+    }
+
+    /// Closes the bracket that is innermost, if this closes it.
+    #[inline(always)]
+    pub fn close(&mut self, closer: char) -> bool
+        ensures { ClosesBracket self.old closer result self.new }
+    {
+        let Some(Frame::Bracket(opener, _)) = self.innermost() else {
+            return false;
+        };
+        if closer != closing_of(opener) {
+            return false;
+        }
+        self.pop();
+        true
     }
 }

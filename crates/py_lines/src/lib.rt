@@ -1,7 +1,6 @@
 //! The logical lines of a Python text, with their tokens.
 #![tactic(auto)]
 
-mod brackets;
 mod character;
 mod class;
 mod count;

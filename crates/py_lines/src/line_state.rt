@@ -41,7 +41,6 @@ impl LineState {
     ghost use Rattle.py_lines.specs.Private.LineTokens.{HoldsTokens, IsLineText};
 
     /// At this byte of a text, which is on this line. Nothing of the next line is read.
-    #[tactic(auto, using(crate::proofs::LineScan::StringSteps::first_plain))]
     pub fn at(alloc: Global, place: u64, line: u64) -> LineState
         ensures { BeginsAt place line result }
     {
@@ -74,7 +73,6 @@ impl LineState {
     }
 
     /// Begins the scan of the next line anew.
-    #[tactic(auto, using(crate::proofs::LineScan::StringSteps::first_plain))]
     pub fn restart(&mut self)
         ensures { BeginsAnew self.old self.new }
     {
@@ -88,10 +86,8 @@ impl LineState {
         ensures same { self.new ≡ with_tokens self.old self.new }
         ensures tokens { OnOk result (HoldsTokens text.now self.old.line self.new.tokens) }
     {
-        let (piece, stop) = (self.scan.piece, self.scan.stop);
-        let (line, count) = (self.scan.line, self.scan.count);
+        let (stop, line, count) = (self.scan.stop, self.scan.line, self.scan.count);
         let read = self.tokens.read(&mut self.scan, text, self.line);
-        self.scan.piece = piece;
         self.scan.stop = stop;
         self.scan.line = line;
         self.scan.count = count;

@@ -1,4 +1,4 @@
-//! The machine that reads a text one character at a time.
+//! The piece of code that is open, and what a character does to it.
 
 ghost use Rattle.std.specs.Prelude.{◌≡◌, ◌<◌, ◌==◌, ◌||◌, ◌&&◌, if◌then◌else◌, length};
 ghost use Rattle.py_lines.specs.Private.Machine.{first_spelling, spelling_with, short_move, long_move};
@@ -36,7 +36,7 @@ pub enum Spelling {
     Name,
 }
 
-/// The piece that is open, and how far it has come. A `char` is the quote of the string.
+/// The piece of code that is open, and how far it has come. A `char` is the quote of the string.
 #[derive(Clone, Copy)]
 pub enum Mode {
     /// At the text's start, where a mark may stand.
@@ -68,7 +68,8 @@ pub enum Mode {
     FieldOpened(StringWithFields),
     /// After two quotes of a string with fields.
     FieldEmpty(StringWithFields),
-    /// In a string with fields that holds something, or that three quotes begin. How far it has come, its `FieldScan` says.
+    /// In a string with fields that holds something, or that three quotes begin, for definitions to which that is one piece. In the code it
+    /// is a `FieldMode::Body`.
     Fielded,
     /// After a backslash outside strings and comments.
     Backslash,
@@ -279,7 +280,7 @@ impl Mode {
         matches!(self, Mode::Backslash)
     }
 
-    /// What the next character does to the open piece. In a string with fields its `FieldScan` says it.
+    /// What the next character does to the open piece, which is no string with fields that holds something.
     #[tactic(auto, unfolding(crate::specs::Private::Machine::move_of, crate::specs::Private::ScanMachine::meet_of))]
     pub fn meet(self, c: char) -> Move
         ensures { result ≡ meet_of self c }

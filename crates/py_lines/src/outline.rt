@@ -5,8 +5,8 @@ ghost use Rattle.py_lines.specs.Character.{is_quote};
 ghost use Rattle.py_lines.specs.Private.Marks.{is_of_class};
 ghost use Rattle.py_lines.specs.Private.Outline.{BeginWithLines, HasOuterEnd, PassesPiece, PassesStringAt};
 
-use crate::brackets::Brackets;
 use crate::class::Class;
+use crate::frames::Frames;
 use crate::passing::{Passing, Special};
 use crate::plain_strings::{Passed, line_end_len, plain_string};
 use crate::prefix::Prefix;
@@ -92,16 +92,16 @@ pub fn piece(bytes: &[u8], class: Class, at: usize) -> Option<PassedPiece>
 }
 
 /// The logical lines that the bytes begin with, as long as they are simple: words of ASCII, operators, comments, joins, strings and
-/// line ends. No line is open before the bytes. The brackets are those of the line after them, as far as it was passed.
-pub fn simple_lines(brackets: &mut Brackets, bytes: &[u8]) -> Passed
+/// line ends. No line is open before the bytes. `frames` is lent for what is open in a line.
+pub fn simple_lines(frames: &mut Frames, bytes: &[u8]) -> Passed
     ensures { BeginWithLines bytes.now result }
 {
-    brackets.clear();
+    frames.clear();
     let mut passing = Passing::new(bytes);
     let mut lines = passing.all;
     let mut at = passing.marks.next(bytes);
     'specials: while at < bytes.len() {
-        match passing.pass(brackets, bytes, at, at - lines.len) {
+        match passing.pass(frames, bytes, at, at - lines.len) {
             Special::Passed => {}
             Special::LineEnd(_) => lines = passing.all,
             Special::Unpassed => return lines,

@@ -7,9 +7,9 @@ ghost use Rattle.py_lines.specs.Private.Passing.{IsLineEndAt, IsMet, PassesMarke
 ghost use Rattle.py_lines.specs.Private.Passing.{nothing_passed, passed_to};
 ghost use Rattle.py_lines.specs.declared.marks.Marks.{Marks};
 
-use crate::brackets::Brackets;
 use crate::character::is_break;
 use crate::class::Class;
+use crate::frames::Frames;
 use crate::marks::Marks;
 use crate::outline::{outer_end_len, piece};
 use crate::plain_strings::Passed;
@@ -74,23 +74,17 @@ impl Passing {
     /// Passes the line end of so many bytes at this byte, where the bytes after it are marked. Whether LF is the last of them has to be
     /// told: after CR alone the scan has a piece open.
     #[inline(always)]
-    fn pass_line_end(
-        &mut self,
-        brackets: &Brackets,
-        at: usize,
-        len: usize,
-        by_feed: bool,
-    ) -> Special
+    fn pass_line_end(&mut self, frames: &Frames, at: usize, len: usize, by_feed: bool) -> Special
         requires some { 0 < len }
         requires fits { at + len < 2 ^ 64 }
         requires few { self.old.all.line_ends ≤ at }
         ensures { (bytes : List ℕ) (place : ℕ) (marks : Marks)
             → IsLineEndAt bytes at len by_feed → HasMarks bytes (at + len) self.old.marks
-            → PassesSpecial bytes at place (record self.old { marks = marks }) brackets.now result
-            self.new brackets.now }
+            → PassesSpecial bytes at place (record self.old { marks = marks }) frames.now result
+            self.new frames.now }
     {
         self.pass_to(at + len, 1, by_feed);
-        if brackets.is_empty() {
+        if frames.is_empty() {
             Special::LineEnd(len)
         } else {
             Special::Passed
@@ -99,19 +93,19 @@ impl Passing {
 
     /// Passes the CR at this byte, and LF after it, if a byte follows.
     #[inline(always)]
-    fn pass_return(&mut self, brackets: &Brackets, bytes: &[u8], at: usize) -> Special
+    fn pass_return(&mut self, frames: &Frames, bytes: &[u8], at: usize) -> Special
         requires within { at < length bytes.now }
         requires marked { HasMarks bytes.now (at + 1) self.old.marks }
         requires few { self.old.all.line_ends ≤ at }
         ensures { (place : ℕ)
-            → PassesSpecial bytes.now at place self.old brackets.now result self.new brackets.now }
+            → PassesSpecial bytes.now at place self.old frames.now result self.new frames.now }
     {
         let Some(len) = outer_end_len(&bytes[at..]) else {
             return Special::Unpassed;
         };
         self.marks.pass(bytes, at + len);
         let by_feed = bytes[at + len - 1] == b'\n';
-        self.pass_line_end(brackets, at, len, by_feed)
+        self.pass_line_end(frames, at, len, by_feed)
     }
 
     /// Passes the bracket at this byte, if it may stand there.
@@ -196,15 +190,15 @@ impl Passing {
     /// Passes the comment, the join or the string that begins at this byte, where so few brackets are open that there is room for
     /// all that a string with fields opens.
     #[inline(always)]
-    fn pass_piece(&mut self, brackets: &Brackets, bytes: &[u8], class: Class, at: usize) -> Special
+    fn pass_piece(&mut self, frames: &Frames, bytes: &[u8], class: Class, at: usize) -> Special
         requires within { at < length bytes.now }
         requires class { is_of_class class (slice_index bytes.now at) ≡ true }
         requires marked { HasMarks bytes.now (at + 1) self.old.marks }
         requires few { self.old.all.line_ends ≤ at }
         ensures { (place : ℕ)
-            → PassesSpecial bytes.now at place self.old brackets.now result self.new brackets.now }
+            → PassesSpecial bytes.now at place self.old frames.now result self.new frames.now }
     {
-        if brackets.len() > MAX_DEPTH_AROUND_STRING {
+        if frames.len() > MAX_DEPTH_AROUND_STRING {
             return Special::Unpassed;
         }
         if self.pass_marked(bytes, class, at) {
@@ -221,31 +215,25 @@ impl Passing {
 
     /// Passes the byte at this place, which is not plain, or the piece that it begins. In its line it stands at the byte `place`.
     #[inline(always)]
-    pub fn pass(
-        &mut self,
-        brackets: &mut Brackets,
-        bytes: &[u8],
-        at: usize,
-        place: usize,
-    ) -> Special
+    pub fn pass(&mut self, frames: &mut Frames, bytes: &[u8], at: usize, place: usize) -> Special
         requires within { at < length bytes.now }
         requires marked { HasMarks bytes.now (at + 1) self.old.marks }
         requires few { self.old.all.line_ends ≤ at }
-        ensures { PassesSpecial bytes.now at place self.old brackets.old result
-            self.new brackets.new }
+        ensures { PassesSpecial bytes.now at place self.old frames.old result
+            self.new frames.new }
     {
         match Class::of(bytes[at]) {
-            Class::LineFeed => self.pass_line_end(brackets, at, 1, true),
-            Class::Return => self.pass_return(brackets, bytes, at),
+            Class::LineFeed => self.pass_line_end(frames, at, 1, true),
+            Class::Return => self.pass_return(frames, bytes, at),
             Class::Opening => {
-                let met = brackets.open(bytes[at] as char, place);
+                let met = frames.open(bytes[at] as char, place);
                 self.pass_bracket(met, at)
             }
             Class::Closing => {
-                let met = brackets.close(bytes[at] as char);
+                let met = frames.close(bytes[at] as char);
                 self.pass_bracket(met, at)
             }
-            class => self.pass_piece(brackets, bytes, class, at),
+            class => self.pass_piece(frames, bytes, class, at),
         }
     }
 }

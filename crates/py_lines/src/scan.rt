@@ -1,46 +1,27 @@
 //! The scan of one logical line: where it ends, and what is open in it.
 
-ghost use Rattle.std.specs.Prelude.{◌≡◌, ◌+◌, ◌<◌, ◌≤◌, ◌^◌, ◌&&◌, not, true, false, Some, [], length};
+ghost use Rattle.std.specs.Prelude.{◌≡◌, ◌+◌, ◌<◌, ◌≤◌, ◌^◌, ◌&&◌, not, [], length};
 ghost use Rattle.std.specs.Char.{len_utf8};
 ghost use Rattle.py_lines.specs.Character.{is_line_feed};
 ghost use Rattle.py_lines.specs.LogicalLine.{byte_len, line_ends};
-ghost use Rattle.py_lines.specs.Piece.{Piece, string, begins};
+ghost use Rattle.py_lines.specs.Piece.{Piece, string};
 ghost use Rattle.py_lines.specs.Private.LineTokens.{BeginWithPiece, BeginWithString};
-ghost use Rattle.py_lines.specs.Private.Machine.{start_of, character_kind};
-ghost use Rattle.py_lines.specs.Private.FieldMachine.{FieldScanned};
-ghost use Rattle.py_lines.specs.Private.FieldScan.{IsInPlace};
-ghost use Rattle.py_lines.specs.Private.ScanMachine.{IsScanSound, meet_of};
-ghost use Rattle.py_lines.specs.Private.Scan.{TakesNext, with_character, Begins, Tallies, line_end_progress, freed};
-ghost use Rattle.py_lines.specs.Private.Scan.{IsStacked, Scans, ScansIn, line_start, is_returned, none_open, stack_of};
-ghost use Rattle.py_lines.specs.Private.Scan.{refused_place, IsRefusal};
-ghost use Rattle.py_lines.specs.Private.Scan.{IsUnfinished, IsPlainUnfinished, StandsInString, TakesInString, in_mode};
-ghost use Rattle.py_lines.specs.Private.Run.{WhereverReached, is_free, HoldsLongText, HoldsRun, HeldIn};
-ghost use Rattle.py_lines.specs.Private.Run.{HasAsciiQuote, Reached, ReachedInSomeLine};
+ghost use Rattle.py_lines.specs.Private.FieldScan.{EndsField, IsInPlace, RefusesField};
+ghost use Rattle.py_lines.specs.Private.ScanMachine.{IsScanSound};
+ghost use Rattle.py_lines.specs.Private.Scan.{HasBegun, Scans, ScansIn, TakesNext, freed, is_returned, line_start};
+ghost use Rattle.py_lines.specs.Private.Run.{HasAsciiQuoteOpen, HoldsLongText, HoldsRun, Reached, ReachedInSomeLine, WhereverReached};
 ghost use Rattle.py_lines.specs.declared.mode.Mode.{Mode};
-ghost use Rattle.py_lines.specs.declared.mode.Mode.TheVariants.{Fielded, Free};
-ghost use Rattle.py_lines.specs.declared.mode.Move.TheVariants.{Breaks, Grows};
+ghost use Rattle.py_lines.specs.declared.mode.Mode.TheVariants.{Free};
 
-use crate::brackets::Brackets;
-use crate::character::{is_closing, is_line_feed, is_opening};
+use crate::character::is_line_feed;
 use crate::count::Count;
 use crate::fault::FaultKind;
-use crate::field_scan::{FieldProgress, FieldScan};
-use crate::host::StringWithFields;
-use crate::mode::{Mode, Move, Start};
-use crate::run::{characters_in, long_text};
+use crate::field_mode::FieldMode;
+use crate::field_scan::{FieldScan, Progress};
+use crate::mode::Mode;
+use crate::run::long_text;
 use crate::utf8::first_character;
 use crate::whole_pieces::Left;
-
-/// What a character came to.
-#[derive(Clone, Copy)]
-pub enum Progress {
-    /// It was taken, and the line goes on.
-    Going,
-    /// The line ended with it: so many bytes are its line end.
-    LineEnded(usize),
-    /// It may not come next.
-    Refused,
-}
 
 /// Where the scan of a line stopped.
 #[derive(Clone, Copy)]
@@ -62,74 +43,42 @@ pub struct LineFault {
     pub place: usize,
 }
 
-/// The piece that is open.
-#[derive(Clone, Copy)]
-pub struct OpenPiece {
-    /// What it is, as far as it goes.
-    pub mode: Mode,
-    /// The byte from the line's start at which it begins.
-    pub start: usize,
-}
-
 /// What is known of the line so far. Places are bytes from the line's start.
 #[derive(Drop)]
 pub struct Scan {
-    /// The piece that is open.
-    pub piece: OpenPiece,
+    /// What is open where it stops.
+    pub inside: FieldScan,
     /// Where it stops, and how far the line was scanned.
     pub stop: usize,
     /// The line on which the scan began, from 1.
     pub line: u64,
     /// The line that it has reached.
     pub count: Count,
-    /// The brackets that are open.
-    pub brackets: Brackets,
-    /// How far the string with fields has come, if one is open that holds something.
-    pub fields: FieldScan,
 }
 
 impl Scan {
     /// At the start of a line.
-    #[tactic(auto, using(crate::proofs::LineScan::StringSteps::counts_nothing))]
     pub fn new(mode: Mode, line: u64) -> Scan
-        requires { mode ≡ Fielded → ⊥ }
-        ensures start { Tallies result (line_start mode) }
-        ensures stacked { IsStacked result (line_start mode) }
+        ensures start { HasBegun mode result }
         ensures line { result.line ≡ line }
     {
         Scan {
-            piece: OpenPiece { mode, start: 0 },
+            inside: FieldScan::new(mode),
             stop: 0,
             line,
             count: Count::from(line),
-            brackets: Brackets::new(),
-            fields: FieldScan::new(),
         }
     }
 
     /// Begins a line anew.
-    #[tactic(auto, using(crate::proofs::LineScan::StringSteps::counts_nothing))]
     pub fn restart(&mut self, mode: Mode, line: u64)
-        requires { mode ≡ Fielded → ⊥ }
-        ensures start { Tallies self.new (line_start mode) }
-        ensures stacked { IsStacked self.new (line_start mode) }
+        ensures start { HasBegun mode self.new }
         ensures line { self.new.line ≡ line }
     {
-        self.piece = OpenPiece { mode, start: 0 };
+        self.inside.restart(mode);
         self.stop = 0;
         self.line = line;
         self.count = Count::from(line);
-        self.brackets.clear();
-    }
-
-    /// One more character is read.
-    pub fn read(&mut self, c: char)
-        requires bytes { self.old.stop + len_utf8 c < 2 ^ 64 }
-        requires lines { self.old.count.line + 1 < 2 ^ 64 }
-        ensures { self.new ≡ with_character self.old c }
-    {
-        self.stop += c.len_utf8();
-        self.count.push(c);
     }
 
     /// No piece is open any longer: the next one begins where the scan has come to.
@@ -137,149 +86,23 @@ impl Scan {
     pub fn free(&mut self)
         ensures { self.new ≡ freed self.old }
     {
-        self.piece = OpenPiece {
-            mode: Mode::Free,
-            start: self.stop,
-        };
-    }
-
-    /// Whether a line end ends the line here: no bracket is open.
-    pub fn ends_line(&self) -> bool
-        ensures { result ≡ none_open (stack_of self.now.brackets) }
-    {
-        self.brackets.is_empty()
-    }
-
-    /// What a line end of so many bytes comes to: in brackets the line goes on.
-    fn line_end(&self, len: usize) -> Progress
-        ensures { result ≡ line_end_progress (none_open (stack_of self.now.brackets)) len }
-    {
-        if self.ends_line() {
-            Progress::LineEnded(len)
-        } else {
-            Progress::Going
-        }
-    }
-
-    /// Takes a character that begins a piece after the open one.
-    fn begin(&mut self, c: char) -> Progress
-        requires bytes { self.old.stop + len_utf8 c < 2 ^ 64 }
-        requires lines { self.old.count.line + 1 < 2 ^ 64 }
-        ensures { Begins self.old c (start_of c) result self.new }
-    {
-        match Start::of(c) {
-            Start::Open(mode) => {
-                self.free();
-                self.grow(mode, c);
-                Progress::Going
-            }
-            Start::Operator => {
-                if !self.brackets.meet(c, self.stop) {
-                    return Progress::Refused;
-                }
-                self.read(c);
-                self.free();
-                Progress::Going
-            }
-            Start::LineEnd => {
-                self.read(c);
-                self.free();
-                self.line_end(1)
-            }
-            Start::Nothing => Progress::Refused,
-        }
-    }
-
-    /// Takes a character that goes on in the open piece.
-    fn grow(&mut self, mode: Mode, c: char)
-        requires bytes { self.old.stop + len_utf8 c < 2 ^ 64 }
-        requires lines { self.old.count.line + 1 < 2 ^ 64 }
-        ensures { self.new ≡ in_mode (with_character self.old c) mode }
-    {
-        self.read(c);
-        self.piece.mode = mode;
-    }
-
-    /// Takes the next character in a string with fields.
-    fn push_in_string(&mut self, c: char) -> Progress
-        requires bytes { self.old.stop + len_utf8 c < 2 ^ 64 }
-        requires lines { self.old.count.line + 1 < 2 ^ 64 }
-        requires placed { IsInPlace self.old.fields }
-        ensures { (t : FieldScanned)
-            → StandsInString self.old t → TakesInString self.old t c result self.new }
-    {
-        match self.fields.push(c, self.stop, self.brackets.len()) {
-            FieldProgress::Going => {
-                self.grow(Mode::Fielded, c);
-                Progress::Going
-            }
-            FieldProgress::Closed => {
-                self.read(c);
-                self.free();
-                Progress::Going
-            }
-            FieldProgress::Refused => Progress::Refused,
-        }
-    }
-
-    /// Takes the character with which a string with fields holds something, or has its three quotes.
-    #[tactic(auto, using(crate::proofs::LineScan::NextCharacter::enters_after))]
-    fn enter_string(&mut self, c: char) -> Progress
-        requires bytes { self.old.stop + len_utf8 c < 2 ^ 64 }
-        requires lines { self.old.count.line + 1 < 2 ^ 64 }
-        requires enters { meet_of self.old.piece.mode c ≡ Grows Fielded }
-        ensures { TakesNext self.old c result self.new }
-    {
-        match self.piece.mode {
-            Mode::FieldOpened(host) => {
-                self.fields.begin(host, self.piece.start);
-                self.push_in_string(c)
-            }
-            Mode::FieldEmpty(host) => {
-                let long = StringWithFields {
-                    quote: host.quote,
-                    is_long: true,
-                    is_raw: host.is_raw,
-                };
-                self.fields.begin(long, self.piece.start);
-                self.grow(Mode::Fielded, c);
-                Progress::Going
-            }
-            _ => unreachable!(),
-        }
+        self.inside.free(self.stop);
     }
 
     /// Takes the next character of the line, after closed pieces or in the open one.
     fn push(&mut self, c: char) -> Progress
         requires bytes { self.old.stop + len_utf8 c < 2 ^ 64 }
         requires lines { self.old.count.line + 1 < 2 ^ 64 }
-        requires placed { self.old.piece.mode ≡ Fielded → IsInPlace self.old.fields }
+        requires placed { IsInPlace self.old.inside }
         ensures { TakesNext self.old c result self.new }
     {
-        match self.piece.mode {
-            Mode::Free => self.begin(c),
-            Mode::Fielded => self.push_in_string(c),
-            _ => match self.piece.mode.meet(c) {
-                Move::Grows(mode) => {
-                    if let Mode::Fielded = mode {
-                        return self.enter_string(c);
-                    }
-                    self.grow(mode, c);
-                    Progress::Going
-                }
-                Move::Closes => {
-                    let returned = self.piece.mode.is_return();
-                    self.read(c);
-                    self.free();
-                    if returned {
-                        self.line_end(2)
-                    } else {
-                        Progress::Going
-                    }
-                }
-                Move::Breaks => self.begin(c),
-                Move::Refused => Progress::Refused,
-            },
+        match self.inside.push(c, self.stop) {
+            Progress::Refused => Progress::Refused,
+            taken => {
+                self.stop += c.len_utf8();
+                self.count.push(c);
+                taken
+            }
         }
     }
 
@@ -287,7 +110,7 @@ impl Scan {
     pub fn is_returned(&self) -> bool
         ensures { result ≡ is_returned self.now }
     {
-        self.piece.mode.is_return() && self.ends_line()
+        self.inside.mode.is_return() && self.inside.frames.is_empty()
     }
 
     /// Whether the line ended before `c`, with the CR just read.
@@ -298,87 +121,26 @@ impl Scan {
     }
 
     /// What is wrong where `c` is refused.
-    #[tactic(auto, using(crate::proofs::LineScan::StringSteps::refusal_in))]
     pub fn refusal(&self, c: char) -> LineFault
-        ensures { IsRefusal self.now c result }
+        ensures { RefusesField self.now.inside c self.now.stop result }
     {
-        match self.piece.mode {
-            Mode::Fielded => self.fields.refusal(c, self.stop, self.brackets.len()),
-            _ => self.plain_refusal(c),
-        }
-    }
-
-    /// The same outside strings with fields. An open short string and a backslash are at fault themselves.
-    fn plain_refusal(&self, c: char) -> LineFault
-        ensures kind { result.kind ≡ character_kind self.now.piece.mode c }
-        ensures place { result.place ≡ refused_place self.now }
-    {
-        let (kind, place) = if self.piece.mode.in_short() {
-            (FaultKind::OpenString, self.piece.start)
-        } else if self.piece.mode.is_after_backslash() {
-            (FaultKind::BadJoin, self.piece.start)
-        } else if is_closing(c) {
-            (FaultKind::WrongClose, self.stop)
-        } else if is_opening(c) {
-            (FaultKind::TooDeep, self.stop)
-        } else {
-            (FaultKind::BadChar, self.stop)
-        };
-        LineFault { kind, place }
+        self.inside.refusal(c, self.stop)
     }
 
     /// What is wrong where the text ends here, if it may not: what is open.
-    #[tactic(auto, using(crate::proofs::LineScan::StringSteps::unfinished_in))]
     pub fn unfinished(&self) -> Option<LineFault>
-        ensures { IsUnfinished self.now result }
+        ensures { EndsField self.now.inside self.now.stop result }
     {
-        match self.piece.mode {
-            Mode::Fielded => Some(self.fields.unfinished(self.stop, self.brackets.len())),
-            _ => self.plain_unfinished(),
-        }
+        self.inside.unfinished(self.stop)
     }
 
-    /// The same outside strings with fields: an open string, a backslash, or else an open bracket.
-    fn plain_unfinished(&self) -> Option<LineFault>
-        ensures { IsPlainUnfinished self.now result }
-    {
-        let kind = if self.piece.mode.in_short() {
-            FaultKind::OpenString
-        } else if self.piece.mode.in_long() {
-            FaultKind::OpenTriple
-        } else if self.piece.mode.is_after_backslash() {
-            FaultKind::BadJoin
-        } else {
-            return self.brackets.innermost().map(|bracket| LineFault {
-                kind: FaultKind::OpenBracket,
-                place: bracket.place,
-            });
-        };
-        Some(LineFault {
-            kind,
-            place: self.piece.start,
-        })
-    }
-
-    /// How many bytes of whole characters leave the open piece as it is, and end no line. In a string with fields they are taken there.
-    fn hold_run(&mut self, bytes: &[u8]) -> usize
-        requires bytes { self.old.stop + length bytes.now < 2 ^ 64 }
-        requires quote { HasAsciiQuote self.old.piece.mode }
-        ensures { HeldIn self.old bytes.now result self.new }
-    {
-        match self.piece.mode {
-            Mode::Fielded => self.fields.hold(self.brackets.len(), self.stop, bytes),
-            mode => characters_in(mode, bytes),
-        }
-    }
-
-    /// Takes the characters that leave the open piece as it is, and answers the bytes after them.
+    /// Takes characters that end no line, as one run, and answers the bytes after them.
     fn hold<'s>(&mut self, bytes: &'s [u8]) -> &'s [u8]
         requires bytes { self.old.stop + length bytes.now < 2 ^ 64 }
-        requires quote { HasAsciiQuote self.old.piece.mode }
+        requires quote { HasAsciiQuoteOpen self.old.inside.mode }
         ensures { HoldsRun self.old bytes.now result.now self.new }
     {
-        let len = self.hold_run(bytes);
+        let len = self.inside.hold(self.stop, bytes);
         if len > 0 {
             self.stop += len;
             self.count.after_return = false;
@@ -390,12 +152,12 @@ impl Scan {
     fn hold_lines<'s>(&mut self, bytes: &'s [u8]) -> &'s [u8]
         requires bytes { self.old.stop + length bytes.now < 2 ^ 64 }
         requires lines { self.old.count.line + length bytes.now < 2 ^ 64 }
-        requires quote { HasAsciiQuote self.old.piece.mode }
+        requires quote { HasAsciiQuoteOpen self.old.inside.mode }
         ensures { HoldsLongText self.old bytes.now result.now self.new }
     {
-        match self.piece.mode {
+        match self.inside.mode {
             // LF after CR ends no line of its own.
-            Mode::Long(quote) if !self.count.after_return => {
+            FieldMode::Code(Mode::Long(quote)) if !self.count.after_return => {
                 let lines = long_text(quote as u8, bytes);
                 self.stop += lines.len;
                 self.count.line += lines.line_ends;
@@ -405,10 +167,10 @@ impl Scan {
         }
     }
 
-    /// Takes characters of ASCII in the string with fields that is open, if one is, as long as it goes on. Answers the bytes after
-    /// them.
-    #[inline(always)]
-    fn take_in_string<'s>(&mut self, bytes: &'s [u8]) -> &'s [u8]
+    /// Takes characters of ASCII in a string with fields, as long as a field of it is open. Answers the bytes after them. It is apart from
+    /// the loop over pieces, so that this one stays small.
+    #[inline(never)]
+    fn take_in_fields<'s>(&mut self, bytes: &'s [u8]) -> &'s [u8]
         requires way { ReachedInSomeLine self.old bytes.now }
         requires bytes { self.old.stop + length bytes.now < 2 ^ 64 }
         requires lines { self.old.line + self.old.stop + length bytes.now + 1 < 2 ^ 64 }
@@ -417,11 +179,11 @@ impl Scan {
         ensures shorter { length result.now ≤ length bytes.now }
     {
         let mut rest = bytes;
-        'characters: while let Mode::Fielded = self.piece.mode {
+        'characters: while self.inside.frames.has_field() {
             if rest.is_empty() || rest[0] >= 128 {
                 return rest;
             }
-            match self.push_in_string(rest[0] as char) {
+            match self.push(rest[0] as char) {
                 Progress::Going => rest = self.hold(&rest[1..]),
                 _ => return rest,
             }
@@ -456,8 +218,10 @@ impl Scan {
             match self.push(c) {
                 Progress::Going => {
                     let more = self.hold_lines(&left[len..]);
-                    let held = self.hold(more);
-                    rest = self.take_in_string(held);
+                    rest = self.hold(more);
+                    if self.inside.frames.has_field() {
+                        rest = self.take_in_fields(rest);
+                    }
                 }
                 Progress::LineEnded(len) => return Stop::LineEnd(len),
                 Progress::Refused => return Stop::Refused(c),
@@ -465,20 +229,9 @@ impl Scan {
         }
     }
 
-    /// Whether the open piece, if there is one, ends before `c`.
-    fn ends_piece_before(&self, c: char) -> bool
-        ensures ends { result ≡ true
-            → (is_free self.now.piece.mode ≡ false) × (meet_of self.now.piece.mode c ≡ Breaks) }
-        ensures goes { result ≡ false
-            → is_free self.now.piece.mode ≡ false → ¬ (meet_of self.now.piece.mode c ≡ Breaks) }
-    {
-        !self.piece.mode.is_free() && matches!(self.piece.mode.meet(c), Move::Breaks)
-    }
-
     /// Takes the string that the bytes begin with, at the start of a line.
     pub fn take_first(&mut self, bytes: &[u8])
-        requires start { Tallies self.old (line_start Free) }
-        requires stacked { IsStacked self.old (line_start Free) }
+        requires start { HasBegun Free self.old }
         requires string { BeginWithString bytes.now }
         requires bytes { length bytes.now < 2 ^ 63 }
         requires line { self.old.line ≡ 1 }
@@ -490,12 +243,12 @@ impl Scan {
             let Some(c) = first_character(rest) else {
                 return;
             };
-            if self.ends_piece_before(c) {
+            if self.inside.ends_before(c) {
                 return;
             }
             // No character of a string is refused, and after the last one no piece is open.
             self.push(c);
-            if self.piece.mode.is_free() {
+            if self.inside.is_settled() {
                 return;
             }
             rest = self.hold(&rest[c.len_utf8()..]);
@@ -504,11 +257,10 @@ impl Scan {
 
     /// Scans a text that begins a line, up to the line's end, the text's end, or a character that is refused.
     pub fn scan_text(&mut self, text: &str) -> Stop
-        requires start { Tallies self.old (line_start self.old.piece.mode) }
-        requires stacked { IsStacked self.old (line_start self.old.piece.mode) }
-        requires sound { IsScanSound (line_start self.old.piece.mode) [] }
+        requires start { (m : Mode) × HasBegun m self.old × IsScanSound (line_start m) [] }
         requires lines { self.old.line + length text.now + 1 < 2 ^ 64 }
-        ensures stops { Scans self.old.piece.mode text.now self.new result }
+        ensures stops { (m : Mode) → HasBegun m self.old → IsScanSound (line_start m) []
+            → Scans m text.now self.new result }
         ensures line { self.new.line ≡ self.old.line }
     {
         let stop = self.extend(text.as_bytes());

@@ -176,7 +176,7 @@ impl<'t> Source<'t> {
             return 0;
         }
         let bytes = &self.characters.as_bytes()[place..before];
-        let lines = simple_lines(&mut self.state.scan.brackets, bytes);
+        let lines = simple_lines(&mut self.state.scan.inside.frames, bytes);
         let line = self.state.line + lines.line_ends;
         self.state.pass(lines.len, line);
         lines.len

@@ -7,10 +7,9 @@ ghost use Rattle.py_lines.specs.Private.WholePieces.{FindsSpecial, IsNoLonger, I
 ghost use Rattle.py_lines.specs.Private.WholePieces.{closed_after};
 
 use crate::class::Class;
-use crate::mode::Mode;
 use crate::passing::{Passing, Special};
 use crate::plain_strings::Passed;
-use crate::scan::{OpenPiece, Scan};
+use crate::scan::Scan;
 
 /// What whole pieces leave.
 #[derive(Clone, Copy)]
@@ -73,10 +72,7 @@ impl Scan {
         self.stop += passed.len;
         self.count.line += passed.line_ends;
         self.count.after_return = after_return;
-        self.piece = OpenPiece {
-            mode: Mode::Free,
-            start: self.stop,
-        };
+        self.free();
     }
 
     /// Takes pieces, as long as they follow one another, up to the line's end. It stops at a place where all are closed.
@@ -88,13 +84,13 @@ impl Scan {
         ensures reached { WhereverReached self.old bytes.now
             (λ m line whole. LeavesOff m line whole self.new result) }
     {
-        if !self.piece.mode.is_free() || bytes.is_empty() {
+        if !self.inside.mode.is_free() || self.inside.frames.has_field() || bytes.is_empty() {
             return Left::Bytes(bytes);
         }
         let mut passing = Passing::new(bytes);
         let mut at = passing.marks.next(bytes);
         'specials: while at < bytes.len() {
-            match passing.pass(&mut self.brackets, bytes, at, self.stop + at) {
+            match passing.pass(&mut self.inside.frames, bytes, at, self.stop + at) {
                 // Were operators looked for at the end alone, a list of empty strings would be passed again after each comma.
                 Special::Passed => at = next_special(&mut passing, bytes),
                 Special::LineEnd(len) => {

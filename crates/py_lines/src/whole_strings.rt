@@ -10,8 +10,8 @@ ghost use Rattle.py_lines.specs.Private.FieldText.{HasSimpleCode, HasBracketed, 
 ghost use Rattle.py_lines.specs.Private.FieldText.{HasQuotedText, HasSpecification, HasText};
 ghost use Rattle.py_lines.specs.Private.FieldText.{is_code_bracket, is_escaped};
 
-use crate::brackets::closing_of;
 use crate::character::{is_brace, is_break, is_quote};
+use crate::frames::closing_of;
 use crate::run::{ByteRun, is_ascii_word};
 
 /// How many brackets may be open round a string that is taken or passed over at once.

@@ -51,7 +51,6 @@ Reason m c refused = Refuses m c
 Reason m c (begins_code host) = is_waiting m ≡ true
 Reason m c (opens_field host) = (c ≡ 123) × (text_place m ≡ specification)
 Reason m c ends_field = (c ≡ 125) × (text_place m ≡ specification)
-Reason m c breaks = in_open_short m ≡ false
 Reason m c other = Unit {0}
 
 not_break : (c : ℕ) → is_line_feed c ≡ false → is_return c ≡ false → is_break c ≡ false
@@ -78,7 +77,6 @@ moved_reason limit outer depth host place m held c (opens_field h) at short quot
 moved_reason limit outer depth host place m held c ends_field at short quoted quotes moved = (moved.1, at ∙ moved.0)
 moved_reason limit outer depth host place m held c refused at short quoted quotes (inl (break, is_short)) = inl (break, short is_short)
 moved_reason limit outer depth host place m held c refused at short quoted quotes (inr (there, same)) = inr (inr (quoted there same, ap is_quote same ∙ quotes))
-moved_reason limit outer depth host place m held c breaks at short quoted quotes moved = absurd moved
 moved_reason limit outer depth host place m held c v at short quoted quotes moved = tt
 
 -- so in its body
@@ -97,7 +95,7 @@ reason limit outer depth (plain m) held c holds = cond_both (begins_host m held 
 reason limit outer depth (opened host) held c holds =
     cond_both (c == host.quote) _ _ (Reason (opened host) c) (λ h. tt)
     (λ other. moved_reason limit outer depth host literal (opened host) held c (body_move host literal false between c) refl (λ short. inl refl) (λ there. not_specification there) holds.1 (opened_moves limit outer depth host held c holds other))
-reason limit outer depth (empty host) held c holds = cond_both (c == host.quote) _ breaks (Reason (empty host) c) (λ h. tt) (λ h. refl)
+reason limit outer depth (empty host) held c holds = cond_both (c == host.quote) _ breaks (Reason (empty host) c) (λ h. tt) (λ h. tt)
 reason limit outer depth (body host place named after_brace) held c holds =
     cond_both (c == 123) _ _ (Reason (body host place named after_brace) c) (λ k. tt) (λ k. ap (λ p. is_waiting (body host p named after_brace)) holds.2)
 reason limit outer depth (body host place named at) held c holds =
@@ -201,13 +199,6 @@ not_second : (host : Host) (named : Bool) (held : List ℕ) (c : ℕ) → ((n : 
 unfolding field_move body_move
 not_second host named held c = cond_both (c == 123) (grows (body host literal named between)) (begins_code host) (λ v. ((n : FieldMode) → v ≡ grows n → ⊥) → c == 123 ≡ false) (λ h none. absurd (none _ refl)) (λ other none. other)
 
--- where a short string is open, no `{` waits, and neither a backslash nor a specification is open
-short_alone : (m : FieldMode) → in_open_short m ≡ true → (is_waiting m ≡ false) × (after_open_backslash m ≡ false) × ((c : ℕ) → quotes_specification m c ≡ false)
-short_alone (plain modes.Backslash) short = absurd (both_ways _ refl short)
-short_alone (body host literal named after_brace) short = absurd (both_ways _ refl short)
-short_alone (body host specification named at) short = absurd (both_ways _ refl short)
-short_alone m short = (refl, refl, λ c. refl)
-
 module _ (read : List ℕ) (s : FieldScanned) (steps : field_steps_from (Some field_text_start) read ≡ Some s) (room : have_room (Some field_text_start) read ≡ true) where
   -- where a cause fits, its byte is that of the state
   pub place_is : (cause : Cause) (c offset : ℕ) → Explains cause read c offset → offset ≡ cause_place s cause
@@ -239,7 +230,7 @@ code_room false depth full few fewer = absurd (fewer (ltb-false depth 200 full))
 -- Why a character is stuck, where no `{` waits at depth 200: it begins no piece, or a bracket too deep; it opens a field too deep; it
 -- is the `}` of a specification; or it is refused.
 data Why (s : FieldScanned) (c : ℕ) : Type 0 where
-  begins : (outer : List Level) (ps : List Piece) (os : List ℕ) → field_step s c ≡ field_started outer ps os c (start_of c) → (field_step s c ≡ None) ⊎ ((is_opening c ≡ true) × (length os + levels_open outer ≡ 200)) → (in_open_short s.mode ≡ true → ⊥) → Why s c
+  begins : (outer : List Level) (ps : List Piece) (os : List ℕ) → field_step s c ≡ field_started outer ps os c (start_of c) → (field_step s c ≡ None) ⊎ ((is_opening c ≡ true) × (length os + levels_open outer ≡ 200)) → Why s c
   deep_field : (h : Host) → field_move s.mode s.held c ≡ opens_field h → frames s ≡ 200 → Why s c
   closes_field : c ≡ 125 → text_place s.mode ≡ specification → Why s c
   refuses : Refuses s.mode c → Why s c
@@ -283,12 +274,12 @@ module _ (s : FieldScanned) (read : List ℕ) (c : ℕ) (after : List ℕ) (step
       go : (v : FieldMove) → field_move s.mode s.held c ≡ v → IsStuck s c → Why s c
       go (grows n) is at = absurd (no_grows n is)
       go closes is at = absurd (goes_free s _ c closes is refl refl stuck)
-      go breaks is (inl none) = Why.begins s.outer (field_pieces s) s.openers (ap (field_moved s c) is) (inl none) (both_ways _ (reason_is breaks is))
-      go breaks is (inr full) = Why.begins s.outer (field_pieces s) s.openers (ap (field_moved s c) is) (inr (begun_room (is_opening c) (frames s) (sym (ap (has_room_at (frames s) c) is) ∙ full) few)) (both_ways _ (reason_is breaks is))
-      go (begins_code h) is (inl none) = Why.begins (opened_level s h literal s.held ∷ s.outer) [] [] (ap (field_moved s c) is) (inl none) (λ short. both_ways _ (short_alone s.mode short).0 (reason_is (begins_code h) is))
+      go breaks is (inl none) = Why.begins s.outer (field_pieces s) s.openers (ap (field_moved s c) is) (inl none)
+      go breaks is (inr full) = Why.begins s.outer (field_pieces s) s.openers (ap (field_moved s c) is) (inr (begun_room (is_opening c) (frames s) (sym (ap (has_room_at (frames s) c) is) ∙ full) few))
+      go (begins_code h) is (inl none) = Why.begins (opened_level s h literal s.held ∷ s.outer) [] [] (ap (field_moved s c) is) (inl none)
       go (begins_code h) is (inr full) =
           let room = code_room (is_opening c) (frames s) (sym (ap (has_room_at (frames s) c) is) ∙ full) few (not_deep shallow (reason_is (begins_code h) is)) in
-          Why.begins (opened_level s h literal s.held ∷ s.outer) [] [] (ap (field_moved s c) is) (inr (room.0, omega (arith, room.1))) (λ short. both_ways _ (short_alone s.mode short).0 (reason_is (begins_code h) is))
+          Why.begins (opened_level s h literal s.held ∷ s.outer) [] [] (ap (field_moved s c) is) (inr (room.0, omega (arith, room.1)))
       go (opens_field h) is (inl none) = absurd (none_some (sym none ∙ ap (field_moved s c) is))
       go (opens_field h) is (inr full) = Why.deep_field h is (omega (arith, few, ltb-false (frames s) 200 (sym (ap (has_room_at (frames s) c) is) ∙ full)))
       go ends_field is at = Why.closes_field (reason_is ends_field is).0 (reason_is ends_field is).1
@@ -300,25 +291,13 @@ module _ (s : FieldScanned) (read : List ℕ) (c : ℕ) (after : List ℕ) (step
   short_here shallow break = by (why shallow)
     where
       by : Why s c → IsShortHere s.mode
-      by (Why.begins outer ps os step (inl none) apart) = absurd (break_starts outer ps os c break (sym step ∙ none))
-      by (Why.begins outer ps os step (inr (opens, full)) apart) = absurd (both_ways _ (break-not-others c break).0 opens)
+      by (Why.begins outer ps os step (inl none)) = absurd (break_starts outer ps os c break (sym step ∙ none))
+      by (Why.begins outer ps os step (inr (opens, full))) = absurd (both_ways _ (break-not-others c break).0 opens)
       by (Why.deep_field h is full) = absurd (both_ways _ (break-not-others c break).0 (ap is_opening (reason_is (opens_field h) is).0))
       by (Why.closes_field brace at) = absurd (both_ways _ (break-not-others c break).1 (ap is_closing brace))
       by (Why.refuses (inl (at, short))) = short
       by (Why.refuses (inr (inl (slash, other)))) = absurd (both_ways _ other break)
       by (Why.refuses (inr (inr (same, quotes)))) = absurd (both_ways _ (break-not-others c break).2 quotes)
-
-  -- and in a short string nothing else is
-  pub only_breaks : in_open_short s.mode ≡ true → is_break c ≡ true
-  only_breaks short = by (why (ap (λ b. b && (frames s == 200)) (short_alone s.mode short).0))
-    where
-      by : Why s c → is_break c ≡ true
-      by (Why.begins outer ps os step none apart) = absurd (apart short)
-      by (Why.deep_field h is full) = not_specification (sym ((short_unfinished s.outer s.openers s.mode short).1) ∙ (reason_is (opens_field h) is).1)
-      by (Why.closes_field brace at) = not_specification (sym ((short_unfinished s.outer s.openers s.mode short).1) ∙ at)
-      by (Why.refuses (inl (break, at))) = break
-      by (Why.refuses (inr (inl (slash, other)))) = absurd (both_ways _ (short_alone s.mode short).1 slash)
-      by (Why.refuses (inr (inr (same, quotes)))) = absurd (both_ways _ ((short_alone s.mode short).2 c) same)
 
   -- a line end that is refused
   break_fits : is_deep ≡ false → is_break c ≡ true → (offset : ℕ) × BreaksString read c offset
@@ -346,8 +325,8 @@ module _ (s : FieldScanned) (read : List ℕ) (c : ℕ) (after : List ℕ) (step
   opening_fits shallow no_break no_slash no_closing opens = by (why shallow)
     where
       by : Why s c → (offset : ℕ) × OpensTooDeep read c offset
-      by (Why.begins outer ps os step (inl none) apart) = absurd (none_some (sym none ∙ step ∙ started s read c sound steps outer ps os opens))
-      by (Why.begins outer ps os step (inr (also, full)) apart) =
+      by (Why.begins outer ps os step (inl none)) = absurd (none_some (sym none ∙ step ∙ started s read c sound steps outer ps os opens))
+      by (Why.begins outer ps os step (inr (also, full))) =
           (byte_len read, record { opens = opens; deep = inl (bracket_at s read c sound steps outer ps os opens (step ∙ started s read c sound steps outer ps os opens) full); place = refl })
       by (Why.deep_field h is full) =
           (byte_len read, record { opens = opens; deep = inr ((reason_is (opens_field h) is).0, opens_due s.mode h (reason_is (opens_field h) is).1 is sound full); place = refl })

@@ -16,7 +16,6 @@ use Rattle.py_lines.proofs.Pieces.PieceLists.{spelled-append, piece}
 use Rattle.py_lines.proofs.Faults.EndFaults.{final_by, IsDeepBrace, EndsSo, brace_open, open_in}
 use Rattle.py_lines.proofs.FieldMachine.Runs.{NoLimit, Goes, steps_of}
 use Rattle.py_lines.proofs.FieldMachine.OpenLists.{pieces_run, list_runs}
-use Rattle.py_lines.proofs.Machine.ReadingSteps.{MayBegin}
 use Rattle.py_lines.proofs.LogicalLines.Cuts.{byte_len-append}
 use Rattle.py_lines.proofs.FieldSoundness.OpenEnds.{long_mode}
 use Rattle.py_lines.proofs.Fields.Parts.{some_head}
@@ -24,9 +23,8 @@ use Rattle.py_lines.proofs.FieldMachine.ListBrackets.{openers_through-append, op
 use Rattle.py_lines.specs.Private.FieldFaults.{unfinished_code, unfinished_in, unfinished_at, is_waiting, unfinished_literal, here, piece_start}
 use Rattle.py_lines.specs.Reading.{IsBalancedReading}
 use Rattle.py_lines.specs.declared.fault.FaultKind.{FaultKind}
-use Rattle.py_lines.proofs.FieldMachine.Completeness.{reading_reached}
+use Rattle.py_lines.proofs.FieldMachine.Completeness.{reading_reached, may_begin}
 use Rattle.py_lines.proofs.FieldMachine.WhatIsOpen.{Comes, comes_to, short_open_comes, long_open_comes, backslash_comes, SpecificationAt, specification_comes, CodeAt, in_code, at_brace, code_comes, brace_comes}
-use Rattle.py_lines.proofs.FieldMachine.ListBrackets.{none_some}
 use Rattle.py_lines.proofs.FieldMachine.OpenStrings.{HasOpened}
 use Rattle.py_lines.proofs.FieldSoundness.Holds.{IsFieldSound}
 use Rattle.py_lines.proofs.FieldSoundness.HostSteps.{sound_at}
@@ -139,15 +137,11 @@ opener_text p h = go p.class p.text h
     go operator (c ∷ cs) is = (c, cs, refl)
     go other text is = absurd (both_ways _ refl is)
 
-may_begin_none : (ps : List Piece) → MayBegin ps []
-may_begin_none [] = refl
-may_begin_none (p ∷ ps) = tt
-
 pub bracket_back : (characters start : List ℕ) (s : FieldScanned) → InOpenBracket characters start → field_steps_from (Some field_text_start) characters ≡ Some s → (unfinished_at s ≡ Some open_bracket) × IsPlaced open_bracket s (byte_len start)
 bracket_back characters start s is steps =
     let pieces = is.outer ++ is.opener ∷ is.inner in
     let list = list_runs is.outside (spelled pieces) is.depth is.list in
-    let run = pieces_run list.outer is.depth pieces [] list.deep is.begun (may_begin_none pieces) in
+    let run = pieces_run list.outer is.depth pieces [] list.deep is.begun (may_begin pieces) in
     let t : FieldScanned = field_state list.outer run.done run.after run.mode run.held in
     let text = opener_text is.opener is.opens in
     let head = some_head (spelled is.outer) text.0 (text.1 ++ spelled is.inner) in

@@ -17,8 +17,9 @@ use Rattle.py_lines.specs.LogicalLine.{LogicalLine, byte_len}
 use Rattle.py_lines.specs.ScannerState.{GoesOnWith}
 use Rattle.py_lines.specs.declared.mode.Move.{Move}
 use Rattle.py_lines.specs.Private.Machine.{Scanned, Bracket, brackets_of, moved, move_of}
-use Rattle.py_lines.specs.Private.ScanMachine.{meet_of, scan_step}
-use Rattle.py_lines.specs.Private.Scan.{line_start, IsNotEnded, IsUnderWay, is_returned, none_open, is_return_mode, stack_of, stack_if, IsRefusal}
+use Rattle.py_lines.specs.Private.ScanMachine.{IsScanSound, meet_of, scan_step}
+use Rattle.py_lines.specs.Private.Scan.{line_start, IsNotEnded, IsUnderWay, is_returned, none_open, is_return_mode, stack_if}
+use Rattle.py_lines.specs.Private.FieldScan.{RefusesField}
 use Rattle.py_lines.specs.Private.LineState.{IsFaultAfter, first_mode}
 use Rattle.py_lines.specs.Private.Feed.{IsDecidedAt, Fault, FaultKind, Scan, LineState, LineFault, Mode, AreFirstLines}
 use Rattle.py_lines.proofs.Text.Utf8Prefixes.{nothing_bad, scalars_more, spell_more}
@@ -34,7 +35,7 @@ use Rattle.py_lines.proofs.Lexings.LinePrefix.{HasPrefix, refused_at_character, 
 use Rattle.py_lines.proofs.Lexings.DecidedFaults.{decided_lexing}
 use Rattle.py_lines.proofs.Lexings.FirstLines.{base_lines}
 use Rattle.py_lines.proofs.LogicalLines.Cuts.{byte_len-append}
-use Rattle.py_lines.proofs.LineScan.LineSteps.{way_stop}
+use Rattle.py_lines.proofs.LineScan.LineSteps.{way_returned}
 use Rattle.py_lines.proofs.LineScan.NextCharacter.{closed_one_line}
 use Rattle.py_lines.proofs.LineScan.TextSteps.{base_of, begun_sound, way_goes, Joined, joined, dead_at}
 use Rattle.py_lines.proofs.Readers.LineFaults.{Within, refused_fault}
@@ -46,8 +47,8 @@ end_return : (m : Mode) (st : List Bracket) → is_return_mode m && none_open st
 end_return Mode.Return st not_yet is = not_yet
 end_return m st not_yet is = absurd (cc)
 
-pub way_open : (m : Mode) (scan : Scan) (read : List ℕ) (way : IsUnderWay m scan read) → is_returned scan ≡ false → way.state.mode ≡ Mode.Return → none_open (stack_of scan.brackets) ≡ false
-way_open m scan read way not_yet = end_return way.state.mode (stack_of scan.brackets) (ap (λ (n : Mode). is_return_mode n && none_open (stack_of scan.brackets)) (sym way.tallies.counts.mode) ∙ not_yet)
+pub way_open : {m : Mode} {scan : Scan} {read : List ℕ} (way : IsUnderWay m scan read) → IsScanSound (line_start m) [] → is_returned scan ≡ false → way.state.mode ≡ Mode.Return → none_open way.brackets ≡ false
+way_open way start not_yet = end_return way.state.mode way.brackets (sym (way_returned way start) ∙ not_yet)
 
 -- a CR that a line ends with isn't refused its next character
 open_return : (m : Mode) (done : List Piece) (held : List ℕ) (c : ℕ) (st : List Bracket) → brackets_of done ≡ Some st → stack_if (scan_step (scanned done m held) c) ≡ None → (is_return_mode m && none_open st) && not (is_line_feed c) ≡ false → m ≡ Mode.Return → none_open st ≡ false
@@ -86,8 +87,8 @@ module _ (text : List ℕ) (state : LineState) (lines : List LogicalLine) (read 
 
   module _ (way : IsUnderWay (first_mode state.place) state.scan read) (not_yet : is_returned state.scan ≡ false) where
     -- the machine over the whole text so far, in which the lines given end a line
-    abbrev pub joined_here : Joined k.base read way.state (stack_of state.scan.brackets) k.more
-    joined_here = of.joins text state.place state.line lines read rest k way.state (stack_of state.scan.brackets) (way_goes way)
+    abbrev pub joined_here : Joined k.base read way.state way.brackets k.more
+    joined_here = of.joins text state.place state.line lines read rest k way.state way.brackets (way_goes way)
 
     pub prefix_of : HasPrefix joined_here.state k.base
     prefix_of = record {
@@ -95,7 +96,7 @@ module _ (text : List ℕ) (state : LineState) (lines : List LogicalLine) (read 
       spell = joined_here.pieces;
       reading = of.reading text state.place state.line lines read rest k;
       ended = k.ended;
-      none = closed_one_line way.state.mode way.state.done way.state.held (stack_of state.scan.brackets) way.stacked way.one_line (way_open (first_mode state.place) state.scan read way not_yet);
+      none = closed_one_line way.state.mode way.state.done way.state.held way.brackets way.stacked way.one_line (way_open way (begun_sound state.place) not_yet);
     }
 
     -- bytes that begin no character are left
@@ -106,7 +107,7 @@ module _ (text : List ℕ) (state : LineState) (lines : List LogicalLine) (read 
           go : (left : List ℕ) → rest ≡ left → IsLexedToFault (of.bytes text state.place state.line lines read rest k) lines fault
           go [] none = absurd (omega (arith, some, ap length none))
           go (d ∷ ds) is =
-              let stop = way_stop (first_mode state.place) state.scan read way (begun_sound state.place) in
+              let stop = way.counts.stop in
               let known = of.bytes text state.place state.line lines read rest k in
               let decodes = subst (λ t. Decodes known (spelled k.base ++ read) t) is (of.decodes text state.place state.line lines read rest k bad) in
               subst (λ l. IsLexedToFault known l fault) (sym k.cut)
@@ -127,10 +128,10 @@ module _ (text : List ℕ) (state : LineState) (lines : List LogicalLine) (read 
   abbrev all_known : List ℕ
   all_known = of.bytes text state.place state.line lines (read ++ c ∷ []) [] k
 
-  decided_character : (way : IsUnderWay (first_mode state.place) state.scan read) → stack_if (scan_step way.state c) ≡ None → IsNotEnded state.scan c → (line_fault : LineFault) → IsRefusal state.scan c line_fault → (fault : Fault) (w : Within read line_fault.place) → IsFaultAfter state line_fault.kind line_fault.place (encode_utf8_all w.prefix) fault → Decides all_known fault × IsLexed all_known lines (Some fault)
+  decided_character : (way : IsUnderWay (first_mode state.place) state.scan read) → stack_if (scan_step way.state c) ≡ None → IsNotEnded state.scan c → (line_fault : LineFault) → RefusesField state.scan.inside c state.scan.stop line_fault → (fault : Fault) (w : Within read line_fault.place) → IsFaultAfter state line_fault.kind line_fault.place (encode_utf8_all w.prefix) fault → Decides all_known fault × IsLexed all_known lines (Some fault)
   decided_character way refuses not_yet line_fault is_line_fault fault w at =
       let s = way.state in
-      let st = stack_of state.scan.brackets in
+      let st = way.brackets in
       let level = of.level text state.place state.line lines (read ++ c ∷ []) [] k in
       let strings = of.strings text state.place state.line lines (read ++ c ∷ []) [] k in
       let fit : AreReadBefore k.base (read ++ c ∷ k.more) = subst (AreReadBefore k.base) (append_assoc read (c ∷ []) k.more) k.fit in
@@ -139,7 +140,7 @@ module _ (text : List ℕ) (state : LineState) (lines : List LogicalLine) (read 
       let characters = spelled k.base ++ (read ++ c ∷ []) in
       let spell : (spelled k.base ++ read) ++ c ∷ [] ≡ characters = append_assoc (spelled k.base) read (c ∷ []) in
       let decodes : Decodes all_known characters [] = of.decodes text state.place state.line lines (read ++ c ∷ []) [] k nothing_bad in
-      let open_yet = open_return s.mode s.done s.held c st way.stacked refuses (ap (λ (m : Mode). (is_return_mode m && none_open st) && not (is_line_feed c)) (sym way.tallies.counts.mode) ∙ not_yet) in
+      let open_yet = open_return s.mode s.done s.held c st way.stacked refuses (ap (λ b. b && not (is_line_feed c)) (sym (way_returned way (begun_sound state.place))) ∙ not_yet) in
       let prefix : HasPrefix j.state k.base = record { others = pieces_at s; spell = j.pieces; reading = of.reading text state.place state.line lines (read ++ c ∷ []) [] k; ended = k.ended; none = closed_one_line s.mode s.done s.held st way.stacked way.one_line open_yet } in
       let alone : AreReadBefore k.base (read ++ c ∷ []) = subst (AreReadBefore k.base) (append-nil (read ++ c ∷ [])) (of.read_then k.base (read ++ c ∷ []) k.more [] (λ none. omega (arith, ap length none, length-append read (c ∷ []))) k.fit) in
       let found = refused_fault state.place k.base level strings base state.scan read way c [] alone refuses line_fault is_line_fault in
@@ -164,7 +165,7 @@ decided_whole text place lines n most fault within both = record {
 module _ (text : List ℕ) (state : LineState) (lines : List LogicalLine) (held read rest : List ℕ) (first : AreFirstLines text state.place state.line lines) (goes : GoesOnWith text state.place held) (scalars : all_scalars read ≡ true) (spell : encode_utf8_all read ++ rest ≡ held)
     (way : IsUnderWay (first_mode state.place) state.scan read) where
   -- the next one is refused
-  pub by_character : (c : ℕ) (after : List ℕ) → IsScalar c → rest ≡ encode_utf8 c ++ after → stack_if (scan_step way.state c) ≡ None → IsNotEnded state.scan c → (line_fault : LineFault) → IsRefusal state.scan c line_fault → (fault : Fault) (w : Within read line_fault.place) → IsFaultAfter state line_fault.kind line_fault.place (encode_utf8_all w.prefix) fault → IsDecidedAt text state.place lines (length held) fault
+  pub by_character : (c : ℕ) (after : List ℕ) → IsScalar c → rest ≡ encode_utf8 c ++ after → stack_if (scan_step way.state c) ≡ None → IsNotEnded state.scan c → (line_fault : LineFault) → RefusesField state.scan.inside c state.scan.stop line_fault → (fault : Fault) (w : Within read line_fault.place) → IsFaultAfter state line_fault.kind line_fault.place (encode_utf8_all w.prefix) fault → IsDecidedAt text state.place lines (length held) fault
   by_character c after scalar is refuses not_yet line_fault is_line_fault fault w at =
       let more = read ++ c ∷ [] in
       let all : encode_utf8_all more ++ after ≡ held = spell_more read after held c (ap (λ t. encode_utf8_all read ++ t) (sym is) ∙ spell) in

@@ -8,13 +8,14 @@ use Rattle.py_lines.specs.Reading.{Decodes, IsBalancedReading}
 use Rattle.py_lines.specs.Lexed.{IsLexed, IsLexedToFault}
 use Rattle.py_lines.specs.LogicalLine.{LogicalLine, cut, byte_len, line_of}
 use Rattle.py_lines.specs.Private.Machine.{Scanned, is_final}
-use Rattle.py_lines.specs.Private.Scan.{line_start, is_returned, IsUnderWay, stack_of, IsUnfinished}
+use Rattle.py_lines.specs.Private.Scan.{line_start, is_returned, IsUnderWay}
+use Rattle.py_lines.specs.Private.FieldScan.{EndsField}
 use Rattle.py_lines.specs.Private.LineState.{IsFaultAfter, first_mode}
 use Rattle.py_lines.proofs.Text.Utf8Prefixes.{nothing_bad}
 use Rattle.py_lines.proofs.Machine.PieceSteps.{pieces_at}
 use Rattle.py_lines.proofs.ScanMachine.Advance.{GoesTo, RunsTo}
 use Rattle.py_lines.proofs.ScanMachine.Reaching.{reading_at}
-use Rattle.py_lines.proofs.LineScan.TextSteps.{way_goes}
+use Rattle.py_lines.proofs.LineScan.TextSteps.{stands_on, way_goes}
 use Rattle.py_lines.proofs.Lexings.LinePrefix.{refused_at_end}
 use Rattle.py_lines.proofs.Readers.LineFaults.{Within, unfinished_fault}
 use Rattle.py_lines.proofs.Feeds.Known as of
@@ -34,7 +35,7 @@ module _ (text : List ℕ) (state : LineState) (lines : List LogicalLine) (read 
   all_decoded none = subst (λ t. Decodes t (spelled k.base ++ read) []) all (subst (λ t. Decodes (of.bytes text state.place state.line lines read rest k) (spelled k.base ++ read) t) none (of.decodes text state.place state.line lines read rest k (subst StartsWithNoChar (sym none) nothing_bad)))
 
   -- the text may not end there
-  pub ended_unfinished : is_returned state.scan ≡ false → rest ≡ [] → 0 < byte_len read → (line_fault : LineFault) → IsUnfinished state.scan (Some line_fault) → (fault : Fault) (w : Within read line_fault.place) → IsFaultAfter state line_fault.kind line_fault.place (encode_utf8_all w.prefix) fault → IsLexed text lines (Some fault)
+  pub ended_unfinished : is_returned state.scan ≡ false → rest ≡ [] → 0 < byte_len read → (line_fault : LineFault) → EndsField state.scan.inside state.scan.stop (Some line_fault) → (fault : Fault) (w : Within read line_fault.place) → IsFaultAfter state line_fault.kind line_fault.place (encode_utf8_all w.prefix) fault → IsLexed text lines (Some fault)
   ended_unfinished not_yet none some line_fault is_line_fault fault w at =
       let j = joined_here text state lines read rest k way not_yet in
       let found = unfinished_fault state.place k.base (of.level text state.place state.line lines read rest k) (of.strings text state.place state.line lines read rest k) (of.stands text state.place state.line lines read rest k) state.scan read way (of.read_then k.base read k.more [] (λ nothing. omega (arith, some, ap byte_len nothing)) k.fit) some line_fault is_line_fault in
@@ -46,12 +47,13 @@ module _ (text : List ℕ) (state : LineState) (lines : List LogicalLine) (read 
       (line_after text state lines read rest k line_fault.kind line_fault.place fault w at))
 
   -- the text's last line
-  pub ended_line : rest ≡ [] → stack_of state.scan.brackets ≡ [] → is_final way.state.mode ≡ true → 0 < byte_len read → cut 0 (pieces_at way.state) ≡ pieces_at way.state ∷ [] → IsLexed text (lines ++ line_of state.place state.line (pieces_at way.state) ∷ []) None
+  pub ended_line : rest ≡ [] → way.brackets ≡ [] → is_final way.state.mode ≡ true → 0 < byte_len read → cut 0 (pieces_at way.state) ≡ pieces_at way.state ∷ [] → IsLexed text (lines ++ line_of state.place state.line (pieces_at way.state) ∷ []) None
   ended_line none empty final some one =
       let u = pieces_at way.state in
       let j = of.joins text state.place state.line lines read rest k way.state [] (subst (GoesTo (line_start (first_mode state.place)) read way.state) empty (way_goes way)) in
       let characters = spelled k.base ++ read in
-      let reading = reading_at characters j.state (subst (RunsTo characters j.state) (j.same some).1 j.steps) (ap (λ (t : Scanned). is_final t.mode) (j.same some).0 ∙ final) in
+      let same = stands_on k.base read way.state j.state [] j.st some j.stands in
+      let reading = reading_at characters j.state (subst (RunsTo characters j.state) same.1 j.steps) (ap (λ (t : Scanned). is_final t.mode) same.0 ∙ final) in
       let pieces = subst (λ l. IsBalancedReading l characters) j.pieces reading in
       record {
         characters = characters;

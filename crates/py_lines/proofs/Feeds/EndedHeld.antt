@@ -1,27 +1,26 @@
 -- The text ends with what is held: its last line, or the fault that stands there.
-use Rattle.std.proofs.Common.{◌≡◌, ℕ, ◌+◌, ◌-◌, ◌<◌, ◌≤◌, true, false, None, Some, Ok, Err, List, [], ◌++◌, length, inl, inr, refl, sym, ap}
-use Rattle.std.proofs.Common.{◌∙◌, subst, append-nil, arith, Option, drop, length-drop, encode_utf8_all, is_some}
+use Rattle.std.proofs.Common.{◌≡◌, ℕ, ◌+◌, ◌-◌, ◌<◌, ◌≤◌, true, false, None, Some, Ok, Err, List, [], ◌++◌, length, inl, inr, refl, sym, ap, ◌∙◌, subst, append-nil, arith, Option, drop, length-drop, encode_utf8_all, is_some}
 use Rattle.std.proofs.lemmas.Bool.{and_parts}
 use Rattle.std.proofs.lemmas.List.{nil_from_length, take_all}
 use Rattle.py_lines.specs.LogicalLine.{LogicalLine, byte_len}
 use Rattle.py_lines.specs.Lexed.{IsLexed}
 use Rattle.py_lines.specs.ScannerState.{IsScanning, WhereWhole, fed_of, EndsScan, Finishes, ScannerState}
 use Rattle.py_lines.specs.Private.Machine.{is_final}
-use Rattle.py_lines.specs.Private.Scan.{is_returned, is_return_mode, none_open, stack_of, line_start, IsUnfinished, IsUnderWay}
+use Rattle.py_lines.specs.Private.Scan.{is_returned, is_return_mode, none_open, line_start, IsUnderWay}
+use Rattle.py_lines.specs.Private.FieldScan.{EndsField}
 use Rattle.py_lines.specs.Private.LineState.{IsEndLineFault, first_mode}
 use Rattle.py_lines.specs.Private.Run.{Reached}
-use Rattle.py_lines.specs.Private.Feed.{EndsText, FailsAt, Holds, IsScanned, HasEndedText, HasReadTokens, HasRoom, HoldsSo, IsHeldOpen}
-use Rattle.py_lines.specs.Private.Feed.{IsSoundFeed, ReadsTokens, ScansHeld, StandsSo, StopsHeld, StopsWith, line_held, with_line}
-use Rattle.py_lines.specs.Private.Feed.{FaultKind, LexError, Stop, Feed, scanning_of, ready_of, LineFault}
+use Rattle.py_lines.specs.Private.Feed.{EndsText, FailsAt, Holds, IsScanned, HasEndedText, HasReadTokens, HasRoom, HoldsSo, IsHeldOpen, IsSoundFeed, ReadsTokens, ScansHeld, StandsSo, StopsHeld, StopsWith, line_held, with_line, FaultKind, LexError, Stop, Feed, scanning_of, ready_of, LineFault}
+use Rattle.py_lines.proofs.LineScan.LineSteps.{way_returned}
 use Rattle.py_lines.proofs.LineScan.NextCharacter.{empty_stack}
+use Rattle.py_lines.proofs.LineScan.TextSteps.{begun_sound}
 use Rattle.py_lines.proofs.Machine.PieceSteps.{pieces_at}
 use Rattle.py_lines.proofs.Readers.LineAnswers.{IsScannedLine, line_at_text_end, line_at_return, returned_final, all_within}
 use Rattle.py_lines.proofs.Readers.LineFaults.{Within, finished, unfinished_within}
 use Rattle.py_lines.proofs.Feeds.Known.{IsKnown, first_at, goes_at, is_known}
 use Rattle.py_lines.proofs.Feeds.DecidedSoFar.{way_open}
 use Rattle.py_lines.proofs.Feeds.Ended.{ended_bytes, ended_unfinished, ended_line}
-use Rattle.py_lines.proofs.Feeds.OpenLine.{fails_keep, fails_ready, fault_after, holds_on, dropped, holds_self, room_more, runs_out}
-use Rattle.py_lines.proofs.Feeds.OpenLine.{scans_on, open_stands, open_stop, open_size, reached_by}
+use Rattle.py_lines.proofs.Feeds.OpenLine.{fails_keep, fails_ready, fault_after, holds_on, dropped, holds_self, room_more, runs_out, scans_on, open_stands, open_stop, open_size, reached_by}
 use Rattle.py_lines.proofs.Feeds.ReadyLines.{holds_line, ended_holds, some_is}
 use Rattle.py_lines.proofs.Lexings.FirstLines.{all_first}
 use Rattle.py_lines.proofs.Feeds.FedHeld.{never_before}
@@ -88,7 +87,7 @@ module _ {old f : Feed} (h : IsLeftOpen old f) where
   read_some : h.scanned.0.rest ≡ [] → 0 < byte_len h.scanned.0.read
   read_some none = omega (arith, h.some, open_size f h.scanned.0.rest o, ap length none)
 
-  unfinished_in : h.scanned.0.rest ≡ [] → (line_fault : LineFault) → IsUnfinished f.state.scan (Some line_fault) → Within h.scanned.0.read line_fault.place
+  unfinished_in : h.scanned.0.rest ≡ [] → (line_fault : LineFault) → EndsField f.state.scan.inside f.state.scan.stop (Some line_fault) → Within h.scanned.0.read line_fault.place
   unfinished_in none line_fault is = unfinished_within f.state.place f.state.scan h.scanned.0.read way (read_some none) line_fault is
 
   -- the fault that the text has there is kept
@@ -121,7 +120,7 @@ module _ {old f : Feed} (h : IsLeftOpen old f) where
         (fault_after f new line_fault.kind line_fault.place error fails h.scanned.0.rest o w))
 
   -- the last line is ready
-  last_line : (end_len : ℕ) → h.scanned.0.rest ≡ [] → is_final f.state.scan.piece.mode ≡ true → stack_of f.state.scan.brackets ≡ []
+  last_line : (end_len : ℕ) → h.scanned.0.rest ≡ [] → is_final way.state.mode ≡ true → way.brackets ≡ []
       → IsScannedLine (line_start (first_mode f.state.place)) f.state.scan h.scanned.0.read end_len (pieces_at way.state) → EndsText old (Ok tt) (record f { ready = Some end_len })
   last_line end_len none final empty line = record {
     text = record { held = h.keeps.held; place = h.keeps.place; line = h.keeps.line; ended = h.keeps.ended; fault = h.keeps.fault };
@@ -129,23 +128,23 @@ module _ {old f : Feed} (h : IsLeftOpen old f) where
     holds = (holds_line f end_len h.scanned.0.read h.scanned.0.rest (pieces_at way.state) h.scanned.0.scalars h.scanned.0.spell h.scanned.0.number line, refl);
     lexed = λ text lines scanning whole. (
       ended_line text f.state lines h.scanned.0.read h.scanned.0.rest (known_at text lines scanning whole) (whole_at text lines scanning whole) way none empty
-          (ap is_final (sym way.tallies.counts.mode) ∙ final) line.line.some line.line.whole,
+          final line.line.some line.line.whole,
       sym h.scanned.0.spell ∙ ap (λ t. encode_utf8_all h.scanned.0.read ++ t) none ∙ append-nil (encode_utf8_all h.scanned.0.read) ∙ ap encode_utf8_all (sym line.line.spell),
     );
   }
 
-  pub ends_plain : h.scanned.0.rest ≡ [] → is_returned f.state.scan ≡ false → IsUnfinished f.state.scan None → EndsText old (Ok tt) (record f { ready = Some 0 })
+  pub ends_plain : h.scanned.0.rest ≡ [] → is_returned f.state.scan ≡ false → EndsField f.state.scan.inside f.state.scan.stop None → EndsText old (Ok tt) (record f { ready = Some 0 })
   ends_plain none not_yet unfinished =
-      let (final, empty) = finished f.state.scan unfinished in
-      last_line 0 none final empty (line_at_text_end (first_mode f.state.place) f.state.scan h.scanned.0.read way (open_stands f h.scanned.0.rest o) (ap is_final (sym way.tallies.counts.mode) ∙ final)
-      (way_open (first_mode f.state.place) f.state.scan h.scanned.0.read way not_yet) empty (read_some none))
+      let (final, empty) = finished way (begun_sound f.state.place) unfinished in
+      last_line 0 none final empty (line_at_text_end (first_mode f.state.place) f.state.scan h.scanned.0.read way (open_stands f h.scanned.0.rest o) final
+      (way_open way (begun_sound f.state.place) not_yet) empty (read_some none))
 
   pub ends_returned : is_returned f.state.scan ≡ true → EndsText old (Ok tt) (record f { ready = Some 1 })
   ends_returned returned =
-      let parts = and_parts (is_return_mode f.state.scan.piece.mode) (none_open (stack_of f.state.scan.brackets)) returned in
-      let empty = empty_stack (stack_of f.state.scan.brackets) parts.1 in
+      let parts = and_parts (is_return_mode way.state.mode) (none_open way.brackets) (sym (way_returned way (begun_sound f.state.place)) ∙ returned) in
+      let empty = empty_stack way.brackets parts.1 in
       let none = h.scanned.2 returned in
-      last_line 1 none (returned_final f.state.scan.piece.mode parts.0) empty
+      last_line 1 none (returned_final way.state.mode parts.0) empty
       (line_at_return (first_mode f.state.place) f.state.scan h.scanned.0.read way (open_stands f h.scanned.0.rest o) parts.0 empty (read_some none))
 
 -- the text has ended
@@ -155,9 +154,6 @@ ended_now f = record f { ended = true }
 ended_ready : (f : Feed) (r : Option ℕ) → ready_of (ended_now f) r ≡ ready_of f r
 ended_ready f None = refl
 ended_ready f (Some n) = refl
-
-ended_seen : (f : Feed) → scanning_of (ended_now f) ≡ record (scanning_of f) { ended = true }
-ended_seen f = ap (with_line (ended_now f)) (ended_ready f f.ready)
 
 ended_stands : (f : Feed) (r : Option ℕ) → StandsSo f r → StandsSo (ended_now f) r
 ended_stands f None opens = opens
@@ -194,7 +190,7 @@ module _ {old f : Feed} (sound : IsSoundFeed old) (no_fault : old.state.fault �
   -- once the tokens of the line that is left are read, if one is
   pub finish_read : {new : Feed} → HasReadTokens f new → EndsScan (scanning_of old) (scanning_of (ended_now new)) × IsSoundFeed (ended_now new)
   finish_read {new} read = (
-    subst (EndsScan (scanning_of old)) (sym (ended_seen new ∙ ap (λ (s : ScannerState). record s { ended = true }) (read.seen e.line e.holds))) (finish_now old f no_fault e),
+    subst (EndsScan (scanning_of old)) (sym (ap (with_line (ended_now new)) (ended_ready new new.ready) ∙ ap (λ (s : ScannerState). record s { ended = true }) (read.seen e.line e.holds))) (finish_now old f no_fault e),
     record { room = read.sound.room; state = ended_stands new new.ready read.sound.state },
   )
 

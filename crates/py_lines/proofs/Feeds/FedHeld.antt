@@ -9,19 +9,19 @@ use Rattle.std.specs.Str.{all_scalars}
 use Rattle.py_lines.specs.Lexed.{IsLexed}
 use Rattle.py_lines.specs.Settled.{IsSettled, Decides, DecideNone}
 use Rattle.py_lines.specs.ScannerState.{GoesOnWith, EndsExactly, HoldsReady}
-use Rattle.py_lines.specs.Private.Scan.{IsApart, ScansIn, is_return_mode, none_open, stack_of, EndsWhole}
+use Rattle.py_lines.specs.Private.Scan.{IsApart, ScansIn, is_return_mode, none_open, EndsWhole}
 use Rattle.py_lines.specs.Private.LineState.{first_mode}
-use Rattle.py_lines.specs.Private.Feed.{IsScanned, Scan, Stop, Feed, Mode, AreFirstLines}
+use Rattle.py_lines.specs.Private.Feed.{IsScanned, Scan, Stop, Feed, AreFirstLines}
 use Rattle.py_lines.proofs.Text.Utf8Prefixes.{all_scalars-parts, nothing_bad}
 use Rattle.py_lines.proofs.Lexings.DecidedFaults.{decided_fault}
 use Rattle.py_lines.proofs.Lexings.FirstLines.{first_reading}
-use Rattle.py_lines.proofs.LineScan.TextSteps.{way_goes}
+use Rattle.py_lines.proofs.LineScan.TextSteps.{begun_sound, way_goes}
 use Rattle.py_lines.proofs.Feeds.Known.{IsKnown, given_bytes, is_known}
 use Rattle.py_lines.proofs.Feeds.SettledSoFar.{settled_open, settled_ready, ended_before, IsNextLine}
 use Rattle.py_lines.proofs.Feeds.DecidedSoFar.{undecided}
 use Rattle.py_lines.proofs.Feeds.ReadyLines.{ended_alone, ended_scan, pieces_alone, same_before}
 use Rattle.py_lines.proofs.Feeds.LastBytes.{exactly_encoded}
-use Rattle.py_lines.proofs.LineScan.LineSteps.{follows_whole}
+use Rattle.py_lines.proofs.LineScan.LineSteps.{follows_whole, way_returned}
 
 -- these bytes, if there are any, settle the lines given and no more
 abbrev pub SettleNone : List ℕ → ℕ → List ℕ → List LogicalLine → Type 0
@@ -96,15 +96,15 @@ module _ (f : Feed) (s : IsScanned f None) (text : List ℕ) (lines : List Logic
     settled_scanned : IsSettled (take (f.state.place + length f.held.items) text) lines
     settled_scanned =
         let (way, bad) = s.0.stops in
-        let last = λ (h : is_return_mode way.state.mode && none_open (stack_of f.state.scan.brackets) ≡ true). s.2 (ap (λ (m : Mode). is_return_mode m && none_open (stack_of f.state.scan.brackets)) way.tallies.counts.mode ∙ h) in
+        let last = λ (h : is_return_mode way.state.mode && none_open way.brackets ≡ true). s.2 (way_returned way (begun_sound f.state.place) ∙ h) in
         subst (λ l. IsSettled (take (f.state.place + length l) text) lines) s.0.spell
-        (settled_open text f.state.place f.state.line lines s.0.read s.0.rest known_open way.state (stack_of f.state.scan.brackets) (way_goes way) way.one_line bad (omega (arith, some, ap length s.0.spell)) last)
+        (settled_open text f.state.place f.state.line lines s.0.read s.0.rest known_open way.state way.brackets (way_goes way) way.one_line bad (omega (arith, some, ap length s.0.spell)) last)
 
     undecided_scanned : DecideNone (take (f.state.place + length f.held.items) text)
     undecided_scanned fault =
         let (way, bad) = s.0.stops in
         subst (λ l. ¬ (Decides (take (f.state.place + length l) text) fault)) s.0.spell
-        (undecided text f.state.place f.state.line lines s.0.read s.0.rest known_open way.state (stack_of f.state.scan.brackets) (way_goes way) bad s.1 fault)
+        (undecided text f.state.place f.state.line lines s.0.read s.0.rest known_open way.state way.brackets (way_goes way) bad s.1 fault)
 
   -- the lines given are settled then, and no fault is decided
   pub scanned_open : SettleNone text f.state.place f.held.items lines × DecideNone (take (f.state.place + length f.held.items) text)

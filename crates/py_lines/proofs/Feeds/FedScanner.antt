@@ -3,8 +3,7 @@ use Rattle.std.proofs.Common.{◌≡◌, ℕ, ◌+◌, ◌⊎◌, true, Err, Non
 use Rattle.std.specs.Prelude.{is_some}
 use Rattle.py_lines.specs.LogicalLine.{LogicalLine}
 use Rattle.py_lines.specs.ScannerState.{ScannerState, TakesBytes, ScannerRunsOut, Feeds, FeedsNaming, LacksBoth, Releases, TakesNaming}
-use Rattle.py_lines.specs.Private.Feed.{HasReadTokens, HoldsSo, IsSoundFeed, LetsGo, ReadsTokens, StandsSo, TakesLine, line_held, with_line}
-use Rattle.py_lines.specs.Private.Feed.{LexError, Feed, line_of_feed, ready_of, scanning_of}
+use Rattle.py_lines.specs.Private.Feed.{HasReadTokens, HoldsSo, IsSoundFeed, LetsGo, ReadsTokens, StandsSo, TakesLine, line_held, with_line, LexError, Feed, line_of_feed, ready_of, scanning_of}
 use Rattle.py_lines.proofs.Feeds.ReadyLines.{line_stands, none_read, none_ready, some_is, text_stands}
 use Rattle.py_lines.proofs.Feeds.OpenLine.{dropped, runs_out}
 use Rattle.py_lines.proofs.Feeds.Released.{released_sound, releases}

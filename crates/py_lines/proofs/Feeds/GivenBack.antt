@@ -1,12 +1,11 @@
 -- What stays held where a line is ready.
-use Rattle.std.proofs.Common.{◌≡◌, ℕ, zero, suc, ◌+◌, ◌-◌, ◌<◌, ◌≤◌, true, false, List, [], ◌∷◌, ◌++◌, length, take, refl, sym}
-use Rattle.std.proofs.Common.{ap, ◌∙◌, subst, ⊎_elim, inl, inr, append-nil, arith, length-append, encode_utf8_all, is_some, max}
+use Rattle.std.proofs.Common.{◌≡◌, ℕ, zero, suc, ◌+◌, ◌-◌, ◌<◌, ◌≤◌, true, false, List, [], ◌++◌, length, take, refl, sym, ap, ◌∙◌, subst, ⊎_elim, inl, inr, arith, length-append, encode_utf8_all, is_some, max}
 use Rattle.std.specs.Global.{Vec}
 use Rattle.std.proofs.lemmas.Bool.{both_ways, cond_both, cases_lt}
 use Rattle.std.proofs.lemmas.List.{take_all}
 use Rattle.std.proofs.Math.Seq.{take-append-add}
 use Rattle.py_lines.specs.Character.{is_return}
-use Rattle.py_lines.specs.Piece.{ends, spelled}
+use Rattle.py_lines.specs.Piece.{ends}
 use Rattle.py_lines.specs.LogicalLine.{byte_len}
 use Rattle.py_lines.specs.Private.Scan.{EndsWhole, ScansIn}
 use Rattle.py_lines.specs.ScannerState.{EndsExactly}
@@ -28,7 +27,7 @@ exact_return all after returned (inr (b, m, is, other)) = inr (returned, (b, ap 
 -- a line that has ended in these bytes
 module _ {m : Mode} {line : ℕ} {bytes : List ℕ} {scan : Scan} {end_len : ℕ} (s : ScansIn m line bytes scan (Stop.LineEnd end_len)) where
   line_returned : scan.count.after_return ≡ ends is_return s.read
-  line_returned = let at = s.stops.0 [] (λ returned. refl) in at.tallies.counts.after ∙ ap (ends is_return) (append-nil (spelled (at.body ++ at.last ∷ [])) ∙ at.spell)
+  line_returned = (s.stops.0 [] (λ returned. refl)).counts.after
 
   -- where it ends: after CR one byte more is part of it
   more : (n : ℕ) × (whole_end scan ≡ byte_len s.read + n) × (n ≤ length s.rest) × EndsExactly s.read (take n s.rest)

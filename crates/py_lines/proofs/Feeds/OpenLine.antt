@@ -1,7 +1,5 @@
 -- What is held of a line that is open, and what a scan of it comes to.
-use Rattle.std.proofs.Common.{◌≡◌, ℕ, ◌+◌, ◌-◌, ◌<◌, ◌≤◌, Bool, true, List, [], ◌∷◌, ◌++◌, length, take, drop, inr, refl, sym, ap, ◌∙◌}
-use Rattle.std.proofs.Common.{append_assoc, arith, length-append, length-drop, ◌^◌, false, Option, None, Some, Result, Ok, Err, subst}
-use Rattle.std.proofs.Common.{⊎_elim, append-nil}
+use Rattle.std.proofs.Common.{◌≡◌, ℕ, ◌+◌, ◌-◌, ◌<◌, ◌≤◌, Bool, true, List, [], ◌∷◌, ◌++◌, length, take, drop, inr, refl, sym, ap, ◌∙◌, append_assoc, arith, length-append, length-drop, ◌^◌, false, Option, None, Some, Result, Ok, Err, subst, ⊎_elim, append-nil}
 use Rattle.std.specs.Prelude.{encode_utf8_all, ◌==◌}
 use Rattle.std.specs.Str.{all_scalars, StartsWithNoChar}
 use Rattle.std.specs.Global.{Vec}
@@ -14,15 +12,14 @@ use Rattle.py_lines.specs.Character.{is_line_feed}
 use Rattle.py_lines.specs.Piece.{begins}
 use Rattle.py_lines.specs.LogicalLine.{byte_len}
 use Rattle.py_lines.specs.Private.Run.{Reached}
-use Rattle.py_lines.specs.Private.Scan.{is_return_mode, is_returned, freed, stack_of, EndsWhole, IsUnderWay, ScansIn, line_start, IsRefusal}
+use Rattle.py_lines.specs.Private.Scan.{is_return_mode, is_returned, freed, none_open, EndsWhole, IsUnderWay, ScansIn}
+use Rattle.py_lines.specs.Private.FieldScan.{RefusesField}
 use Rattle.py_lines.specs.Private.LineState.{first_mode, BeginsAnew, IsFaultAfter}
-use Rattle.py_lines.specs.Private.Feed.{IsCutAt, IsOpen, StopsHeld, Scan, Stop, Feed, DropsLine, FailsAt, HasRoom, Holds, HoldsAt}
-use Rattle.py_lines.specs.Private.Feed.{IsDecidedAt, IsSoundFeed, IsUnchanged, ScansHeld, ScansTo, StandsSo, StopsWith, WhereHeld, Fault}
-use Rattle.py_lines.specs.Private.Feed.{FaultKind, LexError, ready_of, scanning_of, LineState, LineFault, Mode}
+use Rattle.py_lines.specs.Private.Feed.{IsCutAt, IsOpen, StopsHeld, Scan, Stop, Feed, DropsLine, FailsAt, HasRoom, Holds, HoldsAt, IsDecidedAt, IsSoundFeed, IsUnchanged, ScansHeld, ScansTo, StandsSo, StopsWith, WhereHeld, Fault, FaultKind, LexError, ready_of, scanning_of, LineState, LineFault, Mode}
 use Rattle.py_lines.proofs.Text.Utf8Prefixes.{all_scalars-parts}
 use Rattle.py_lines.proofs.LogicalLines.Cuts.{byte_len-append}
 use Rattle.py_lines.proofs.ScanMachine.Soundness.{StandsSound, stands_sound}
-use Rattle.py_lines.proofs.LineScan.LineSteps.{returned, way_stop}
+use Rattle.py_lines.proofs.LineScan.LineSteps.{begun_way, returned, way_returned}
 use Rattle.py_lines.proofs.LineScan.LineStops.{return_ends}
 use Rattle.py_lines.proofs.LineScan.TextSteps.{begun_sound, way_goes}
 use Rattle.py_lines.proofs.Readers.LineFaults.{Within, refused_within}
@@ -51,11 +48,11 @@ reached_next f rest chunk o none = record {
 }
 
 module _ (f : Feed) (rest : List ℕ) (o : IsOpen f rest) where
-  pub open_stands : StandsSound (first_mode f.state.place) o.read o.way.state (stack_of f.state.scan.brackets)
-  open_stands = stands_sound (first_mode f.state.place) o.read o.way.state (stack_of f.state.scan.brackets) (begun_sound f.state.place) (way_goes o.way)
+  pub open_stands : StandsSound (first_mode f.state.place) o.read o.way.state o.way.brackets
+  open_stands = stands_sound (first_mode f.state.place) o.read o.way.state o.way.brackets (begun_sound f.state.place) (way_goes o.way)
 
   pub open_stop : f.state.scan.stop ≡ byte_len o.read
-  open_stop = way_stop (first_mode f.state.place) f.state.scan o.read o.way (begun_sound f.state.place)
+  open_stop = o.way.counts.stop
 
   pub open_size : length f.held.items ≡ byte_len o.read + length rest
   open_size = ap length (sym o.spell) ∙ length-append (encode_utf8_all o.read) rest
@@ -94,7 +91,8 @@ scan_freed f = record f { state = record f.state { scan = freed f.state.scan } }
 pub ends_returned : (f : Feed) (s : StopsHeld f Stop.TextEnd) → 0 < length s.rest → is_returned f.state.scan ≡ true → StopsHeld (scan_freed f) (Stop.LineEnd 1)
 ends_returned f s some is =
     let way = s.stops.0 in
-    let parts = and_parts _ _ is in
+    let start = begun_sound f.state.place in
+    let parts = and_parts (is_return_mode way.state.mode) (none_open way.brackets) (sym (way_returned way start) ∙ is) in
     let sound = (open_stands f s.rest (reached_by s way)).scan in
     record {
       read = s.read;
@@ -102,7 +100,7 @@ ends_returned f s some is =
       scalars = s.scalars;
       spell = s.spell;
       stops = (
-        λ after h. returned (first_mode f.state.place) f.state.scan s.read (encode_utf8_all after) way (begun_sound f.state.place) parts.0 parts.1 (λ a spells. ap (begins is_line_feed) (encodes_same a after spells) ∙ h (return_ends way.state s.read sound (ap is_return_mode (sym way.tallies.counts.mode) ∙ parts.0))),
+        λ after h. returned way start is (λ a spells. ap (begins is_line_feed) (encodes_same a after spells) ∙ h (return_ends way.state s.read sound parts.0)),
         returned_whole s.read s.rest some s.stops.1,
       );
       number = s.number;
@@ -152,7 +150,7 @@ pub begun_open : (was : LineState) (new : Feed) → BeginsAnew was new.state →
 begun_open was new b = record {
   read = [];
   way = subst (λ (n : ℕ). IsUnderWay (first_mode n) new.state.scan []) (sym (ap (λ (s : LineState). s.place) b.same))
-      (record { state = line_start (first_mode was.place); steps = refl; tallies = b.tallies; stacked = b.stacked; one_line = tt });
+      (begun_way b.begun (begun_sound was.place));
   spell = refl;
   scalars = refl;
   line = b.number ∙ sym (ap (λ (s : LineState). s.line) b.same);
@@ -210,7 +208,7 @@ module _ (f new : Feed) (error : LexError) (not_ready : f.ready ≡ None) where
       (fault_after f new FaultKind.BadUtf8 f.state.scan.stop error fails s.rest o (record { prefix = s.read; later = []; split = append-nil s.read; size = open_stop f s.rest o })))
 
   -- the next character is refused
-  pub held_refused : (c : ℕ) (s : StopsHeld f (Stop.Refused c)) (line_fault : LineFault) → IsRefusal f.state.scan c line_fault → FailsAt f line_fault.kind line_fault.place error new → ScansHeld f (Err error) new
+  pub held_refused : (c : ℕ) (s : StopsHeld f (Stop.Refused c)) (line_fault : LineFault) → RefusesField f.state.scan.inside c f.state.scan.stop line_fault → FailsAt f line_fault.kind line_fault.place error new → ScansHeld f (Err error) new
   held_refused c s line_fault is_line_fault fails =
       let (way, after, scalar, spell, refuses, not_yet) = s.stops in
       let w = refused_within f.state.place f.state.scan s.read way c refuses line_fault is_line_fault in

@@ -1,6 +1,5 @@
 -- The line that stands in what is held: the logical line of the pieces that the scan found.
-use Rattle.std.proofs.Common.{◌≡◌, ℕ, ◌+◌, ◌≤◌, true, false, Option, Some, None, List, [], ◌∷◌, ◌++◌, length, take, refl, sym, ap}
-use Rattle.std.proofs.Common.{◌∙◌, subst, arith, length-append, encode_utf8_all, IsUtf8, is_some}
+use Rattle.std.proofs.Common.{◌≡◌, ℕ, ◌+◌, ◌≤◌, true, false, Option, Some, None, List, [], ◌∷◌, ◌++◌, length, take, refl, sym, ap, ◌∙◌, subst, arith, length-append, encode_utf8_all, IsUtf8, is_some}
 use Rattle.std.specs.Str.{all_scalars}
 use Rattle.std.proofs.lemmas.Str.{encodes_same}
 use Rattle.std.proofs.Math.Seq.{take-append_seam}
@@ -10,8 +9,7 @@ use Rattle.py_lines.specs.Token.{EachLiesIn}
 use Rattle.py_lines.specs.Private.Scan.{IsApart, ScansIn, line_start}
 use Rattle.py_lines.specs.Private.LineState.{first_mode, with_tokens}
 use Rattle.py_lines.specs.Private.LineTokens.{AreLineText, HoldsTokens, IsLineText}
-use Rattle.py_lines.specs.Private.Feed.{HasReadTokens, HasRoom, HoldsLine, HoldsSo, IsReady, StandsSo, StopsHeld, line_held, with_line}
-use Rattle.py_lines.specs.Private.Feed.{Scan, Stop, Feed, line_of_feed, ready_of, scanning_of, LineState, Mode}
+use Rattle.py_lines.specs.Private.Feed.{HasReadTokens, HasRoom, HoldsLine, HoldsSo, IsReady, StandsSo, StopsHeld, line_held, with_line, Scan, Stop, Feed, line_of_feed, ready_of, scanning_of, LineState, Mode}
 use Rattle.py_lines.proofs.Fields.OneReading.{one_fielded_reading}
 use Rattle.py_lines.proofs.Lexings.LineEnds.{read-alone}
 use Rattle.py_lines.proofs.LogicalLines.TokenPlaces.{each_after}

@@ -16,8 +16,7 @@ use Rattle.py_lines.proofs.Feeds.Known.{first_at, goes_after, goes_at}
 use Rattle.std.proofs.lemmas.Bool.{both_ways}
 use Rattle.std.proofs.Math.Seq.{drop-append_seam}
 use Rattle.py_lines.specs.ScannerState.{ScannerState, GoesOnWith, IsScanning, HasEnded, HoldsReady, HoldsLast, Releases, fed_of, ready_lines}
-use Rattle.py_lines.specs.Private.Feed.{HasRoom, HoldsLine, IsReady, StandsSo, IsSoundFeed, LetsGo, line_held, with_line, Feed, ready_of}
-use Rattle.py_lines.specs.Private.Feed.{scanning_of, AreFirstLines}
+use Rattle.py_lines.specs.Private.Feed.{HasRoom, HoldsLine, IsReady, StandsSo, IsSoundFeed, LetsGo, line_held, with_line, Feed, ready_of, scanning_of, AreFirstLines}
 use Rattle.py_lines.proofs.LineScan.LineCount.{line_ends-bytes}
 use Rattle.py_lines.proofs.Feeds.ReadyLines.{ready_seen}
 

@@ -6,8 +6,7 @@ use Rattle.std.proofs.Math.Seq.{take-add, take-append-add, take-append_seam}
 use Rattle.py_lines.specs.LogicalLine.{LogicalLine}
 use Rattle.py_lines.specs.Settled.{Decides, DecideNone, IsSettled}
 use Rattle.py_lines.specs.ScannerState.{ScannerState, GoesOnWith, HoldsReady, IsScanning, MeetsFault, TakesBytes, WhereFed, fed_of, ready_lines}
-use Rattle.py_lines.specs.Private.Feed.{EndsWithLine, GivesBack, Holds, HoldsSo, IsSoundFeed, ScansHeld, StandsSo, StopsWith, TakesLine}
-use Rattle.py_lines.specs.Private.Feed.{TakesSo, line_held, Fault, LexError, Stop, Feed, ready_of, scanning_of, AreFirstLines}
+use Rattle.py_lines.specs.Private.Feed.{EndsWithLine, GivesBack, Holds, HoldsSo, IsSoundFeed, ScansHeld, StandsSo, StopsWith, TakesLine, TakesSo, line_held, Fault, LexError, Stop, Feed, ready_of, scanning_of, AreFirstLines}
 use Rattle.py_lines.proofs.Lexings.DecidedFaults.{decided_more}
 use Rattle.py_lines.proofs.Feeds.Known.{first_at, goes_after, goes_at, goes_joined, goes_with_first}
 use Rattle.py_lines.proofs.Feeds.FedHeld.{SettleNone, holds_exactly, never_before, scanned_open, settled_fed}
@@ -130,6 +129,12 @@ taken_back old mid new sound no_fault not_ready piece fits first n before within
     taken old sound no_fault not_ready piece fits n (omega (arith, parts, whole, within)) new (holds_on holds g.text items holds.fault)
     (λ none. some (⊎_elim (λ more. omega (arith, more, none, parts, at, whole)) (λ all. omega (arith, all, none, parts, whole)) g.more))
     (subst (λ l. EndsWithLine l new new.ready) earlier g.ends)
+
+-- nothing that was held before is given back
+pub back_kept : {old new : Feed} {before : ℕ} → before ≤ length old.held.items → GivesBack old before new → before ≤ length new.held.items
+back_kept {old} within g =
+    let size = ap length g.text.held ∙ length-take g.kept old.held.items in
+    ⊎_elim (λ more. omega (arith, more, size, within)) (λ all. omega (arith, all, size, within)) g.more
 
 -- the bytes of a piece that aren't taken yet, as a slice has them
 pub rest_is : (piece : List ℕ) (n : ℕ) → take (length piece - n) (drop n piece) ≡ drop n piece

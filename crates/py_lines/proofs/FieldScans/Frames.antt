@@ -1,4 +1,4 @@
--- The frames that the scan of a string with fields keeps are the brackets and fields that are open in the machine.
+-- The frames that the scan of a line keeps are the brackets and fields that are open in the machine.
 use Rattle.std.proofs.Common.{◌≡◌, ℕ, ◌+◌, ◌<◌, true, false, ◌==◌, Some, List, [], ◌∷◌, ◌++◌, length, refl, ap, ◌∙◌, subst, arith, length-append}
 use Rattle.std.proofs.lemmas.List.{length-map}
 use Rattle.py_lines.specs.Piece.{Class, operator, Piece, spelled}
@@ -16,40 +16,45 @@ use Rattle.py_lines.proofs.Pieces.OpenBrackets.{stack_push, opener_pushes, close
 use Rattle.py_lines.proofs.LogicalLines.Cuts.{byte_len-append}
 
 -- so many are open
-pub frames-length : (base : ℕ) (outer : List Level) (done : List Piece) (openers : List ℕ) (fs : List Frame) → FramesFollow base outer done openers fs → length fs ≡ length openers + levels_open outer
-frames-length base [] done openers fs (no_openers, no_frames) = omega (arith, ap length no_openers, ap length no_frames)
-frames-length base (l ∷ ls) done openers fs (bs, field, others, stack, openers_are, frames_are, at) =
-    let start = base + byte_len (before literal (l ∷ ls)) in
-    omega (arith, ap length frames_are ∙ length-append (bracket_frames start bs) (frame.Field field ∷ others), length-map bs (λ (b : Bracket). frame.Bracket b.opener (start + b.place)), length-map bs (λ (b : Bracket). b.opener), ap length openers_are, frames-length base ls l.done l.openers others at.round)
+pub frames-length : (outer : List Level) (done : List Piece) (openers : List ℕ) (fs : List Frame) → FramesFollow outer done openers fs → length fs ≡ length openers + levels_open outer
+frames-length [] done openers fs (bs, stack, openers_are, frames_are) =
+    omega (arith, ap length frames_are, length-map bs (λ (b : Bracket). frame.Bracket b.opener b.place), length-map bs (λ (b : Bracket). b.opener), ap length openers_are)
+frames-length (l ∷ ls) done openers fs (bs, field, others, stack, openers_are, frames_are, at) =
+    let start = byte_len (before literal (l ∷ ls)) in
+    omega (arith, ap length frames_are ∙ length-append (bracket_frames start bs) (frame.Field field ∷ others), length-map bs (λ (b : Bracket). frame.Bracket b.opener (start + b.place)), length-map bs (λ (b : Bracket). b.opener), ap length openers_are, frames-length ls l.done l.openers others at.round)
 
 -- other finished pieces with the same open brackets
 abbrev pub AreOpenAlike : List Piece → List Piece → Type 0
 AreOpenAlike done more = (st : List Bracket) → brackets_of done ≡ Some st → brackets_of more ≡ Some st
 
-pub frames_alike : (base : ℕ) (outer : List Level) (done more : List Piece) (openers : List ℕ) (fs : List Frame) → AreOpenAlike done more → FramesFollow base outer done openers fs → FramesFollow base outer more openers fs
-frames_alike base [] done more openers fs alike none = none
-frames_alike base (l ∷ ls) done more openers fs alike (bs, field, others, stack, openers_are, frames_are, at) = (bs, field, others, alike bs stack, openers_are, frames_are, at)
+pub frames_alike : (outer : List Level) (done more : List Piece) (openers : List ℕ) (fs : List Frame) → AreOpenAlike done more → FramesFollow outer done openers fs → FramesFollow outer more openers fs
+frames_alike [] done more openers fs alike (bs, stack, openers_are, frames_are) = (bs, alike bs stack, openers_are, frames_are)
+frames_alike (l ∷ ls) done more openers fs alike (bs, field, others, stack, openers_are, frames_are, at) = (bs, field, others, alike bs stack, openers_are, frames_are, at)
 
 -- the innermost frame is a bracket of the innermost list
-pub innermost_bracket : (base : ℕ) (outer : List Level) (done : List Piece) (openers : List ℕ) (fs others : List Frame) (opener at : ℕ) → FramesFollow base outer done openers fs → fs ≡ frame.Bracket opener at ∷ others → (b : Bracket) × (bs : List Bracket) × (brackets_of done ≡ Some (b ∷ bs)) × (at ≡ base + (byte_len (before literal outer) + b.place)) × (openers ≡ opener ∷ bracket_openers bs)
-innermost_bracket base [] done openers fs others opener at (no_openers, no_frames) top = absurd (cc (top, no_frames))
-innermost_bracket base (l ∷ ls) done openers fs others opener at ([], field, rest, stack, openers_are, frames_are, is) top = absurd (cc (top, frames_are))
-innermost_bracket base (l ∷ ls) done openers fs others opener at ((b ∷ bs), field, rest, stack, openers_are, frames_are, is) top =
-    let spot : at ≡ base + byte_len (before literal (l ∷ ls)) + b.place = cc (top, frames_are) in
+pub innermost_bracket : (outer : List Level) (done : List Piece) (openers : List ℕ) (fs others : List Frame) (opener at : ℕ) → FramesFollow outer done openers fs → fs ≡ frame.Bracket opener at ∷ others → (b : Bracket) × (bs : List Bracket) × (brackets_of done ≡ Some (b ∷ bs)) × (at ≡ byte_len (before literal outer) + b.place) × (openers ≡ opener ∷ bracket_openers bs)
+innermost_bracket [] done openers fs others opener at ([], stack, openers_are, frames_are) top = absurd (cc (top, frames_are))
+innermost_bracket [] done openers fs others opener at ((b ∷ bs), stack, openers_are, frames_are) top =
+    let spot : at ≡ b.place = cc (top, frames_are) in
+    (b, bs, stack, omega (arith, spot), cc (top, frames_are, openers_are))
+innermost_bracket (l ∷ ls) done openers fs others opener at ([], field, rest, stack, openers_are, frames_are, is) top = absurd (cc (top, frames_are))
+innermost_bracket (l ∷ ls) done openers fs others opener at ((b ∷ bs), field, rest, stack, openers_are, frames_are, is) top =
+    let spot : at ≡ byte_len (before literal (l ∷ ls)) + b.place = cc (top, frames_are) in
     (b, bs, stack, omega (arith, spot), cc (top, frames_are, openers_are))
 
 -- or it is the field in which that list stands, where no bracket is open
-pub record InnermostField (base : ℕ) (outer : List Level) (openers : List ℕ) (field : OpenField) (others : List Frame) : Type 0 where
+pub record InnermostField (outer : List Level) (openers : List ℕ) (field : OpenField) (others : List Frame) : Type 0 where
   pub level : Level
   pub outside : List Level
   pub outer_is : outer ≡ level ∷ outside
   pub none : openers ≡ []
-  pub at : FieldFollows base level outside field (FramesFollow base outside level.done level.openers others)
+  pub at : FieldFollows level outside field (FramesFollow outside level.done level.openers others)
 
-pub innermost_field : (base : ℕ) (outer : List Level) (done : List Piece) (openers : List ℕ) (fs others : List Frame) (field : OpenField) → FramesFollow base outer done openers fs → fs ≡ frame.Field field ∷ others → InnermostField base outer openers field others
-innermost_field base [] done openers fs others field (no_openers, no_frames) top = absurd (cc (top, no_frames))
-innermost_field base (l ∷ ls) done openers fs others field ((b ∷ bs), own, rest, stack, openers_are, frames_are, at) top = absurd (cc (top, frames_are))
-innermost_field base (l ∷ ls) done openers fs others field ([], own, rest, stack, openers_are, frames_are, at) top =
+pub innermost_field : (outer : List Level) (done : List Piece) (openers : List ℕ) (fs others : List Frame) (field : OpenField) → FramesFollow outer done openers fs → fs ≡ frame.Field field ∷ others → InnermostField outer openers field others
+innermost_field [] done openers fs others field ([], stack, openers_are, frames_are) top = absurd (cc (top, frames_are))
+innermost_field [] done openers fs others field ((b ∷ bs), stack, openers_are, frames_are) top = absurd (cc (top, frames_are))
+innermost_field (l ∷ ls) done openers fs others field ((b ∷ bs), own, rest, stack, openers_are, frames_are, at) top = absurd (cc (top, frames_are))
+innermost_field (l ∷ ls) done openers fs others field ([], own, rest, stack, openers_are, frames_are, at) top =
     let same : own ≡ field = cc (top, frames_are) in
     let round : rest ≡ others = cc (top, frames_are) in
     record {
@@ -57,32 +62,38 @@ innermost_field base (l ∷ ls) done openers fs others field ([], own, rest, sta
       outside = ls;
       outer_is = refl;
       none = openers_are;
-      at = subst (λ (f : OpenField). FieldFollows base l ls f (FramesFollow base ls l.done l.openers others)) same (subst (λ (fs : List Frame). FieldFollows base l ls own (FramesFollow base ls l.done l.openers fs)) round at);
+      at = subst (λ (f : OpenField). FieldFollows l ls f (FramesFollow ls l.done l.openers others)) same (subst (λ (fs : List Frame). FieldFollows l ls own (FramesFollow ls l.done l.openers fs)) round at);
     }
 
--- no frame is open round no field alone
-pub none_outside : (base : ℕ) (outer : List Level) (done : List Piece) (openers : List ℕ) (fs : List Frame) → FramesFollow base outer done openers fs → length fs ≡ 0 → outer ≡ []
-none_outside base [] done openers fs follow none = refl
-none_outside base (l ∷ ls) done openers fs follow none = absurd (omega (arith, none, frames-length base (l ∷ ls) done openers fs follow))
-
-pub none_in : (base : ℕ) (outer : List Level) (done : List Piece) (openers : List ℕ) (fs : List Frame) → outer ≡ [] → FramesFollow base outer done openers fs → length fs ≡ 0
-none_in base [] done openers fs outside (no_openers, no_frames) = ap length no_frames
-none_in base (l ∷ ls) done openers fs outside follow = absurd (cc)
+-- where no frame is open, there is no bracket and no field
+pub none_outside : (outer : List Level) (done : List Piece) (openers : List ℕ) (fs : List Frame) → FramesFollow outer done openers fs → length fs ≡ 0 → (outer ≡ []) × (openers ≡ [])
+none_outside [] done [] fs follow none = (refl, refl)
+none_outside [] done (o ∷ os) fs follow none = absurd (omega (arith, none, frames-length [] done (o ∷ os) fs follow))
+none_outside (l ∷ ls) done openers fs follow none = absurd (omega (arith, none, frames-length (l ∷ ls) done openers fs follow))
 
 -- an operator after the finished pieces
-pub bracket_opened : (base : ℕ) (outer : List Level) (done : List Piece) (openers : List ℕ) (fs : List Frame) (c place : ℕ) → (outer ≡ [] → ⊥) → FramesFollow base outer done openers fs → is_opening c ≡ true → length openers < 200 → place ≡ base + byte_len (before literal outer ++ spelled done) → FramesFollow base outer (done ++ piece operator (c ∷ []) ∷ []) (c ∷ openers) (frame.Bracket c place ∷ fs)
-bracket_opened base [] done openers fs c place inside follow opens room at = absurd (inside refl)
-bracket_opened base (l ∷ ls) done openers fs c place inside (bs, field, others, stack, openers_are, frames_are, is) opens room at =
+pub bracket_opened : (outer : List Level) (done : List Piece) (openers : List ℕ) (fs : List Frame) (c place : ℕ) → FramesFollow outer done openers fs → is_opening c ≡ true → length openers < 200 → place ≡ byte_len (before literal outer ++ spelled done) → FramesFollow outer (done ++ piece operator (c ∷ []) ∷ []) (c ∷ openers) (frame.Bracket c place ∷ fs)
+bracket_opened [] done openers fs c place (bs, stack, openers_are, frames_are) opens room at =
     let p : Piece = piece operator (c ∷ []) in
     let b : Bracket = record { opener = c; place = byte_len (spelled done) } in
     let deep : length bs < 200 = omega (arith, room, ap length openers_are, length-map bs (λ (b : Bracket). b.opener)) in
-    let first : place ≡ base + byte_len (before literal (l ∷ ls)) + byte_len (spelled done) = omega (arith, at, byte_len-append (before literal (l ∷ ls)) (spelled done)) in
+    (b ∷ bs, stack_push done p bs stack ∙ opener_pushes bs (byte_len (spelled done)) p opens deep, ap (λ (os : List ℕ). c ∷ os) openers_are, cc (at, frames_are))
+bracket_opened (l ∷ ls) done openers fs c place (bs, field, others, stack, openers_are, frames_are, is) opens room at =
+    let p : Piece = piece operator (c ∷ []) in
+    let b : Bracket = record { opener = c; place = byte_len (spelled done) } in
+    let deep : length bs < 200 = omega (arith, room, ap length openers_are, length-map bs (λ (b : Bracket). b.opener)) in
+    let first : place ≡ byte_len (before literal (l ∷ ls)) + byte_len (spelled done) = omega (arith, at, byte_len-append (before literal (l ∷ ls)) (spelled done)) in
     (b ∷ bs, field, others, stack_push done p bs stack ∙ opener_pushes bs (byte_len (spelled done)) p opens deep, ap (λ (os : List ℕ). c ∷ os) openers_are, cc (first, frames_are), is)
 
-pub bracket_closed : (base : ℕ) (outer : List Level) (done : List Piece) (openers os : List ℕ) (fs others : List Frame) (opener at c : ℕ) → FramesFollow base outer done openers fs → fs ≡ frame.Bracket opener at ∷ others → openers ≡ opener ∷ os → is_closing c ≡ true → c == closing_of opener ≡ true → FramesFollow base outer (done ++ piece operator (c ∷ []) ∷ []) os others
-bracket_closed base [] done openers os fs others opener at c (no_openers, no_frames) top are closing fits = absurd (cc (top, no_frames))
-bracket_closed base (l ∷ ls) done openers os fs others opener at c ([], field, rest, stack, openers_are, frames_are, is) top are closing fits = absurd (cc (top, frames_are))
-bracket_closed base (l ∷ ls) done openers os fs others opener at c ((b ∷ bs), field, rest, stack, openers_are, frames_are, is) top are closing fits =
+pub bracket_closed : (outer : List Level) (done : List Piece) (openers os : List ℕ) (fs others : List Frame) (opener at c : ℕ) → FramesFollow outer done openers fs → fs ≡ frame.Bracket opener at ∷ others → openers ≡ opener ∷ os → is_closing c ≡ true → c == closing_of opener ≡ true → FramesFollow outer (done ++ piece operator (c ∷ []) ∷ []) os others
+bracket_closed [] done openers os fs others opener at c ([], stack, openers_are, frames_are) top are closing fits = absurd (cc (are, openers_are))
+bracket_closed [] done openers os fs others opener at c ((b ∷ bs), stack, openers_are, frames_are) top are closing fits =
+    let p : Piece = piece operator (c ∷ []) in
+    let same : b.opener ≡ opener = cc (are, openers_are) in
+    let closes = stack_push done p (b ∷ bs) stack ∙ closer_pops bs (byte_len (spelled done)) b p closing (ap (λ (o : ℕ). c == closing_of o) same ∙ fits) in
+    (bs, closes, cc (are, openers_are), cc (top, frames_are))
+bracket_closed (l ∷ ls) done openers os fs others opener at c ([], field, rest, stack, openers_are, frames_are, is) top are closing fits = absurd (cc (are, openers_are))
+bracket_closed (l ∷ ls) done openers os fs others opener at c ((b ∷ bs), field, rest, stack, openers_are, frames_are, is) top are closing fits =
     let p : Piece = piece operator (c ∷ []) in
     let same : b.opener ≡ opener = cc (are, openers_are) in
     let closes = stack_push done p (b ∷ bs) stack ∙ closer_pops bs (byte_len (spelled done)) b p closing (ap (λ (o : ℕ). c == closing_of o) same ∙ fits) in

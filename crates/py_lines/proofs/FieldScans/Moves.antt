@@ -1,4 +1,4 @@
--- What a character does in a string with fields: the code's words say the machine's, and what each move of the machine leaves open.
+-- What a character does to the open piece: the code's words say the machine's, and what each move of the machine leaves open.
 use Rattle.std.proofs.Common.{◌≡◌, ℕ, Bool, true, false, not, ◌&&◌, ◌==◌, List, [], ◌∷◌, ◌++◌, refl, sym, ap, ◌∙◌, subst, append-nil}
 use Rattle.std.specs.Str.{byte}
 use Rattle.std.proofs.lemmas.Bool.{cond_both, both_ways, and_parts, not-true}
@@ -21,7 +21,6 @@ use Rattle.py_lines.proofs.Pieces.PieceLists.{piece, spelled-push}
 use Rattle.py_lines.proofs.Machine.LiveTexts as live
 use Rattle.py_lines.proofs.Machine.Starts as begun
 use Rattle.py_lines.proofs.Machine.Soundness.{MoveHolds, move_holds, StartHolds, start_holds}
-use Rattle.py_lines.proofs.ScanMachine.BodyMoves.{IsBodyMode}
 use Rattle.py_lines.proofs.FieldScans.Frames.{AreOpenAlike, neutral_alike}
 use Rattle.py_lines.proofs.FieldMachine.PlainSteps.{IsOpenAfter, open_after}
 use Rattle.py_lines.proofs.ScanMachine.Follows.{word_meets, closing_neutral}
@@ -113,7 +112,6 @@ body_moved host place named after_two held c = between_moved host place named af
 pub record GrowsTo (m n : spots.FieldMode) (text : List ℕ) : Type 0 where
   pub place : text_place n ≡ text_place m
   pub holds : HoldsCode n text
-  pub body_stays : IsBodyMode m → IsBodyMode n
   pub waits : WaitsInLiteral n
 
 -- a piece that ends before a character
@@ -121,7 +119,6 @@ pub record EndsBefore (m : spots.FieldMode) (held : List ℕ) : Type 0 where
   pub place : text_place m ≡ literal
   pub spells : (done : List Piece) → spelled (field_closed m done held) ≡ spelled done ++ held
   pub neutral : (done : List Piece) → AreOpenAlike done (field_closed m done held)
-  pub no_body : IsBodyMode m → ⊥
 
 -- what each move says of the open piece: what closes it closes a string's text, or code; and a field begins, opens or ends in a
 -- string, and opens in a specification by a `{`
@@ -144,7 +141,7 @@ waiting_in host specification named waits = absurd (both_ways _ waits refl)
 
 body_says : (host : Host) (place : Place) (named : Bool) (at : At) (held : List ℕ) (c : ℕ) (v : FieldMove) → WaitsInLiteral (body host place named at) → BodyMoved host place named at c v → Says (body host place named at) held c v
 body_says host place named at held c (grows n) waits (b, a, is, fit) =
-    subst (λ (x : spots.FieldMode). GrowsTo (body host place named at) x (held ++ c ∷ [])) (sym is) (record { place = refl; holds = tt; body_stays = λ own. (host, place, b, a, refl); waits = body_waits host place b a fit })
+    subst (λ (x : spots.FieldMode). GrowsTo (body host place named at) x (held ++ c ∷ [])) (sym is) (record { place = refl; holds = tt; waits = body_waits host place b a fit })
 body_says host place named at held c closes waits (is, quote) = (is, λ done. neutral_alike done string (held ++ c ∷ []) refl refl)
 body_says host place named at held c breaks waits none = absurd none
 body_says host place named at held c (begins_code h) waits (same, is) =
@@ -157,7 +154,7 @@ body_says host place named at held c v waits h = tt
 -- the first character after one quote begins and opens no field
 opened_says : (host : Host) (held : List ℕ) (c : ℕ) (v : FieldMove) → BodyMoved host literal false between c v → Says (opened host) held c v
 opened_says host held c (grows n) (b, a, is, fit) =
-    subst (λ (x : spots.FieldMode). GrowsTo (opened host) x (held ++ c ∷ [])) (sym is) (record { place = refl; holds = tt; body_stays = λ own. (host, literal, b, a, refl); waits = tt })
+    subst (λ (x : spots.FieldMode). GrowsTo (opened host) x (held ++ c ∷ [])) (sym is) (record { place = refl; holds = tt; waits = tt })
 opened_says host held c (begins_code h) (same, is) = absurd (cc)
 opened_says host held c (opens_field h) (same, is, none, brace) = absurd (cc)
 opened_says host held c breaks none = absurd none
@@ -172,27 +169,27 @@ closed_spells modes.Free held holds done = nothing_held done held holds
 closed_spells m held holds done = spelled-push done (class_of m) held
 
 plain_says : (m : Mode) (held : List ℕ) (c : ℕ) (v : Move) → move_of m c ≡ v → Holds m [] held → MoveHolds m held c v → Says (plain m) held c (plain_move v)
-plain_says m held c (moves.Grows n) is own holds = record { place = refl; holds = holds; body_stays = λ (host, place, named, at, e). absurd (cc); waits = tt }
+plain_says m held c (moves.Grows n) is own holds = record { place = refl; holds = holds; waits = tt }
 plain_says m held c moves.Closes is own holds =
     let neutral = closing_neutral m (held ++ c ∷ []) c is in
     (refl, λ done. neutral_alike done (class_of m) (held ++ c ∷ []) neutral.0 neutral.1)
-plain_says m held c moves.Breaks is own holds = record { place = refl; spells = closed_spells m held own; neutral = λ done st stack. live.stack_closed m done held st stack; no_body = λ (host, place, named, at, e). cc }
+plain_says m held c moves.Breaks is own holds = record { place = refl; spells = closed_spells m held own; neutral = λ done st stack. live.stack_closed m done held st stack }
 plain_says m held c moves.Refused is own holds = tt
 
 says : (m : spots.FieldMode) (held : List ℕ) (c : ℕ) → HoldsCode m held → WaitsInLiteral m → Says m held c (field_move m held c)
 unfolding field_move body_move
 says (plain m) held c holds waits =
     cond_both (begins_host m held c) (grows (opened (host_of held c))) (plain_move (move_of m c)) (Says (plain m) held c)
-    (λ h. record { place = refl; holds = tt; body_stays = λ (host, place, named, at, e). absurd (cc); waits = tt })
+    (λ h. record { place = refl; holds = tt; waits = tt })
     (λ h. plain_says m held c (move_of m c) refl holds (move_holds m held c holds))
 says (opened host) held c holds waits =
     cond_both (c == host.quote) (grows (empty host)) (between_move host literal false between c) (Says (opened host) held c)
-    (λ h. record { place = refl; holds = tt; body_stays = λ (host, place, named, at, e). absurd (cc); waits = tt })
+    (λ h. record { place = refl; holds = tt; waits = tt })
     (λ h. opened_says host held c (between_move host literal false between c) (between_moved host literal false between between c))
 says (empty host) held c holds waits =
     cond_both (c == host.quote) (grows (body (long_host host) literal false between)) breaks (Says (empty host) held c)
-    (λ h. record { place = refl; holds = tt; body_stays = λ own. (long_host host, literal, false, between, refl); waits = tt })
-    (λ h. record { place = refl; spells = λ done. spelled-push done string held; neutral = λ done. neutral_alike done string held refl refl; no_body = λ (host, place, named, at, e). cc })
+    (λ h. record { place = refl; holds = tt; waits = tt })
+    (λ h. record { place = refl; spells = λ done. spelled-push done string held; neutral = λ done. neutral_alike done string held refl refl })
 says (body host place named at) held c holds waits = body_says host place named at held c _ waits (body_moved host place named at held c)
 
 pub said : (m : spots.FieldMode) (held : List ℕ) (c : ℕ) (v : FieldMove) → HoldsCode m held → WaitsInLiteral m → field_move m held c ≡ v → Says m held c v

@@ -1,53 +1,57 @@
--- What opens and ends in a string with fields: by an operator in the code of a field, a bracket, the field or its specification; and
--- in a string's text a field, after its `{` in the literal part or at its `{` in a specification.
+-- What opens and ends in a line: by an operator of code a bracket, a field or its specification; and in a string's text a field, after
+-- its `{` in the literal part or at its `{` in a specification.
 use Rattle.std.proofs.Common.{◌≡◌, ℕ, ◌+◌, true, false, not, ◌||◌, ◌&&◌, ◌==◌, Option, None, Some, List, [], ◌∷◌, ◌++◌, length, nat_lt, refl, sym, ap, ◌∙◌, subst, arith, append-nil, ◌-◌, Bool}
 use Rattle.std.specs.Str.{byte}
-use Rattle.std.proofs.lemmas.Bool.{and_right, both_ways, eq-eqb, eqb-true, ltb-true, ne_eqb}
+use Rattle.std.specs.Prelude.{if◌then◌else◌}
+use Rattle.std.proofs.lemmas.Bool.{and_parts, and_right, eq-eqb, eqb-true, lt-ltb, ne_eqb}
+use Rattle.std.proofs.lemmas.Bool.Decides.{nat_tests}
+use Rattle.std.proofs.lemmas.Str.{len_utf8_ascii}
+use Rattle.std.proofs.Math.Bool.{and-true}
 use Rattle.py_lines.specs.Piece.{operator, Piece, spelled}
 use Rattle.py_lines.specs.LogicalLine.{byte_len}
 use Rattle.py_lines.specs.Balance.{is_opening, is_closing, closing_of}
-use Rattle.py_lines.specs.FieldStrings.{Place, literal, specification, Host}
+use Rattle.py_lines.specs.FieldStrings.{literal, specification, Host}
 use Rattle.py_lines.specs.declared.mode.Start.TheVariants as starts
 use Rattle.py_lines.specs.declared.host.Region.TheVariants as regions
+use Rattle.py_lines.specs.declared.host.StringWithFields.{StringWithFields}
 use Rattle.py_lines.specs.declared.field_mode.At.TheVariants as ats
 use Rattle.py_lines.specs.declared.field_mode.FieldMode.TheVariants as field_modes
 use Rattle.py_lines.specs.declared.frames.OpenField.{OpenField}
 use Rattle.py_lines.specs.declared.frames.Frame.{Frame}
 use Rattle.py_lines.specs.declared.frames.Frame.TheVariants as frame
 use Rattle.py_lines.specs.declared.field_scan.FieldScan.{FieldScan}
-use Rattle.py_lines.specs.declared.field_scan.FieldProgress.TheVariants as progress
+use Rattle.py_lines.specs.declared.field_scan.Progress.{Progress}
+use Rattle.py_lines.specs.declared.field_scan.Progress.TheVariants as progress
 use Rattle.py_lines.specs.Private.Machine.{start_of, Bracket, brackets_of}
-use Rattle.py_lines.specs.Private.FieldMachine.{between, body, breaks, Level, FieldScanned, field_state, field_fresh, field_closed, field_move, field_started, field_operator, code_operator, openers_with, field_ended, before, frames, has_room_at, At, after_brace, FieldMode, begins_code, opens_field, ends_field, field_moved, field_step, opened_level, specification_ended, text_place}
-use Rattle.py_lines.specs.Private.FieldFaults.{is_waiting, here}
-use Rattle.py_lines.specs.Private.ScanMachine.{IsInString, fielded_move, host_in, string_move}
+use Rattle.py_lines.specs.Private.FieldMachine.{between, body, breaks, Level, FieldScanned, field_state, field_fresh, field_closed, field_move, field_started, field_operator, code_operator, openers_with, field_ended, before, frames, has_room_at, At, after_brace, FieldMode, begins_code, opens_field, ends_field, field_moved, room_step, roomy, opened_level, specification_ended, text_place}
+use Rattle.py_lines.specs.Private.FieldFaults.{here}
+use Rattle.py_lines.specs.Private.Frames.{IsInnermostFrame, ClosesBracket, OpensBracket}
+use Rattle.py_lines.specs.Private.ScanMachine.{host_in}
 use Rattle.py_lines.specs.Private.FieldScan.{region_in, bracket_openers, Follows, FramesFollow, freed_at, ended_in, ComesTo, HasNoList, entered, TakesMove}
 use Rattle.py_lines.proofs.Text.CharacterTests.{each_of}
 use Rattle.py_lines.proofs.Pieces.PieceLists.{piece}
 use Rattle.py_lines.proofs.Pieces.OpenBrackets.{closing-not-opening}
-use Rattle.py_lines.proofs.FieldMachine.ListBrackets.{opening_pushes, closing_pops, others_keep}
-use Rattle.py_lines.proofs.FieldMachine.PieceRuns.{IsNoColon, operator_stays}
-use Rattle.py_lines.proofs.FieldScans.FieldFaults.{open-length, below_so, waiting_place}
-use Rattle.py_lines.proofs.FieldScans.Frames.{frames_alike, InnermostField, innermost_bracket, innermost_field, bracket_opened, bracket_closed, neutral_alike}
-use Rattle.py_lines.proofs.FieldScans.Moves.{body_waits, said}
-use Rattle.py_lines.proofs.FieldScans.Taking.{follows_free, going, no_room, no_step, by_move, goes_if, keeps_open, some_level, Broken, broken, piece_after, no_opening, one_operator}
-use Rattle.std.specs.Prelude.{if◌then◌else◌}
-use Rattle.std.proofs.lemmas.Bool.Decides.{nat_tests}
-use Rattle.std.proofs.Math.Bool.{and-true}
-use Rattle.std.proofs.lemmas.Str.{len_utf8_ascii}
-use Rattle.py_lines.specs.declared.mode.Move.TheVariants as moves
-use Rattle.py_lines.specs.declared.host.StringWithFields.{StringWithFields}
-use Rattle.py_lines.specs.declared.field_scan.FieldProgress.{FieldProgress}
 use Rattle.py_lines.proofs.LogicalLines.Cuts.{byte_len-append}
 use Rattle.py_lines.proofs.LineScan.LineCount.{byte_len-one}
+use Rattle.py_lines.proofs.FieldMachine.ListBrackets.{opening_pushes, closing_pops, others_keep}
+use Rattle.py_lines.proofs.FieldMachine.PieceRuns.{IsNoColon, operator_stays}
 use Rattle.py_lines.proofs.FieldMachine.Runs.{stops-fresh}
+use Rattle.py_lines.proofs.FieldScans.FieldFaults.{open-length, below_so}
+use Rattle.py_lines.proofs.FieldScans.Frames.{frames_alike, none_outside, InnermostField, innermost_bracket, innermost_field, bracket_opened, bracket_closed, neutral_alike}
+use Rattle.py_lines.proofs.FieldScans.Moves.{body_waits, said}
+use Rattle.py_lines.proofs.FieldScans.Taking.{follows_free, steps, by_room, goes_on, going, no_room, no_step, no_line_end, no_line_before, Broken, broken, piece_after, no_opening, one_operator}
 
--- what an operator does in the machine
+-- a bracket that closes none, or another than the innermost
+none_closed : (done : List Piece) (c : ℕ) → is_closing c ≡ true → field_operator [] done [] c ≡ None
+unfolding openers_with
+none_closed done c closing = rw (closing-not-opening c closing, closing)
+
 wrong_is : (outer : List Level) (done : List Piece) (o : ℕ) (os : List ℕ) (c : ℕ) → is_closing c ≡ true → c == closing_of o ≡ false → field_operator outer done (o ∷ os) c ≡ None
 unfolding openers_with
 wrong_is [] done o os c closing other = rw (closing-not-opening c closing, closing, other)
 wrong_is (l ∷ ls) done o os c closing other = rw (closing-not-opening c closing, closing, other)
 
--- only `:` is no piece of its list, where no bracket is open
+-- only `:` is no piece of its list, in a field where no bracket is open
 pub no_colon : (outer : List Level) (openers : List ℕ) (c : ℕ) → (c == 58) && (length openers == 0) ≡ false → IsNoColon outer openers c
 no_colon [] openers c h = tt
 no_colon (l ∷ ls) openers c h = h
@@ -56,128 +60,166 @@ opening_no_colon : (c : ℕ) → is_opening c ≡ true → c == 58 ≡ false
 unfolding is_opening
 opening_no_colon c opens = each_of (λ (x : ℕ). x == 58 ≡ false) (40 ∷ 91 ∷ 123 ∷ []) c (refl, (refl, (refl, tt))) opens
 
--- there is room for one more bracket or field as the code counts it
-one_more : (old : FieldScan) (base depth : ℕ) (t : FieldScanned) (b : Bool) → Follows old base t → nat_lt (depth + length old.frames + 1) 201 ≡ b → nat_lt (depth + frames t) 200 ≡ b
-one_more old base depth t b follow room = sym (below_so (depth + length old.frames + 1) (depth + frames t) (omega (arith, open-length old base t follow))) ∙ room
+-- a bracket is no field
+pub bracket_alone : (top : Option Frame) (f : Frame) (opener place : ℕ) (field : OpenField) → f ≡ frame.Bracket opener place → top ≡ Some f → top ≡ Some (frame.Field field) → ⊥
+bracket_alone top f opener place field bracket here there = absurd (cc (bracket, here, there))
+
+-- whether there is room for one more bracket or field, as the code counts
+one_more : (old : FieldScan) (t : FieldScanned) (b : Bool) → Follows old t → nat_lt (length old.frames + 1) 201 ≡ b → nat_lt (frames t) 200 ≡ b
+one_more old t b follow room = sym (below_so (length old.frames + 1) (frames t) (omega (arith, open-length old t follow))) ∙ room
 
 opening_room : (n c : ℕ) → is_opening c ≡ true → has_room_at n c breaks ≡ nat_lt n 200
 unfolding has_room_at
 opening_room n c opens = ap (λ b. not b || nat_lt n 200) opens
 
 -- the scan is back in the string of a field that has ended
-pub resumed : (old : FieldScan) (base : ℕ) (outer : List Level) (openers : List ℕ) (field : OpenField) (others : List Frame) (i : InnermostField base outer openers field others) (text : List ℕ) → Follows (ended_in field others) base (field_ended i.level i.outside text)
-resumed old base outer openers field others i text =
+pub resumed : (old : FieldScan) (outer : List Level) (openers : List ℕ) (field : OpenField) (others : List Frame) (i : InnermostField outer openers field others) (text : List ℕ) → Follows (ended_in field others) (field_ended i.level i.outside text)
+resumed old outer openers field others i text =
     record {
       mode = ap (λ h. body h (region_in field.region) false between) i.at.host ∙ ap (λ p. body i.level.host p false between) i.at.region;
       holds = tt;
       no_list = i.at.bare;
       waits = body_waits i.level.host i.level.place false between (λ at. refl);
-      full = λ w. absurd (awaits i.level.place w);
       start = i.at.start;
       frames = i.at.round;
     }
-  where
-    awaits : (p : Place) → is_waiting (body i.level.host p false between) ≡ true → ⊥
-    awaits literal w = cc
-    awaits specification w = cc
 
--- a character that ends the open piece in the code of a field, and is an operator
-module _ (old : FieldScan) (base depth c place : ℕ) (t : FieldScanned) (follow : Follows old base t) (inside : IsInString t) (at : place ≡ base + here t) (is : field_move t.mode t.held c ≡ breaks) (starts_with : start_of c ≡ starts.Operator) where
+-- a character that ends the open piece of code, and is an operator
+module _ (old : FieldScan) (c place : ℕ) (t : FieldScanned) (follow : Follows old t) (at : place ≡ here t) (is : field_move t.mode t.held c ≡ breaks) (starts_with : start_of c ≡ starts.Operator) where
   abbrev Done : List Piece
   Done = field_closed t.mode t.done t.held
 
-  b : Broken old base depth t c place follow inside at
-  b = broken old base depth t c place follow inside at is
+  b : Broken old t c place follow at
+  b = broken old t c place follow at is
 
-  takes : (new made : FieldScan) (next : FieldScanned) → new ≡ made → field_operator t.outer Done t.openers c ≡ Some next → has_room_at (depth + frames t) c breaks ≡ true → IsInString next → Follows made base next → ComesTo base depth t c old progress.Going new
-  takes new made next like same room within follows = going base depth t c breaks is old new made next like room (ap (field_started t.outer Done t.openers c) starts_with ∙ same) (λ none other. b.within none) within follows
+  takes : (new made : FieldScan) (next : FieldScanned) → new ≡ made → field_operator t.outer Done t.openers c ≡ Some next → has_room_at (frames t) c breaks ≡ true → Follows made next → ComesTo t c old progress.Going new
+  takes new made next like same room follows =
+      going t c breaks is old new (steps t c breaks is new made next like room (ap (field_started t.outer Done t.openers c) starts_with ∙ same) follows)
+      (no_line_before t.mode c starts.Operator starts_with (λ other. absurd (cc)))
 
-  refuses : field_operator t.outer Done t.openers c ≡ None → ComesTo base depth t c old progress.Refused old
-  refuses none = no_step base depth t c breaks is old (ap (field_started t.outer Done t.openers c) starts_with ∙ none)
+  refuses : field_operator t.outer Done t.openers c ≡ None → ComesTo t c old progress.Refused old
+  refuses none = no_step t c breaks is old (ap (field_started t.outer Done t.openers c) starts_with ∙ none)
 
   -- it is a piece of its list, after which these brackets are open
-  stays : (new made : FieldScan) (after : List ℕ) → new ≡ freed_at made (place + 1) → openers_with t.openers c ≡ Some after → (c == 58) && (length t.openers == 0) ≡ false → has_room_at (depth + frames t) c breaks ≡ true → FramesFollow base t.outer (Done ++ piece operator (c ∷ []) ∷ []) after made.frames → ComesTo base depth t c old progress.Going new
+  stays : (new made : FieldScan) (after : List ℕ) → new ≡ freed_at made (place + 1) → openers_with t.openers c ≡ Some after → IsNoColon t.outer t.openers c → has_room_at (frames t) c breaks ≡ true → FramesFollow t.outer (Done ++ piece operator (c ∷ []) ∷ []) after made.frames → ComesTo t c old progress.Going new
   stays new made after like opens colon room frames =
       takes new (freed_at made (place + 1)) (field_fresh t.outer (Done ++ piece operator (c ∷ []) ∷ []) after) like
-      (operator_stays t.outer Done t.openers after c opens (no_colon t.outer t.openers c colon)) room (λ none. absurd (b.within none))
-      (follows_free made base t.outer (Done ++ piece operator (c ∷ []) ∷ []) after (place + 1) frames (piece_after base place t.outer Done operator c (one_operator c starts_with) b.start))
+      (operator_stays t.outer Done t.openers after c opens colon) room
+      (follows_free made t.outer (Done ++ piece operator (c ∷ []) ∷ []) after (place + 1) frames (piece_after place t.outer Done operator c (one_operator c starts_with) b.start))
 
-  -- it opens a bracket
-  pub bracket_opens : is_opening c ≡ true → nat_lt (depth + length old.frames + 1) 201 ≡ true → (new : FieldScan) → new ≡ freed_at (record old { frames = frame.Bracket c place ∷ old.frames }) (place + 1) → ComesTo base depth t c old progress.Going new
-  bracket_opens opens room new like =
-      let more = one_more old base depth t true follow room in
-      stays new (record old { frames = frame.Bracket c place ∷ old.frames }) (c ∷ t.openers) like (opening_pushes t.openers c opens) (ap (λ b. b && (length t.openers == 0)) (opening_no_colon c opens)) (opening_room (depth + frames t) c opens ∙ more)
-      (bracket_opened base t.outer Done t.openers old.frames c place b.within b.frames opens (omega (arith, ltb-true (depth + frames t) 200 more)) b.start)
+  -- it opens a bracket, if there is room
+  pub bracket_opens : is_opening c ≡ true → (met : Bool) → met ≡ true → (more : List Frame) → OpensBracket old.frames c place met more → (mid new : FieldScan) → mid ≡ record old { frames = more } → new ≡ freed_at mid (place + 1) → ComesTo t c old progress.Going new
+  bracket_opens opens true met_is more (few, more_is) mid new mid_is like =
+      let many = open-length old t follow in
+      stays new (record old { frames = more }) (c ∷ t.openers) (like ∙ ap (λ (s : FieldScan). freed_at s (place + 1)) mid_is) (opening_pushes t.openers c opens) (no_colon t.outer t.openers c (ap (λ b. b && (length t.openers == 0)) (opening_no_colon c opens)))
+      (opening_room (frames t) c opens ∙ lt-ltb (frames t) 200 (omega (arith, many, few)))
+      (subst (FramesFollow t.outer (Done ++ piece operator (c ∷ []) ∷ []) (c ∷ t.openers)) (sym more_is) (bracket_opened t.outer Done t.openers old.frames c place b.frames opens (omega (arith, many, few)) b.start))
+  bracket_opens opens false met_is more full mid new mid_is like = absurd (cc)
 
-  pub bracket_too_deep : is_opening c ≡ true → nat_lt (depth + length old.frames + 1) 201 ≡ false → ComesTo base depth t c old progress.Refused old
-  bracket_too_deep opens none = no_room base depth t c breaks is old (opening_room (depth + frames t) c opens ∙ one_more old base depth t false follow none)
+  pub bracket_too_deep : is_opening c ≡ true → (met : Bool) → met ≡ false → (more : List Frame) → OpensBracket old.frames c place met more → (mid : FieldScan) → mid ≡ record old { frames = more } → ComesTo t c old progress.Refused mid
+  bracket_too_deep opens false met_is more (full, more_is) mid mid_is = (
+    (no_room t c breaks is old (opening_room (frames t) c opens ∙ ap (λ (n : ℕ). nat_lt n 200) (sym (open-length old t follow)) ∙ full)).0,
+    mid_is ∙ ap (λ (fs : List Frame). record old { frames = fs }) more_is,
+  )
+  bracket_too_deep opens true met_is more few mid mid_is = absurd (cc)
 
-  -- a sign that is no `:` is taken, whatever is open
-  pub sign_passes : is_opening c ≡ false → is_closing c ≡ false → (c == 58) && (length t.openers == 0) ≡ false → (new : FieldScan) → new ≡ freed_at old (place + 1) → ComesTo base depth t c old progress.Going new
+  -- a sign is taken, whatever is open
+  pub sign_passes : is_opening c ≡ false → is_closing c ≡ false → IsNoColon t.outer t.openers c → (new : FieldScan) → new ≡ freed_at old (place + 1) → ComesTo t c old progress.Going new
   sign_passes opens closes colon new like =
-      stays new old t.openers like (others_keep t.openers c opens closes) colon (no_opening (depth + frames t) c opens)
-      (frames_alike base t.outer Done (Done ++ piece operator (c ∷ []) ∷ []) t.openers old.frames (neutral_alike Done operator (c ∷ []) opens closes) b.frames)
+      stays new old t.openers like (others_keep t.openers c opens closes) colon (no_opening (frames t) c opens)
+      (frames_alike t.outer Done (Done ++ piece operator (c ∷ []) ∷ []) t.openers old.frames (neutral_alike Done operator (c ∷ []) opens closes) b.frames)
 
   -- inside brackets, of which the innermost is known
   module _ (opener spot : ℕ) (others : List Frame) (top : old.frames ≡ frame.Bracket opener spot ∷ others) where
-    inner : (k : Bracket) × (ks : List Bracket) × (brackets_of Done ≡ Some (k ∷ ks)) × (spot ≡ base + (byte_len (before literal t.outer) + k.place)) × (t.openers ≡ opener ∷ bracket_openers ks)
-    inner = innermost_bracket base t.outer Done t.openers old.frames others opener spot b.frames top
+    inner : (k : Bracket) × (ks : List Bracket) × (brackets_of Done ≡ Some (k ∷ ks)) × (spot ≡ byte_len (before literal t.outer) + k.place) × (t.openers ≡ opener ∷ bracket_openers ks)
+    inner = innermost_bracket t.outer Done t.openers old.frames others opener spot b.frames top
 
     abbrev Others : List ℕ
     Others = bracket_openers inner.1
 
-    colon : (c == 58) && (length t.openers == 0) ≡ false
-    colon = ap (λ (os : List ℕ). (c == 58) && (length os == 0)) inner.4 ∙ and_right (c == 58) (length (opener ∷ Others) == 0) (ne_eqb (length (opener ∷ Others)) 0 (λ none. omega (arith, none)))
+    colon : IsNoColon t.outer t.openers c
+    colon = no_colon t.outer t.openers c (ap (λ (os : List ℕ). (c == 58) && (length os == 0)) inner.4 ∙ and_right (c == 58) (length (opener ∷ Others) == 0) (ne_eqb (length (opener ∷ Others)) 0 (λ none. omega (arith, none))))
 
-    pub bracket_closes : is_closing c ≡ true → c ≡ closing_of opener → (new : FieldScan) → new ≡ freed_at (record old { frames = others }) (place + 1) → ComesTo base depth t c old progress.Going new
+    bracket_closes : is_closing c ≡ true → c ≡ closing_of opener → (new : FieldScan) → new ≡ freed_at (record old { frames = others }) (place + 1) → ComesTo t c old progress.Going new
     bracket_closes closing fits new like =
         let same : c == closing_of opener ≡ true = eq-eqb c (closing_of opener) fits in
-        stays new (record old { frames = others }) Others like (ap (λ (os : List ℕ). openers_with os c) inner.4 ∙ closing_pops opener Others c closing same) colon (no_opening (depth + frames t) c (closing-not-opening c closing))
-        (bracket_closed base t.outer Done t.openers Others old.frames others opener spot c b.frames top inner.4 closing same)
+        stays new (record old { frames = others }) Others like (ap (λ (os : List ℕ). openers_with os c) inner.4 ∙ closing_pops opener Others c closing same) colon (no_opening (frames t) c (closing-not-opening c closing))
+        (bracket_closed t.outer Done t.openers Others old.frames others opener spot c b.frames top inner.4 closing same)
 
-    pub bracket_wrong : is_closing c ≡ true → (c ≡ closing_of opener → ⊥) → ComesTo base depth t c old progress.Refused old
+    bracket_wrong : is_closing c ≡ true → (c ≡ closing_of opener → ⊥) → ComesTo t c old progress.Refused old
     bracket_wrong closing wrong = refuses (ap (λ (os : List ℕ). field_operator t.outer Done os c) inner.4 ∙ wrong_is t.outer Done opener Others c closing (ne_eqb c (closing_of opener) wrong))
 
-    pub bracket_passes : is_opening c ≡ false → is_closing c ≡ false → (new : FieldScan) → new ≡ freed_at old (place + 1) → ComesTo base depth t c old progress.Going new
-    bracket_passes opens closes = sign_passes opens closes colon
+  -- where nothing is open
+  module _ (none : old.frames ≡ []) where
+    outside : (t.outer ≡ []) × (t.openers ≡ [])
+    outside = none_outside t.outer Done t.openers old.frames b.frames (ap length none)
+
+    colon_outside : IsNoColon t.outer t.openers c
+    colon_outside = subst (λ (ls : List Level). IsNoColon ls t.openers c) (sym outside.0) tt
+
+    none_shut : is_closing c ≡ true → ComesTo t c old progress.Refused old
+    none_shut closing = refuses (ap (λ (os : List ℕ). field_operator t.outer Done os c) outside.1 ∙ ap (λ (ls : List Level). field_operator ls Done [] c) outside.0 ∙ none_closed Done c closing)
+
+  -- it closes the innermost bracket
+  pub closes_bracket : is_closing c ≡ true → (met : Bool) → met ≡ true → (more : List Frame) → ClosesBracket old.frames c met more → (mid new : FieldScan) → mid ≡ record old { frames = more } → new ≡ freed_at mid (place + 1) → ComesTo t c old progress.Going new
+  closes_bracket closing true met_is more (opener, spot, top, fits) mid new mid_is like = bracket_closes opener spot more top closing fits new (like ∙ ap (λ (s : FieldScan). freed_at s (place + 1)) mid_is)
+  closes_bracket closing false met_is more wrong mid new mid_is like = absurd (cc)
+
+  -- or none, where no field is innermost
+  pub closes_none : is_closing c ≡ true → (top : Option Frame) → IsInnermostFrame top old.frames → ((f : OpenField) → top ≡ Some (frame.Field f) → ⊥) → (met : Bool) → met ≡ false → (more : List Frame) → ClosesBracket old.frames c met more → (mid : FieldScan) → mid ≡ record old { frames = more } → ComesTo t c old progress.Refused mid
+  closes_none closing top innermost other false met_is more (wrong, more_is) mid mid_is = (go top innermost other, mid_is ∙ ap (λ (fs : List Frame). record old { frames = fs }) more_is)
+    where
+      go : (top : Option Frame) → IsInnermostFrame top old.frames → ((f : OpenField) → top ≡ Some (frame.Field f) → ⊥) → room_step t c ≡ None
+      go None none other = (none_shut none closing).0
+      go (Some (frame.Bracket opener spot)) (others, top) other = (bracket_wrong opener spot others top closing (λ fits. wrong others (opener, spot, top, fits))).0
+      go (Some (frame.Field f)) top other = absurd (other f refl)
+  closes_none closing top innermost other true met_is more closed mid mid_is = absurd (cc)
+
+  -- another sign
+  pub sign_in_code : is_opening c ≡ false → is_closing c ≡ false → (top : Option Frame) → IsInnermostFrame top old.frames → ((f : OpenField) → top ≡ Some (frame.Field f) → ⊥) → (mid new : FieldScan) → mid ≡ old → new ≡ freed_at mid (place + 1) → ComesTo t c old progress.Going new
+  sign_in_code opens closes top innermost other mid new mid_is like = sign_passes opens closes (go top innermost other) new (like ∙ ap (λ (s : FieldScan). freed_at s (place + 1)) mid_is)
+    where
+      go : (top : Option Frame) → IsInnermostFrame top old.frames → ((f : OpenField) → top ≡ Some (frame.Field f) → ⊥) → IsNoColon t.outer t.openers c
+      go None none other = colon_outside none
+      go (Some (frame.Bracket opener spot)) (others, top) other = colon opener spot others top
+      go (Some (frame.Field f)) top other = absurd (other f refl)
 
   -- outside brackets, in a field that is known
   module _ (field : OpenField) (others : List Frame) (top : old.frames ≡ frame.Field field ∷ others) where
-    i : InnermostField base t.outer t.openers field others
-    i = innermost_field base t.outer Done t.openers old.frames others field b.frames top
+    i : InnermostField t.outer t.openers field others
+    i = innermost_field t.outer Done t.openers old.frames others field b.frames top
 
     in_code : (o : Option FieldScanned) → field_operator (i.level ∷ i.outside) Done [] c ≡ o → field_operator t.outer Done t.openers c ≡ o
     in_code o same = ap (λ (os : List ℕ). field_operator t.outer Done os c) i.none ∙ ap (λ (ls : List Level). field_operator ls Done [] c) i.outer_is ∙ same
 
-    pub field_ends : c ≡ byte "}" → (new : FieldScan) → new ≡ ended_in field others → ComesTo base depth t c old progress.Going new
+    pub field_ends : c ≡ byte "}" → (new : FieldScan) → new ≡ ended_in field others → ComesTo t c old progress.Going new
     unfolding is_opening code_operator
     field_ends ends new like =
         let text : List ℕ = i.level.front ++ (spelled Done ++ c ∷ []) in
         takes new (ended_in field others) (field_ended i.level i.outside text) like (in_code (Some (field_ended i.level i.outside text)) (rw (eq-eqb c (byte "}") ends)))
-        (no_opening (depth + frames t) c (ap is_opening ends)) (λ none. (i.level.host, i.level.place, false, between, refl)) (resumed old base t.outer t.openers field others i text)
+        (no_opening (frames t) c (ap is_opening ends)) (resumed old t.outer t.openers field others i text)
 
-    pub field_specifies : (c ≡ byte "}" → ⊥) → c ≡ byte ":" → (new : FieldScan) → new ≡ record old { mode = field_modes.Body field.host regions.Specification false ats.Between; start = field.start } → ComesTo base depth t c old progress.Going new
+    pub field_specifies : (c ≡ byte "}" → ⊥) → c ≡ byte ":" → (new : FieldScan) → new ≡ record old { mode = field_modes.Body field.host regions.Specification false ats.Between; start = field.start } → ComesTo t c old progress.Going new
     unfolding is_opening code_operator
     field_specifies ends specifies new like =
         takes new (record old { mode = field_modes.Body field.host regions.Specification false ats.Between; start = field.start })
         (field_state (i.level ∷ i.outside) [] [] (body i.level.host specification false between) (i.level.front ++ (spelled Done ++ c ∷ []))) like
-        (in_code _ (rw (ne_eqb c (byte "}") ends, eq-eqb c (byte ":") specifies))) (no_opening (depth + frames t) c (ap is_opening specifies)) (λ none. absurd (cc))
+        (in_code _ (rw (ne_eqb c (byte "}") ends, eq-eqb c (byte ":") specifies))) (no_opening (frames t) c (ap is_opening specifies))
         (record {
           mode = ap (λ h. body h specification false between) i.at.host;
           holds = tt;
           no_list = (refl, refl);
           waits = refl;
-          full = λ w. absurd (both_ways _ refl w);
-          start = i.at.start ∙ ap (λ x. base + byte_len x) (sym (append-nil (before i.level.place i.outside ++ spelled i.level.done)));
+          start = i.at.start ∙ ap byte_len (sym (append-nil (before i.level.place i.outside ++ spelled i.level.done)));
           frames = ([], field, others, refl, refl, top, i.at);
         })
 
-    pub field_closes_none : (c ≡ byte "}" → ⊥) → (c ≡ byte ":" → ⊥) → is_closing c ≡ true → ComesTo base depth t c old progress.Refused old
+    pub field_closes_none : (c ≡ byte "}" → ⊥) → (c ≡ byte ":" → ⊥) → is_closing c ≡ true → ComesTo t c old progress.Refused old
     unfolding code_operator openers_with
     field_closes_none ends specifies closing = refuses (in_code None (rw (ne_eqb c (byte "}") ends, ne_eqb c (byte ":") specifies, closing-not-opening c closing, closing)))
 
-    pub field_passes : (c ≡ byte ":" → ⊥) → is_opening c ≡ false → is_closing c ≡ false → (new : FieldScan) → new ≡ freed_at old (place + 1) → ComesTo base depth t c old progress.Going new
-    field_passes specifies opens closes = sign_passes opens closes (ap (λ b. b && (length t.openers == 0)) (ne_eqb c 58 specifies))
+    pub field_passes : (c ≡ byte ":" → ⊥) → is_opening c ≡ false → is_closing c ≡ false → (new : FieldScan) → new ≡ freed_at old (place + 1) → ComesTo t c old progress.Going new
+    field_passes specifies opens closes = sign_passes opens closes (no_colon t.outer t.openers c (ap (λ b. b && (length t.openers == 0)) (ne_eqb c 58 specifies)))
 
 -- there is room for a field and for what its code begins with
 code_room : (n c : ℕ) (h : Host) → has_room_at n c (begins_code h) ≡ nat_lt n 200 && has_room_at (n + 1) c breaks
@@ -193,7 +235,7 @@ abbrev pub code_start : FieldScanned → StringWithFields → FieldScanned
 code_start t host = field_fresh (opened_level t (host_in host) literal t.held ∷ t.outer) [] []
 
 -- the code of a field begins after its `{`
-module _ (old : FieldScan) (base depth c place : ℕ) (host : StringWithFields) (t : FieldScanned) (follow : Follows old base t) (at : place ≡ base + here t) (is : field_move t.mode t.held c ≡ begins_code (host_in host)) where
+module _ (old : FieldScan) (c place : ℕ) (host : StringWithFields) (t : FieldScanned) (follow : Follows old t) (at : place ≡ here t) (is : field_move t.mode t.held c ≡ begins_code (host_in host)) where
   waits : (named : Bool) × (t.mode ≡ body (host_in host) literal named after_brace)
   waits = said t.mode t.held c (begins_code (host_in host)) follow.holds follow.waits is
 
@@ -203,62 +245,58 @@ module _ (old : FieldScan) (base depth c place : ℕ) (host : StringWithFields) 
   in_literal : text_place t.mode ≡ literal
   in_literal = ap text_place waits.1
 
-  stands : place ≡ base + byte_len (before literal (L ∷ t.outer))
-  stands = at ∙ ap (λ p. base + byte_len (before p t.outer ++ (spelled t.done ++ t.held))) in_literal
+  stands : place ≡ byte_len (before literal (L ∷ t.outer))
+  stands = at ∙ ap (λ p. byte_len (before p t.outer ++ (spelled t.done ++ t.held))) in_literal
 
-  code_at : place ≡ base + here (code_start t host)
-  code_at = stands ∙ ap (λ x. base + byte_len x) (sym (append-nil (before literal (L ∷ t.outer))))
+  code_at : place ≡ here (code_start t host)
+  code_at = stands ∙ ap byte_len (sym (append-nil (before literal (L ∷ t.outer))))
 
   abbrev Entered : FieldScan
   Entered = entered old host regions.Literal (place - 1) place
 
-  enters : Follows Entered base (code_start t host)
+  enters : Follows Entered (code_start t host)
   enters =
-      let spot : place - 1 ≡ base + (byte_len (before literal (L ∷ t.outer)) - 1) = waiting_place old base t place follow (ap is_waiting waits.1) at ∙ ap (λ p. base + (byte_len (before p t.outer ++ (spelled t.done ++ t.held)) - 1)) in_literal in
-      let start : old.start ≡ base + byte_len (before literal t.outer ++ spelled t.done) = follow.start ∙ ap (λ p. base + byte_len (before p t.outer ++ spelled t.done)) in_literal in
-      follows_free Entered base (L ∷ t.outer) [] [] place
+      let spot : place - 1 ≡ byte_len (before literal (L ∷ t.outer)) - 1 = ap (λ (n : ℕ). n - 1) stands in
+      let start : old.start ≡ byte_len (before literal t.outer ++ spelled t.done) = follow.start ∙ ap (λ p. byte_len (before p t.outer ++ spelled t.done)) in_literal in
+      follows_free Entered (L ∷ t.outer) [] [] place
       ([], _, old.frames, refl, refl, refl, record { place = spot; host = refl; region = refl; start = start; bare = tt; round = follow.frames }) code_at
 
-  pub no_room_there : nat_lt (depth + length old.frames + 1) 201 ≡ false → ComesTo base depth t c old progress.Refused old
+  pub no_room_there : nat_lt (length old.frames + 1) 201 ≡ false → ComesTo t c old progress.Refused old
   no_room_there room =
-      no_room base depth t c (begins_code (host_in host)) is old
-      (code_room (depth + frames t) c (host_in host) ∙ ap (λ b. b && has_room_at (depth + frames t + 1) c breaks) (one_more old base depth t false follow room))
+      no_room t c (begins_code (host_in host)) is old
+      (code_room (frames t) c (host_in host) ∙ ap (λ b. b && has_room_at (frames t + 1) c breaks) (one_more old t false follow room))
 
   -- the character does what it does where that field is open
   fresh : field_move (code_start t host).mode [] c ≡ breaks
   fresh = stops-fresh (c ∷ [])
 
-  same_step : field_step t c ≡ field_step (code_start t host) c
-  same_step = ap (field_moved t c) is ∙ sym (ap (field_moved (code_start t host) c) fresh)
-
-  same_move : nat_lt (depth + frames t) 200 ≡ true → fielded_move depth (Some t) c ≡ fielded_move depth (Some (code_start t host)) c
-  same_move room =
+  same_step : nat_lt (frames t) 200 ≡ true → room_step t c ≡ room_step (code_start t host) c
+  same_step room =
       let next = field_moved t c (begins_code (host_in host)) in
-      let inside : depth + frames t + 1 ≡ depth + frames (code_start t host) = omega arith in
-      by_move base depth t c (begins_code (host_in host)) is
-      ∙ ap (λ b. if b then string_move t.outer (begins_code (host_in host)) next else moves.Refused)
-      (code_room (depth + frames t) c (host_in host) ∙ ap (λ b. b && has_room_at (depth + frames t + 1) c breaks) room ∙ ap (λ n. has_room_at n c breaks) inside)
-      ∙ ap (λ w. if has_room_at (depth + frames (code_start t host)) c breaks then w else moves.Refused)
-      (goes_if t.outer (begins_code (host_in host)) next (λ none. keeps_open _ refl) ∙ sym (goes_if (L ∷ t.outer) breaks next (λ none. absurd (some_level L t.outer none))))
-      ∙ sym (by_move base depth (code_start t host) c breaks fresh)
+      let deeper : frames t + 1 ≡ frames (code_start t host) = omega arith in
+      by_room t c (begins_code (host_in host)) is
+      ∙ ap (λ b. roomy b next) (code_room (frames t) c (host_in host) ∙ ap (λ b. b && has_room_at (frames t + 1) c breaks) room ∙ ap (λ n. has_room_at n c breaks) deeper)
+      ∙ sym (by_room (code_start t host) c breaks fresh)
 
   -- so the scan comes to what it comes to there, except that it is as it was where the character is refused
-  pub begins_there : nat_lt (depth + length old.frames + 1) 201 ≡ true → (brace : ℕ) → brace ≡ place - 1 → (mid new last : FieldScan) (r : FieldProgress) → mid ≡ entered old host regions.Literal brace place → TakesMove mid c place depth breaks r new → (r ≡ progress.Refused → last ≡ old) → ((r ≡ progress.Refused → ⊥) → last ≡ new) → ComesTo base depth t c old r last
+  pub begins_there : nat_lt (length old.frames + 1) 201 ≡ true → (brace : ℕ) → brace ≡ place - 1 → (mid new last : FieldScan) (r : Progress) → mid ≡ entered old host regions.Literal brace place → TakesMove mid c place breaks r new → (r ≡ progress.Refused → last ≡ old) → ((r ≡ progress.Refused → ⊥) → last ≡ new) → ComesTo t c old r last
   begins_there room brace before_it mid new last r same takes as_before taken =
-      let follows = subst (λ (s : FieldScan). Follows s base (code_start t host)) (sym (same ∙ ap (λ (n : ℕ). entered old host regions.Literal n place) before_it)) enters in
-      comes r (takes base (code_start t host) follows (λ none. absurd (some_level L t.outer none)) code_at fresh) as_before taken
+      let follows = subst (λ (s : FieldScan). Follows s (code_start t host)) (sym (same ∙ ap (λ (n : ℕ). entered old host regions.Literal n place) before_it)) enters in
+      comes r (takes (code_start t host) follows code_at fresh) as_before taken
     where
-      move : fielded_move depth (Some t) c ≡ fielded_move depth (Some (code_start t host)) c
-      move = same_move (one_more old base depth t true follow room)
+      step_so : room_step t c ≡ room_step (code_start t host) c
+      step_so = same_step (one_more old t true follow room)
 
-      comes : (q : FieldProgress) → ComesTo base depth (code_start t host) c mid q new → (q ≡ progress.Refused → last ≡ old) → ((q ≡ progress.Refused → ⊥) → last ≡ new) → ComesTo base depth t c old q last
-      comes progress.Going (next, step, goes, inside, follows) before now =
-          (next, same_step ∙ step, move ∙ goes, inside, subst (λ (s : FieldScan). Follows s base next) (sym (now (λ e. cc))) follows)
-      comes progress.Closed closes before now = move ∙ closes
-      comes progress.Refused (stuck, still) before now = (move ∙ stuck, before refl)
+      comes : (q : Progress) → ComesTo (code_start t host) c mid q new → (q ≡ progress.Refused → last ≡ old) → ((q ≡ progress.Refused → ⊥) → last ≡ new) → ComesTo t c old q last
+      comes progress.Going (step, on) before now = (
+        record { next = step.next; goes = step_so ∙ step.goes; follows = subst (λ (s : FieldScan). Follows s step.next) (sym (now (λ e. cc))) step.follows },
+        goes_on t c (begins_code (host_in host)) is (no_line_end t.mode (begins_code (host_in host)) c (λ e. absurd (cc)) (λ e. absurd (cc))),
+      )
+      comes (progress.LineEnded len) (step, ends, size) before now = absurd (omega (arith, eqb-true (frames (code_start t host)) 0 (and_parts _ _ ends).0))
+      comes progress.Refused (stuck, still) before now = (step_so ∙ stuck, before refl)
 
 -- a field opens in a specification
-module _ (old : FieldScan) (base depth c place : ℕ) (host : StringWithFields) (t : FieldScanned) (follow : Follows old base t) (at : place ≡ base + here t) (is : field_move t.mode t.held c ≡ opens_field (host_in host)) where
+module _ (old : FieldScan) (c place : ℕ) (host : StringWithFields) (t : FieldScanned) (follow : Follows old t) (at : place ≡ here t) (is : field_move t.mode t.held c ≡ opens_field (host_in host)) where
   e : (part : At) × (t.mode ≡ body (host_in host) specification false part) × (c == byte "{" ≡ true)
   e = said t.mode t.held c (opens_field (host_in host)) follow.holds follow.waits is
 
@@ -268,33 +306,36 @@ module _ (old : FieldScan) (base depth c place : ℕ) (host : StringWithFields) 
   in_specification : text_place t.mode ≡ specification
   in_specification = ap text_place e.1
 
-  brace_at : place + 1 ≡ base + byte_len (before literal (K ∷ t.outer))
+  brace_at : place + 1 ≡ byte_len (before literal (K ∷ t.outer))
   brace_at =
-      let stands : place ≡ base + byte_len (before specification t.outer ++ (spelled t.done ++ t.held)) = at ∙ ap (λ p. base + byte_len (before p t.outer ++ (spelled t.done ++ t.held))) in_specification in
+      let stands : place ≡ byte_len (before specification t.outer ++ (spelled t.done ++ t.held)) = at ∙ ap (λ p. byte_len (before p t.outer ++ (spelled t.done ++ t.held))) in_specification in
       let one : 1 ≡ byte_len (c ∷ []) = sym (byte_len-one c ∙ len_utf8_ascii c (omega (arith, eqb-true c 123 e.2))) in
       omega (arith, stands, one, byte_len-append (before specification t.outer) (spelled t.done ++ t.held), byte_len-append (spelled t.done) t.held, byte_len-append (before specification t.outer) (spelled t.done ++ (t.held ++ c ∷ [])), byte_len-append (spelled t.done) (t.held ++ c ∷ []), byte_len-append t.held (c ∷ []))
 
-  pub shut_there : nat_lt (depth + length old.frames + 1) 201 ≡ false → ComesTo base depth t c old progress.Refused old
+  pub shut_there : nat_lt (length old.frames + 1) 201 ≡ false → ComesTo t c old progress.Refused old
   unfolding has_room_at
-  shut_there room = no_room base depth t c (opens_field (host_in host)) is old (one_more old base depth t false follow room)
+  shut_there room = no_room t c (opens_field (host_in host)) is old (one_more old t false follow room)
 
-  pub opens_there : nat_lt (depth + length old.frames + 1) 201 ≡ true → (new : FieldScan) → new ≡ entered old host regions.Specification place (place + 1) → ComesTo base depth t c old progress.Going new
+  pub opens_there : nat_lt (length old.frames + 1) 201 ≡ true → (new : FieldScan) → new ≡ entered old host regions.Specification place (place + 1) → ComesTo t c old progress.Going new
   unfolding has_room_at
   opens_there room new like =
       let made : FieldScan = entered old host regions.Specification place (place + 1) in
-      let start : old.start ≡ base + byte_len (before specification t.outer ++ spelled t.done) = follow.start ∙ ap (λ p. base + byte_len (before p t.outer ++ spelled t.done)) in_specification in
+      let start : old.start ≡ byte_len (before specification t.outer ++ spelled t.done) = follow.start ∙ ap (λ p. byte_len (before p t.outer ++ spelled t.done)) in_specification in
       let bare : (t.done ≡ []) × (t.openers ≡ []) = subst (λ (m : FieldMode). HasNoList m t.done t.openers) e.1 follow.no_list in
-      going base depth t c (opens_field (host_in host)) is old new made (field_fresh (K ∷ t.outer) [] []) like
-      (one_more old base depth t true follow room) refl (λ none other. keeps_open _ refl other) (λ none. absurd (some_level K t.outer none))
-      (follows_free made base (K ∷ t.outer) [] [] (place + 1)
-      ([], _, old.frames, refl, refl, refl, record { place = omega (arith, brace_at); host = refl; region = refl; start = start; bare = bare; round = follow.frames }) (brace_at ∙ ap (λ x. base + byte_len x) (sym (append-nil (before literal (K ∷ t.outer))))))
+      going t c (opens_field (host_in host)) is old new
+      (steps t c (opens_field (host_in host)) is new made (field_fresh (K ∷ t.outer) [] []) like
+      (one_more old t true follow room) refl
+      (follows_free made (K ∷ t.outer) [] [] (place + 1)
+      ([], _, old.frames, refl, refl, refl, record { place = omega (arith, brace_at); host = refl; region = refl; start = start; bare = bare; round = follow.frames }) (brace_at ∙ ap byte_len (sym (append-nil (before literal (K ∷ t.outer)))))))
+      (no_line_end t.mode (opens_field (host_in host)) c (λ e. absurd (cc)) (λ e. absurd (cc)))
 
 -- a field ends with its specification
-pub ends_there : (old : FieldScan) (base depth c : ℕ) (field : OpenField) (others : List Frame) → old.frames ≡ frame.Field field ∷ others → (t : FieldScanned) → Follows old base t → field_move t.mode t.held c ≡ ends_field → (new : FieldScan) → new ≡ ended_in field others → ComesTo base depth t c old progress.Going new
+pub ends_there : (old : FieldScan) (c : ℕ) (field : OpenField) (others : List Frame) → old.frames ≡ frame.Field field ∷ others → (t : FieldScanned) → Follows old t → field_move t.mode t.held c ≡ ends_field → (new : FieldScan) → new ≡ ended_in field others → ComesTo t c old progress.Going new
 unfolding has_room_at
-ends_there old base depth c field others top t follow is new like =
-    let i = innermost_field base t.outer t.done t.openers old.frames others field follow.frames top in
+ends_there old c field others top t follow is new like =
+    let i = innermost_field t.outer t.done t.openers old.frames others field follow.frames top in
     let text : List ℕ = t.held ++ c ∷ [] in
-    going base depth t c ends_field is old new (ended_in field others) (field_ended i.level i.outside text) like
-    refl (ap (λ (ls : List Level). specification_ended ls text) i.outer_is) (λ none other. keeps_open _ refl other) (λ none. (i.level.host, i.level.place, false, between, refl))
-    (resumed old base t.outer t.openers field others i text)
+    going t c ends_field is old new
+    (steps t c ends_field is new (ended_in field others) (field_ended i.level i.outside text) like
+    refl (ap (λ (ls : List Level). specification_ended ls text) i.outer_is) (resumed old t.outer t.openers field others i text))
+    (no_line_end t.mode ends_field c (λ e. absurd (cc)) (λ e. absurd (cc)))

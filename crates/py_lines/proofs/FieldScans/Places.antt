@@ -1,5 +1,5 @@
--- What is open in a string with fields stands in what it has to: code in a field, and the text of a specification in its own.
-use Rattle.std.proofs.Common.{◌≡◌, ℕ, ◌==◌, Bool, true, false, None, Some, List, [], ◌∷◌, ◌++◌, length, refl, sym, ap, ◌∙◌, subst}
+-- The text of a specification stands in its field.
+use Rattle.std.proofs.Common.{◌≡◌, ℕ, ◌==◌, Bool, true, false, None, Some, List, [], ◌∷◌, ◌++◌, refl, sym, ap, ◌∙◌, subst}
 use Rattle.std.proofs.lemmas.Bool.{both_ways, cond_both}
 use Rattle.py_lines.specs.FieldStrings.{Host, Place, literal, specification}
 use Rattle.py_lines.specs.declared.mode.Mode.{Mode}
@@ -14,37 +14,24 @@ use Rattle.py_lines.specs.declared.frames.Frame.{Frame}
 use Rattle.py_lines.specs.declared.frames.Frame.TheVariants as frame
 use Rattle.py_lines.specs.declared.field_scan.FieldScan.{FieldScan}
 use Rattle.py_lines.specs.Private.FieldMachine as spots
-use Rattle.py_lines.specs.Private.FieldMachine.{At, Level, FieldScanned, field_text_start, text_place, between, body, empty, grows, breaks, opens_field, ends_field, FieldMove, long_host, between_move}
+use Rattle.py_lines.specs.Private.FieldMachine.{At, Level, FieldScanned, text_place, between, body, empty, grows, breaks, opens_field, ends_field, FieldMove, long_host, between_move}
 use Rattle.py_lines.specs.Private.FieldFaults.{quotes_specification}
 use Rattle.py_lines.specs.Private.Frames.{InField, IsInnermostFrame, StandsIn}
 use Rattle.py_lines.specs.Private.FieldScan.{Follows, FramesFollow, HasNoList, IsInPlace, IsPlaced, code_mode, code_move, code_moved, meets_field, mode_from, region_in, at_in}
-use Rattle.py_lines.specs.Private.ScanMachine.{IsInString, host_in, meet_of, string_state}
+use Rattle.py_lines.specs.Private.ScanMachine.{host_in, meet_of}
 use Rattle.py_lines.specs.Piece.{Piece, spelled}
-use Rattle.py_lines.proofs.FieldSoundness.Holds.{HoldsLevels}
-use Rattle.py_lines.proofs.FieldSoundness.HostSteps.{sound_at}
-use Rattle.py_lines.proofs.FieldSoundness.WholeTexts.{no_limit, any_rooms}
+use Rattle.py_lines.proofs.FieldSoundness.Holds.{HoldsLevels, IsFieldSound, Limit}
 use Rattle.py_lines.proofs.FieldScans.Moves.{BodyMoved, body_moved}
-use Rattle.py_lines.proofs.FieldScans.Frames.{none_outside}
-use Rattle.py_lines.proofs.FieldScans.FieldFaults.{code_inside}
 
 -- a text, and code
 pub in_text : (region : Region) (h : Host) (named : Bool) (at : At) (fs : List Frame) → StandsIn region fs → IsPlaced (body h (region_in region) named at) fs
 in_text regions.Literal h named at fs stands = tt
 in_text regions.Specification h named at fs stands = stands
 
-pub in_code : (m : Mode) (fs : List Frame) → (fs ≡ [] → ⊥) → IsPlaced (code_mode m) fs
-in_code (modes.FieldOpened h) fs some = some
-in_code (modes.FieldEmpty h) fs some = some
-in_code m fs some = some
-
-code_in : (m : Mode) (fs : List Frame) → IsPlaced (code_mode m) fs → fs ≡ [] → ⊥
-code_in (modes.FieldOpened h) fs placed = placed
-code_in (modes.FieldEmpty h) fs placed = placed
-code_in m fs placed = placed
-
--- something is open
-pub some_open : (fs others : List Frame) (f : Frame) → fs ≡ f ∷ others → fs ≡ [] → ⊥
-some_open fs others f is none = absurd (cc (is, none))
+pub in_code : (m : Mode) (fs : List Frame) → IsPlaced (code_mode m) fs
+in_code (modes.FieldOpened h) fs = tt
+in_code (modes.FieldEmpty h) fs = tt
+in_code m fs = tt
 
 -- where a quote would close a string whose specification is open, that stands in its field
 code_quotes : (m : Mode) (c : ℕ) → quotes_specification (code_mode m) c ≡ false
@@ -67,7 +54,6 @@ some_frame fs none field = subst InField none field
 -- what a move of the machine asks for
 abbrev pub Placed : FieldMove → List Frame → Type 0
 Placed (grows m) fs = IsPlaced m fs
-Placed breaks fs = fs ≡ [] → ⊥
 Placed (opens_field h) fs = InField fs
 Placed ends_field fs = InField fs
 Placed other fs = Unit {0}
@@ -83,44 +69,42 @@ body_placed host place named at c (opens_field h) fs placed (same, is, none, bra
 body_placed host place named at c ends_field fs placed (is, none) = subst (λ (p : Place). IsPlaced (body host p named at) fs) is placed
 body_placed host place named at c v fs placed moved = tt
 
-step_placed : (step : Move) (fs : List Frame) → (fs ≡ [] → ⊥) → Placed (code_moved step) fs
-step_placed (moves.Grows n) fs some = in_code n fs some
-step_placed moves.Breaks fs some = some
-step_placed step fs some = tt
+step_placed : (step : Move) (fs : List Frame) → Placed (code_moved step) fs
+step_placed (moves.Grows n) fs = in_code n fs
+step_placed step fs = tt
 
-code_placed : (m : Mode) (c : ℕ) (fs : List Frame) → (fs ≡ [] → ⊥) → Placed (code_move m c) fs
+code_placed : (m : Mode) (c : ℕ) (fs : List Frame) → Placed (code_move m c) fs
 unfolding code_move spots.field_move spots.body_move
-code_placed (modes.FieldOpened h) c fs some =
-    cond_both (c == h.quote) (grows (empty (host_in h))) (between_move (host_in h) literal false between c) (λ v. Placed v fs) (λ _. some)
+code_placed (modes.FieldOpened h) c fs =
+    cond_both (c == h.quote) (grows (empty (host_in h))) (between_move (host_in h) literal false between c) (λ v. Placed v fs) (λ _. tt)
     (λ _. body_placed (host_in h) literal false between c (between_move (host_in h) literal false between c) fs tt (body_moved (host_in h) literal false between [] c))
-code_placed (modes.FieldEmpty h) c fs some =
-    cond_both (c == h.quote) (grows (body (long_host (host_in h)) literal false between)) breaks (λ v. Placed v fs) (λ _. tt) (λ _. some)
-code_placed m c fs some = step_placed (meet_of m c) fs some
+code_placed (modes.FieldEmpty h) c fs =
+    cond_both (c == h.quote) (grows (body (long_host (host_in h)) literal false between)) breaks (λ v. Placed v fs) (λ _. tt) (λ _. tt)
+code_placed m c fs = step_placed (meet_of m c) fs
 
 moves_placed : (m : FieldMode) (c : ℕ) (fs : List Frame) → IsPlaced (mode_from m) fs → Placed (meets_field m c) fs
 unfolding spots.field_move
-moves_placed (field_modes.Code m) c fs placed = code_placed m c fs (code_in m fs placed)
+moves_placed (field_modes.Code m) c fs placed = code_placed m c fs
 moves_placed (field_modes.Body h region named at) c fs placed =
     body_placed (host_in h) (region_in region) named (at_in at) c _ fs placed (body_moved (host_in h) (region_in region) named (at_in at) [] c)
 
 pub moved_placed : (old : FieldScan) (c : ℕ) (v : FieldMove) → v ≡ meets_field old.mode c → IsInPlace old → Placed v old.frames
 moved_placed old c v is placed = subst (λ (x : FieldMove). Placed x old.frames) (sym is) (moves_placed old.mode c old.frames placed)
 
--- so it is wherever the scan follows the machine from the string's start
-specification_in : (base : ℕ) (outer : List Level) (text : List ℕ) (done : List Piece) (openers : List ℕ) (fs : List Frame) → HoldsLevels no_limit specification outer text → openers ≡ [] → FramesFollow base outer done openers fs → InField fs
-specification_in base [] text done openers fs levels none frames = absurd levels
-specification_in base (l ∷ ls) text done openers fs levels none ([], field, others, stack, openers_are, frames_are, at) = subst InField (sym frames_are) tt
-specification_in base (l ∷ ls) text done openers fs levels none ((b ∷ bs), field, others, stack, openers_are, frames_are, at) = absurd (cc (none, openers_are))
+-- so it is wherever the scan follows the machine from the line's start
+specification_in : (limit : Limit) (outer : List Level) (text : List ℕ) (done : List Piece) (openers : List ℕ) (fs : List Frame) → HoldsLevels limit specification outer text → openers ≡ [] → FramesFollow outer done openers fs → InField fs
+specification_in limit [] text done openers fs levels none frames = absurd levels
+specification_in limit (l ∷ ls) text done openers fs levels none ([], field, others, stack, openers_are, frames_are, at) = subst InField (sym frames_are) tt
+specification_in limit (l ∷ ls) text done openers fs levels none ((b ∷ bs), field, others, stack, openers_are, frames_are, at) = absurd (cc (none, openers_are))
 
-pub scan_placed : (scan : FieldScan) (base : ℕ) (held : List ℕ) (t : FieldScanned) → string_state held ≡ Some t → IsInString t → Follows scan base t → IsInPlace scan
-scan_placed scan base held t steps inside follows = go scan.mode refl
+pub scan_placed : (limit : Limit) (scan : FieldScan) (read : List ℕ) (t : FieldScanned) → IsFieldSound limit t read → Follows scan t → IsInPlace scan
+scan_placed limit scan read t sound follows = go scan.mode refl
   where
     go : (m : FieldMode) → scan.mode ≡ m → IsPlaced (mode_from m) scan.frames
-    go (field_modes.Code m) is = in_code m scan.frames (λ none. code_inside m t (ap mode_from (sym is) ∙ follows.mode) inside (none_outside base t.outer t.done t.openers scan.frames follows.frames (ap length none)))
+    go (field_modes.Code m) is = in_code m scan.frames
     go (field_modes.Body h regions.Literal named at) is = tt
     go (field_modes.Body h regions.Specification named at) is =
         let mode : t.mode ≡ body (host_in h) specification named (at_in at) = sym follows.mode ∙ ap mode_from is in
         let bare : (t.done ≡ []) × (t.openers ≡ []) = subst (λ (m : spots.FieldMode). HasNoList m t.done t.openers) mode follows.no_list in
-        let levels = (sound_at no_limit held t (any_rooms (Some field_text_start) held) steps).levels in
-        specification_in base t.outer (spelled t.done ++ t.held) t.done t.openers scan.frames
-        (subst (λ (m : spots.FieldMode). HoldsLevels no_limit (text_place m) t.outer (spelled t.done ++ t.held)) mode levels) bare.1 follows.frames
+        specification_in limit t.outer (spelled t.done ++ t.held) t.done t.openers scan.frames
+        (subst (λ (m : spots.FieldMode). HoldsLevels limit (text_place m) t.outer (spelled t.done ++ t.held)) mode sound.levels) bare.1 follows.frames

@@ -1,39 +1,41 @@
--- What one more character comes to in a string with fields, by what it does in the machine: the open piece goes on, closes, or ends
--- before another.
-use Rattle.std.proofs.Common.{◌≡◌, ℕ, ◌+◌, Bool, true, false, Option, None, Some, List, [], ◌∷◌, ◌++◌, refl, sym, ap, ◌∙◌, subst, not, ◌||◌, nat_lt, arith, append_assoc, length, length-append}
-use Rattle.std.proofs.lemmas.Bool.{both_ways}
+-- What one more character comes to, by what it does in the machine with fields: the open piece goes on, closes, or ends before another.
+use Rattle.std.proofs.Common.{◌≡◌, ℕ, ◌+◌, Bool, true, false, None, Some, List, [], ◌∷◌, ◌++◌, refl, sym, ap, ◌∙◌, subst, not, ◌||◌, ◌&&◌, ◌==◌, nat_lt, arith, append_assoc, length}
+use Rattle.std.proofs.lemmas.Bool.{and_right, both_ways, false_from_ne_true}
+use Rattle.std.proofs.Math.Bool.{and-true}
 use Rattle.std.specs.Prelude.{if◌then◌else◌}
+use Rattle.std.specs.Char.{len_utf8}
+use Rattle.std.proofs.lemmas.Str.{len_utf8_ascii}
+use Rattle.py_lines.specs.Character.{is_line_feed}
 use Rattle.py_lines.specs.Piece.{Piece, spelled, Class, line_end}
+use Rattle.py_lines.specs.Balance.{is_opening}
 use Rattle.py_lines.specs.LogicalLine.{byte_len}
 use Rattle.py_lines.specs.FieldStrings.{literal}
+use Rattle.py_lines.specs.declared.mode.Mode.{Mode}
 use Rattle.py_lines.specs.declared.mode.Mode.TheVariants as modes
 use Rattle.py_lines.specs.declared.mode.Move.{Move}
 use Rattle.py_lines.specs.declared.mode.Move.TheVariants as moves
-use Rattle.py_lines.specs.declared.field_scan.FieldScan.{FieldScan}
-use Rattle.py_lines.specs.declared.field_scan.FieldProgress.TheVariants as progress
-use Rattle.py_lines.specs.Private.FieldMachine.{FieldMove, closes, refused, Level, FieldScanned, field_fresh, field_move, field_moved, before, frames, has_room_at, plain, grows, breaks, field_state, field_class_of, field_closed, field_started}
-use Rattle.py_lines.specs.Private.ScanMachine.{string_move, fielded_move, IsInString}
-use Rattle.py_lines.specs.Private.FieldScan.{Follows, FramesFollow, freed_at, ComesTo, mode_from, meets_field, HoldsCode}
-use Rattle.std.specs.Char.{len_utf8}
-use Rattle.std.proofs.lemmas.Str.{len_utf8_ascii}
-use Rattle.py_lines.specs.Balance.{is_opening}
-use Rattle.py_lines.specs.declared.mode.Mode.{Mode}
+use Rattle.py_lines.specs.declared.mode.Start.{Start}
 use Rattle.py_lines.specs.declared.mode.Start.TheVariants as starts
 use Rattle.py_lines.specs.declared.field_mode.FieldMode.{FieldMode}
 use Rattle.py_lines.specs.declared.field_mode.FieldMode.TheVariants as field_modes
-use Rattle.py_lines.specs.Private.Machine.{start_of}
+use Rattle.py_lines.specs.declared.field_scan.FieldScan.{FieldScan}
+use Rattle.py_lines.specs.declared.field_scan.Progress.TheVariants as progress
+use Rattle.py_lines.specs.Private.Machine.{start_of, move_of}
 use Rattle.py_lines.specs.Private.FieldMachine as spots
+use Rattle.py_lines.specs.Private.FieldMachine.{FieldMove, closes, refused, Level, FieldScanned, field_fresh, field_move, field_moved, before, frames, has_room_at, roomy, room_step, plain, grows, breaks, field_state, field_class_of, field_closed, field_started}
 use Rattle.py_lines.specs.Private.FieldFaults.{here}
+use Rattle.py_lines.specs.Private.ScanMachine.{string_move, fielded_move}
+use Rattle.py_lines.specs.Private.FieldScan.{Follows, FramesFollow, freed_at, StepsTo, ComesTo, ends_line, is_line_ending, line_end_size, line_end_progress, is_returned_mode, mode_from, meets_field, HoldsCode}
 use Rattle.py_lines.proofs.Text.CharacterTests.{operator_ascii}
 use Rattle.py_lines.proofs.Pieces.PieceLists.{piece, spelled-push}
 use Rattle.py_lines.proofs.LogicalLines.Cuts.{byte_len-append}
 use Rattle.py_lines.proofs.LineScan.LineCount.{byte_len-one}
-use Rattle.py_lines.proofs.LineScan.NextCharacter.{one_feed}
 use Rattle.py_lines.proofs.Machine.Starts as begun_so
 use Rattle.py_lines.proofs.Machine.Starts.{StartsSo}
 use Rattle.py_lines.proofs.ScanMachine.Follows.{room_grows, room_closes, opens_no}
-use Rattle.py_lines.proofs.FieldScans.Frames.{frames_alike, neutral_alike}
+use Rattle.py_lines.proofs.FieldScans.Frames.{frames-length, frames_alike, neutral_alike}
 use Rattle.py_lines.proofs.FieldScans.Moves.{list_at, meets, said, starts_so}
+use Rattle.py_lines.proofs.LineScan.NextCharacter.{one_feed}
 
 -- a contradiction, which `cc` finds faster here than where much is known
 pub some_level : (l : Level) (ls : List Level) → l ∷ ls ≡ [] → ⊥
@@ -47,63 +49,99 @@ is_closing_move _ = false
 pub keeps_open : (v : FieldMove) → is_closing_move v ≡ false → v ≡ closes → ⊥
 keeps_open v other is = both_ways _ other (ap is_closing_move is)
 
--- what doesn't close the string goes on in it, if there is a step
-pub goes_if : (outer : List Level) (v : FieldMove) (o : Option FieldScanned) → (outer ≡ [] → v ≡ closes → ⊥) → string_move outer v o ≡ string_move [] refused o
-goes_if [] closes o goes_on = absurd (goes_on refl refl)
-goes_if [] v None goes_on = refl
-goes_if [] v (Some next) goes_on = refl
-goes_if (l ∷ ls) v None goes_on = refl
-goes_if (l ∷ ls) v (Some next) goes_on = refl
+-- what doesn't close a string that is alone goes on in it
+string_goes : (outer : List Level) (v : FieldMove) (next : FieldScanned) → (outer ≡ [] → v ≡ closes → ⊥) → string_move outer v (Some next) ≡ moves.Grows modes.Fielded
+string_goes [] closes next open_still = absurd (open_still refl refl)
+string_goes [] v next open_still = refl
+string_goes (l ∷ ls) v next open_still = refl
 
-module _ (base depth : ℕ) (t : FieldScanned) (c : ℕ) (v : FieldMove) (is : field_move t.mode t.held c ≡ v) where
-  abbrev roomy : Bool → Move → Move
-  roomy b w = if b then w else moves.Refused
+module _ (t : FieldScanned) (c : ℕ) (v : FieldMove) (is : field_move t.mode t.held c ≡ v) where
+  -- such a string goes on, where so many brackets are open round it
+  pub goes_through : (depth : ℕ) (next : FieldScanned) → has_room_at (depth + frames t) c v ≡ true → field_moved t c v ≡ Some next → (t.outer ≡ [] → v ≡ closes → ⊥) → fielded_move depth (Some t) c ≡ moves.Grows modes.Fielded
+  goes_through depth next room comes open_still =
+      let if_room : Bool → Move → Move = λ b w. if b then w else moves.Refused in
+      ap (λ w. if_room (has_room_at (depth + frames t) c w) (string_move t.outer w (field_moved t c w))) is
+      ∙ ap (λ b. if_room b (string_move t.outer v (field_moved t c v))) room ∙ ap (string_move t.outer v) comes ∙ string_goes t.outer v next open_still
 
-  pub by_move : fielded_move depth (Some t) c ≡ roomy (has_room_at (depth + frames t) c v) (string_move t.outer v (field_moved t c v))
-  by_move = ap (λ w. roomy (has_room_at (depth + frames t) c w) (string_move t.outer w (field_moved t c w))) is
+  -- what the machine does, where there is room
+  pub by_room : room_step t c ≡ roomy (has_room_at (frames t) c v) (field_moved t c v)
+  by_room = ap (λ w. roomy (has_room_at (frames t) c w) (field_moved t c w)) is
 
-  -- the string goes on
-  pub goes_through : (next : FieldScanned) → has_room_at (depth + frames t) c v ≡ true → field_moved t c v ≡ Some next → (t.outer ≡ [] → v ≡ closes → ⊥) → fielded_move depth (Some t) c ≡ moves.Grows modes.Fielded
-  goes_through next room comes goes_on =
-      by_move ∙ ap (λ b. roomy b (string_move t.outer v (field_moved t c v))) room ∙ ap (string_move t.outer v) comes ∙ goes_if t.outer v (Some next) goes_on
+  by_line : ends_line t c ≡ (frames t == 0) && is_line_ending t.mode v c
+  by_line = ap (λ w. (frames t == 0) && is_line_ending t.mode w c) is
 
   -- it is taken
-  pub going : (old new made : FieldScan) (next : FieldScanned) → new ≡ made → has_room_at (depth + frames t) c v ≡ true → field_moved t c v ≡ Some next → (t.outer ≡ [] → v ≡ closes → ⊥) → IsInString next → Follows made base next → ComesTo base depth t c old progress.Going new
-  going old new made next same room comes goes_on inside follow = (
-    next,
-    ap (field_moved t c) is ∙ comes,
-    goes_through next room comes goes_on,
-    inside,
-    subst (λ (scan : FieldScan). Follows scan base next) (sym same) follow,
-  )
+  pub steps : (new made : FieldScan) (next : FieldScanned) → new ≡ made → has_room_at (frames t) c v ≡ true → field_moved t c v ≡ Some next → Follows made next → StepsTo t c new
+  steps new made next same room comes follow = record {
+    next = next;
+    goes = by_room ∙ ap (λ b. roomy b (field_moved t c v)) room ∙ comes;
+    follows = subst (λ (scan : FieldScan). Follows scan next) (sym same) follow;
+  }
+
+  -- and the line goes on
+  pub goes_on : is_line_ending t.mode v c ≡ false → ends_line t c ≡ false
+  goes_on on = by_line ∙ and_right (frames t == 0) (is_line_ending t.mode v c) on
+
+  pub going : (old new : FieldScan) → StepsTo t c new → is_line_ending t.mode v c ≡ false → ComesTo t c old progress.Going new
+  going old new step on = (step, goes_on on)
+
+  -- or ends with it, if nothing is open round it
+  pub ends_so : (old new : FieldScan) (n len : ℕ) → StepsTo t c new → is_line_ending t.mode v c ≡ true → n ≡ frames t → len ≡ line_end_size t.mode → ComesTo t c old (line_end_progress (n == 0) len) new
+  ends_so old new n len step ending same size = go (n == 0) (by_line ∙ ap (λ b. (frames t == 0) && b) ending ∙ and-true (frames t == 0) ∙ ap (λ k. k == 0) (sym same))
+    where
+      go : (b : Bool) → ends_line t c ≡ b → ComesTo t c old (line_end_progress b len) new
+      go true ends = (step, ends, size)
+      go false ends = (step, ends)
 
   -- it finds no room
-  pub no_room : (old : FieldScan) → has_room_at (depth + frames t) c v ≡ false → ComesTo base depth t c old progress.Refused old
-  no_room old none = (by_move ∙ ap (λ b. roomy b (string_move t.outer v (field_moved t c v))) none, refl)
-
-  -- it closes the string
-  pub comes_closed : v ≡ closes → t.outer ≡ [] → has_room_at (depth + frames t) c v ≡ true → fielded_move depth (Some t) c ≡ moves.Closes
-  comes_closed closing none room =
-      by_move ∙ ap (λ b. roomy b (string_move t.outer v (field_moved t c v))) room
-      ∙ ap (λ w. string_move t.outer w (field_moved t c v)) closing
-      ∙ ap (λ o. string_move o closes (field_moved t c v)) none
+  pub no_room : (old : FieldScan) → has_room_at (frames t) c v ≡ false → ComesTo t c old progress.Refused old
+  no_room old none = (by_room ∙ ap (λ b. roomy b (field_moved t c v)) none, refl)
 
   -- it may not stand there
-  pub no_step : (old : FieldScan) → field_moved t c v ≡ None → ComesTo base depth t c old progress.Refused old
-  no_step old none =
-      (by_move ∙ ap (λ o. roomy (has_room_at (depth + frames t) c v) (string_move t.outer v o)) none ∙ ap (roomy (has_room_at (depth + frames t) c v)) (goes_if t.outer v None (λ outside shut. let clash = sym (ap (field_moved t c) shut) ∙ none in cc)) ∙ go (has_room_at (depth + frames t) c v), refl)
+  pub no_step : (old : FieldScan) → field_moved t c v ≡ None → ComesTo t c old progress.Refused old
+  no_step old none = (by_room ∙ ap (roomy (has_room_at (frames t) c v)) none ∙ go (has_room_at (frames t) c v), refl)
     where
-      go : (b : Bool) → roomy b moves.Refused ≡ moves.Refused
+      go : (b : Bool) → roomy b None ≡ None
       go true = refl
       go false = refl
 
+-- only CR with LF after it, and LF alone, end a line
+pub no_line_end : (m : spots.FieldMode) (v : FieldMove) (c : ℕ) → (v ≡ closes → m ≡ plain modes.Return → ⊥) → (v ≡ breaks → is_line_feed c ≡ false) → is_line_ending m v c ≡ false
+no_line_end (plain modes.Return) closes c shuts feeds = absurd (shuts refl refl)
+no_line_end m breaks c shuts feeds = feeds refl
+no_line_end m v c shuts feeds = refl
+
+-- what begins no line end is no LF
+pub feeds_no : (c : ℕ) (x : Start) → start_of c ≡ x → (x ≡ starts.LineEnd → ⊥) → is_line_feed c ≡ false
+feeds_no c x is other = false_from_ne_true _ (λ feed. other (sym is ∙ begun_so.start-feed c feed))
+
+pub no_line_before : (m : spots.FieldMode) (c : ℕ) (x : Start) → start_of c ≡ x → (x ≡ starts.LineEnd → ⊥) → is_line_ending m breaks c ≡ false
+no_line_before m c x is other = no_line_end m breaks c (λ e. absurd (keeps_open breaks refl e)) (λ e. feeds_no c x is other)
+
+line_before : (m : spots.FieldMode) (c : ℕ) → is_line_feed c ≡ true → is_line_ending m breaks c ≡ true
+line_before (plain modes.Return) c feed = feed
+line_before m c feed = feed
+
+one_alone : (m : spots.FieldMode) (held : List ℕ) (c : ℕ) → field_move m held c ≡ breaks → is_line_feed c ≡ true → 1 ≡ line_end_size m
+unfolding field_move move_of
+one_alone (plain modes.Return) held c is feed = absurd (keeps_open breaks refl (sym is ∙ rw feed))
+one_alone m held c is feed = refl
+
+returned_is : (m : FieldMode) → is_returned_mode m ≡ true → mode_from m ≡ plain modes.Return
+returned_is (field_modes.Code modes.Return) is = refl
+returned_is m is = absurd (both_ways _ refl is)
+
+not_returned : (m : FieldMode) → is_returned_mode m ≡ false → mode_from m ≡ plain modes.Return → ⊥
+not_returned (field_modes.Code modes.Return) is mode = both_ways _ is refl
+not_returned m is mode = absurd (cc mode)
+
 -- the innermost list goes on at this byte
-pub follows_free : (old : FieldScan) (base : ℕ) (outer : List Level) (done : List Piece) (openers : List ℕ) (place : ℕ) → FramesFollow base outer done openers old.frames → place ≡ base + byte_len (before literal outer ++ spelled done) → Follows (freed_at old place) base (field_fresh outer done openers)
-follows_free old base outer done openers place follow at = record { mode = refl; holds = refl; no_list = tt; waits = tt; full = λ w. absurd (cc); start = at; frames = follow }
+pub follows_free : (old : FieldScan) (outer : List Level) (done : List Piece) (openers : List ℕ) (place : ℕ) → FramesFollow outer done openers old.frames → place ≡ byte_len (before literal outer ++ spelled done) → Follows (freed_at old place) (field_fresh outer done openers)
+follows_free old outer done openers place follow at = record { mode = refl; holds = refl; no_list = tt; waits = tt; start = at; frames = follow }
 
 -- the byte after one more piece, which is one character of one byte
-pub piece_after : (base place : ℕ) (outer : List Level) (done : List Piece) (class : Class) (c : ℕ) → 1 ≡ byte_len (c ∷ []) → place ≡ base + byte_len (before literal outer ++ spelled done) → place + 1 ≡ base + byte_len (before literal outer ++ spelled (done ++ piece class (c ∷ []) ∷ []))
-piece_after base place outer done class c one at =
+pub piece_after : (place : ℕ) (outer : List Level) (done : List Piece) (class : Class) (c : ℕ) → 1 ≡ byte_len (c ∷ []) → place ≡ byte_len (before literal outer ++ spelled done) → place + 1 ≡ byte_len (before literal outer ++ spelled (done ++ piece class (c ∷ []) ∷ []))
+piece_after place outer done class c one at =
     let written : (before literal outer ++ spelled done) ++ c ∷ [] ≡ before literal outer ++ spelled (done ++ piece class (c ∷ []) ∷ []) = append_assoc (before literal outer) (spelled done) (c ∷ []) ∙ ap (λ x. before literal outer ++ x) (sym (spelled-push done class (c ∷ []))) in
     omega (arith, at, one, byte_len-append (before literal outer ++ spelled done) (c ∷ []), ap byte_len written)
 
@@ -117,83 +155,99 @@ pub one_operator : (c : ℕ) → start_of c ≡ starts.Operator → 1 ≡ byte_l
 one_operator c is = sym (byte_len-one c ∙ len_utf8_ascii c (operator_ascii c (subst (StartsSo c) is (begun_so.starts_so c))))
 
 -- the code meets the character as the machine does
-pub moves_so : (old : FieldScan) (base : ℕ) (t : FieldScanned) (c : ℕ) (v : FieldMove) → Follows old base t → v ≡ meets_field old.mode c → field_move t.mode t.held c ≡ v
-moves_so old base t c v follow is = sym (is ∙ meets old.mode t.held c (subst (λ (m : spots.FieldMode). HoldsCode m t.held) (sym follow.mode) follow.holds) ∙ ap (λ (m : spots.FieldMode). field_move m t.held c) follow.mode)
+pub moves_so : (old : FieldScan) (t : FieldScanned) (c : ℕ) (v : FieldMove) → Follows old t → v ≡ meets_field old.mode c → field_move t.mode t.held c ≡ v
+moves_so old t c v follow is = sym (is ∙ meets old.mode t.held c (subst (λ (m : spots.FieldMode). HoldsCode m t.held) (sym follow.mode) follow.holds) ∙ ap (λ (m : spots.FieldMode). field_move m t.held c) follow.mode)
 
 -- the scan follows where the open piece grows
-pub grown_follows : (old : FieldScan) (base : ℕ) (t : FieldScanned) (c : ℕ) (code : FieldMode) (m : spots.FieldMode) → Follows old base t → field_move t.mode t.held c ≡ grows m → mode_from code ≡ m → Follows (record old { mode = code }) base (field_state t.outer t.done t.openers m (t.held ++ c ∷ []))
-grown_follows old base t c code m follow is same =
+pub grown_follows : (old : FieldScan) (t : FieldScanned) (c : ℕ) (code : FieldMode) (m : spots.FieldMode) → Follows old t → field_move t.mode t.held c ≡ grows m → mode_from code ≡ m → Follows (record old { mode = code }) (field_state t.outer t.done t.openers m (t.held ++ c ∷ []))
+grown_follows old t c code m follow is same =
     let k = said t.mode t.held c (grows m) follow.holds follow.waits is in
     record {
       mode = same;
       holds = k.holds;
       no_list = list_at t.mode m t.done t.openers k.place follow.no_list;
       waits = k.waits;
-      full = λ w none. absurd (omega (arith, ap length none, length-append t.held (c ∷ [])));
-      start = follow.start ∙ ap (λ p. base + byte_len (before p t.outer ++ spelled t.done)) (sym k.place);
+      start = follow.start ∙ ap (λ p. byte_len (before p t.outer ++ spelled t.done)) (sym k.place);
       frames = follow.frames;
     }
 
-module _ (old : FieldScan) (base depth : ℕ) (t : FieldScanned) (c place : ℕ) (follow : Follows old base t) (inside : IsInString t) (at : place ≡ base + here t) where
-  -- the open piece grows
-  pub grown : (code : FieldMode) (m : spots.FieldMode) → field_move t.mode t.held c ≡ grows m → mode_from code ≡ m → ComesTo base depth t c old progress.Going (record old { mode = code })
-  grown code m is same =
-      going base depth t c (grows m) is old (record old { mode = code }) (record old { mode = code }) (field_state t.outer t.done t.openers m (t.held ++ c ∷ [])) refl
-      (room_grows (depth + frames t) c m) refl (λ none other. absurd (cc)) (λ none. (said t.mode t.held c (grows m) follow.holds follow.waits is).body_stays (inside none))
-      (grown_follows old base t c code m follow is same)
+-- the state with more of its text
+abbrev pub with_text : FieldScanned → List ℕ → FieldScanned
+with_text t run = field_state t.outer t.done t.openers t.mode (t.held ++ run)
 
-  -- it closes, in a field's code
-  pub closed_in : field_move t.mode t.held c ≡ closes → (t.outer ≡ [] → ⊥) → (new : FieldScan) → new ≡ freed_at old (place + len_utf8 c) → ComesTo base depth t c old progress.Going new
-  closed_in is within new same =
-      let shut = said t.mode t.held c closes follow.holds follow.waits is in
+-- which the open piece has by a character that grows it in its mode
+pub grown_on : (scan : FieldScan) (t : FieldScanned) (c : ℕ) → Follows scan t → field_move t.mode t.held c ≡ grows t.mode
+    → (room_step t c ≡ Some (with_text t (c ∷ []))) × Follows scan (with_text t (c ∷ []))
+grown_on scan t c follows move = (
+  ap (λ v. roomy (has_room_at (frames t) c v) (field_moved t c v)) move ∙ ap (λ b. roomy b (Some (with_text t (c ∷ [])))) (room_grows (frames t) c t.mode),
+  grown_follows scan t c scan.mode t.mode follows move follows.mode,
+)
+
+module _ (old : FieldScan) (t : FieldScanned) (c place : ℕ) (follow : Follows old t) (at : place ≡ here t) where
+  -- the open piece grows
+  pub grown : (code : FieldMode) (m : spots.FieldMode) → field_move t.mode t.held c ≡ grows m → mode_from code ≡ m → ComesTo t c old progress.Going (record old { mode = code })
+  grown code m is same =
+      going t c (grows m) is old (record old { mode = code })
+      (steps t c (grows m) is (record old { mode = code }) (record old { mode = code }) (field_state t.outer t.done t.openers m (t.held ++ c ∷ [])) refl (room_grows (frames t) c m) refl (grown_follows old t c code m follow is same))
+      (no_line_end t.mode (grows m) c (λ e. absurd (cc)) (λ e. absurd (cc)))
+
+  -- it closes
+  shut : field_move t.mode t.held c ≡ closes → (new : FieldScan) → new ≡ freed_at old (place + len_utf8 c) → StepsTo t c new
+  shut is new same =
+      let said_so = said t.mode t.held c closes follow.holds follow.waits is in
       let done : List Piece = t.done ++ piece (field_class_of t.mode) (t.held ++ c ∷ []) ∷ [] in
       let text : List ℕ = before literal t.outer ++ (spelled t.done ++ t.held) in
-      let stands : place ≡ base + byte_len text = at ∙ ap (λ p. base + byte_len (before p t.outer ++ (spelled t.done ++ t.held))) shut.0 in
+      let stands : place ≡ byte_len text = at ∙ ap (λ p. byte_len (before p t.outer ++ (spelled t.done ++ t.held))) said_so.0 in
       let written : text ++ c ∷ [] ≡ before literal t.outer ++ spelled done = append_assoc (before literal t.outer) (spelled t.done ++ t.held) (c ∷ []) ∙ ap (λ x. before literal t.outer ++ x) (append_assoc (spelled t.done) t.held (c ∷ []) ∙ sym (spelled-push t.done (field_class_of t.mode) (t.held ++ c ∷ []))) in
-      going base depth t c closes is old new (freed_at old (place + len_utf8 c)) (field_fresh t.outer done t.openers) same
-      (room_closes (depth + frames t) c) refl (λ none other. within none) (λ none. absurd (within none))
-      (follows_free old base t.outer done t.openers (place + len_utf8 c)
-      (frames_alike base t.outer t.done done t.openers old.frames (shut.1 t.done) follow.frames) (omega (arith, stands, byte_len-append text (c ∷ []), byte_len-one c, ap byte_len written)))
+      steps t c closes is new (freed_at old (place + len_utf8 c)) (field_fresh t.outer done t.openers) same (room_closes (frames t) c) refl
+      (follows_free old t.outer done t.openers (place + len_utf8 c)
+      (frames_alike t.outer t.done done t.openers old.frames (said_so.1 t.done) follow.frames) (omega (arith, stands, byte_len-append text (c ∷ []), byte_len-one c, ap byte_len written)))
 
-  -- in the string itself it closes the string
-  pub closed_out : field_move t.mode t.held c ≡ closes → t.outer ≡ [] → (new : FieldScan) → ComesTo base depth t c old progress.Closed new
-  closed_out is none new = comes_closed base depth t c closes is refl none (room_closes (depth + frames t) c)
+  pub closed_on : field_move t.mode t.held c ≡ closes → is_returned_mode old.mode ≡ false → (new : FieldScan) → new ≡ freed_at old (place + len_utf8 c) → ComesTo t c old progress.Going new
+  closed_on is other new same =
+      going t c closes is old new (shut is new same) (no_line_end t.mode closes c (λ e mode. not_returned old.mode other (follow.mode ∙ mode)) (λ e. absurd (cc)))
+
+  pub closed_line : field_move t.mode t.held c ≡ closes → is_returned_mode old.mode ≡ true → (new : FieldScan) → new ≡ freed_at old (place + len_utf8 c) → ComesTo t c old (line_end_progress (length old.frames == 0) 2) new
+  closed_line is returned new same =
+      let mode : t.mode ≡ plain modes.Return = sym follow.mode ∙ returned_is old.mode returned in
+      ends_so t c closes is old new (length old.frames) 2 (shut is new same) (ap (λ (m : spots.FieldMode). is_line_ending m closes c) mode) (frames-length t.outer t.done t.openers old.frames follow.frames) (sym (ap line_end_size mode))
 
   -- the open piece ends before it
   pub record Broken : Type 0 where
-    pub within : t.outer ≡ [] → ⊥
-    pub frames : FramesFollow base t.outer (field_closed t.mode t.done t.held) t.openers old.frames
-    pub start : place ≡ base + byte_len (before literal t.outer ++ spelled (field_closed t.mode t.done t.held))
+    pub frames : FramesFollow t.outer (field_closed t.mode t.done t.held) t.openers old.frames
+    pub start : place ≡ byte_len (before literal t.outer ++ spelled (field_closed t.mode t.done t.held))
 
   pub broken : field_move t.mode t.held c ≡ breaks → Broken
   broken is =
       let b = said t.mode t.held c breaks follow.holds follow.waits is in
       record {
-        within = λ none. b.no_body (inside none);
-        frames = frames_alike base t.outer t.done (field_closed t.mode t.done t.held) t.openers old.frames (b.neutral t.done) follow.frames;
-        start = at ∙ ap (λ p. base + byte_len (before p t.outer ++ (spelled t.done ++ t.held))) b.place ∙ ap (λ x. base + byte_len (before literal t.outer ++ x)) (sym (b.spells t.done));
+        frames = frames_alike t.outer t.done (field_closed t.mode t.done t.held) t.openers old.frames (b.neutral t.done) follow.frames;
+        start = at ∙ ap (λ p. byte_len (before p t.outer ++ (spelled t.done ++ t.held))) b.place ∙ ap (λ x. byte_len (before literal t.outer ++ x)) (sym (b.spells t.done));
       }
 
   -- another piece begins with it
-  pub begun : field_move t.mode t.held c ≡ breaks → (m : Mode) → start_of c ≡ starts.Open m → (new : FieldScan) → new ≡ record old { mode = field_modes.Code m; start = place } → ComesTo base depth t c old progress.Going new
+  pub begun : field_move t.mode t.held c ≡ breaks → (m : Mode) → start_of c ≡ starts.Open m → (new : FieldScan) → new ≡ record old { mode = field_modes.Code m; start = place } → ComesTo t c old progress.Going new
   begun is m starts_with new same =
       let b = broken is in
       let s = starts_so c m starts_with in
-      going base depth t c breaks is old new (record old { mode = field_modes.Code m; start = place }) (field_state t.outer (field_closed t.mode t.done t.held) t.openers (plain m) (c ∷ [])) same
-      (no_opening (depth + frames t) c (opens_no c (starts.Open m) starts_with (λ other. absurd (cc))))
+      going t c breaks is old new
+      (steps t c breaks is new (record old { mode = field_modes.Code m; start = place }) (field_state t.outer (field_closed t.mode t.done t.held) t.openers (plain m) (c ∷ [])) same
+      (no_opening (frames t) c (opens_no c (starts.Open m) starts_with (λ other. absurd (cc))))
       (ap (field_started t.outer (field_closed t.mode t.done t.held) t.openers c) starts_with)
-      (λ none other. b.within none) (λ none. absurd (b.within none))
-      (record { mode = s.1; holds = s.0; no_list = tt; waits = tt; full = λ w. absurd (cc); start = b.start; frames = b.frames })
+      (record { mode = s.1; holds = s.0; no_list = tt; waits = tt; start = b.start; frames = b.frames }))
+      (no_line_before t.mode c (starts.Open m) starts_with (λ other. absurd (cc)))
 
   -- it is a line end
-  pub ended_line : field_move t.mode t.held c ≡ breaks → start_of c ≡ starts.LineEnd → (new : FieldScan) → new ≡ freed_at old (place + 1) → ComesTo base depth t c old progress.Going new
+  pub ended_line : field_move t.mode t.held c ≡ breaks → start_of c ≡ starts.LineEnd → (new : FieldScan) → new ≡ freed_at old (place + 1) → ComesTo t c old (line_end_progress (length old.frames == 0) 1) new
   ended_line is starts_with new same =
       let b = broken is in
+      let feed : is_line_feed c ≡ true = subst (StartsSo c) starts_with (begun_so.starts_so c) in
       let closed : List Piece = field_closed t.mode t.done t.held in
       let done : List Piece = closed ++ piece line_end (c ∷ []) ∷ [] in
-      going base depth t c breaks is old new (freed_at old (place + 1)) (field_fresh t.outer done t.openers) same
-      (no_opening (depth + frames t) c (opens_no c starts.LineEnd starts_with (λ other. absurd (cc))))
+      ends_so t c breaks is old new (length old.frames) 1
+      (steps t c breaks is new (freed_at old (place + 1)) (field_fresh t.outer done t.openers) same
+      (no_opening (frames t) c (opens_no c starts.LineEnd starts_with (λ other. absurd (cc))))
       (ap (field_started t.outer closed t.openers c) starts_with)
-      (λ none other. b.within none) (λ none. absurd (b.within none))
-      (follows_free old base t.outer done t.openers (place + 1)
-      (frames_alike base t.outer closed done t.openers old.frames (neutral_alike closed line_end (c ∷ []) refl refl) b.frames) (piece_after base place t.outer closed line_end c (one_feed c (subst (StartsSo c) starts_with (begun_so.starts_so c))) b.start))
+      (follows_free old t.outer done t.openers (place + 1)
+      (frames_alike t.outer closed done t.openers old.frames (neutral_alike closed line_end (c ∷ []) refl refl) b.frames) (piece_after place t.outer closed line_end c (one_feed c feed) b.start)))
+      (line_before t.mode c feed) (frames-length t.outer t.done t.openers old.frames follow.frames) (one_alone t.mode t.held c is feed)

@@ -10,10 +10,10 @@ use Rattle.py_lines.specs.Character.{is_quote}
 use Rattle.py_lines.specs.FieldStrings.{begins_open}
 use Rattle.py_lines.specs.Private.FieldText.{AtBrace, AtCode, HasSimpleCode, InCode, StandsInCode, AtSpecification, InText, IsQuotedText, HasText, Leads, LeadsAlways, LeadsBy, is_code_bracket, is_escaped}
 use Rattle.py_lines.specs.Private.Run.{BeginsPlainString, IsRunOf, IsWholePlainString, is_ascii_word, is_code_byte, is_literal_byte}
-use Rattle.py_lines.proofs.LineScan.AsciiRuns.{all_pass, full_take}
+use Rattle.py_lines.proofs.LineScan.AsciiRuns.{all_pass, full_take, quote-no_word}
 use Rattle.py_lines.proofs.LineScan.PlainStrings.{split_at, text_size}
 use Rattle.py_lines.proofs.SimpleLines.FirstBytes.{taken_one, taken_two}
-use Rattle.py_lines.proofs.FieldScans.Texts.{Spot, escape_leads, leads_to_code, passing, ends_in_word, quote_no_word, string_leads, brace_leads, closing_leads, code_after, codes_lead, field_ends, leads-append, open_leads, opening_leads, specification_begins, specification_ends, specifications_lead, texts_lead, two_lead}
+use Rattle.py_lines.proofs.FieldScans.Texts.{Spot, escape_leads, leads_to_code, passing, ends_in_word, string_leads, brace_leads, closing_leads, code_after, codes_lead, field_ends, leads-append, open_leads, opening_leads, specification_begins, specification_ends, specifications_lead, texts_lead, two_lead}
 
 -- the bytes after the first ones, as a slice has them
 abbrev pub rest_of : List ℕ → ℕ → List ℕ
@@ -116,7 +116,7 @@ code_counted_on bytes n m k so_far begins_so text run =
     apart : ends_in_word false (take (n + m) bytes) ≡ false
     apart =
         ap (ends_in_word false) (taken_on bytes n m ∙ ap (λ t. take n bytes ++ t) taken) ∙ ends-append false (take n bytes) (text.q ∷ (text.run ++ text.q ∷ []))
-        ∙ ends-append (is_ascii_word text.q) text.run (text.q ∷ []) ∙ quote_no_word text.q text.quote
+        ∙ ends-append (is_ascii_word text.q) text.run (text.q ∷ []) ∙ quote-no_word text.q text.quote
 
     last : ends_in_word false (take (n + m + k) bytes) ≡ ends_in_word false (take k (rest_of bytes (n + m)))
     last =

@@ -33,7 +33,7 @@ use Rattle.py_lines.proofs.FieldScans.Frames.{AreOpenAlike, neutral_alike}
 use Rattle.py_lines.proofs.FieldScans.Openings.{no_colon}
 use Rattle.py_lines.proofs.FieldScans.Taking.{no_opening, goes_through, keeps_open, some_level}
 use Rattle.py_lines.proofs.LineScan.StringSteps.{string_grows}
-use Rattle.py_lines.proofs.LineScan.AsciiRuns.{low_is, quote-no_break, space-not-quote, word_byte_continues, word_byte_low, word_byte_starts}
+use Rattle.py_lines.proofs.LineScan.AsciiRuns.{low_is, quote-no_break, space-not-quote, word_byte_continues, word_byte_low, word_byte_starts, space-no_word}
 use Rattle.py_lines.proofs.LineScan.Runs.{stays-no_break, body_parts, quote_ascii, space_low}
 use Rattle.py_lines.proofs.LogicalLines.Cuts.{break-return}
 use Rattle.py_lines.proofs.Machine.LiveTexts as live
@@ -44,7 +44,7 @@ Spot = List Level → Level → FieldScanned → Type 0
 
 -- one character
 one_step : (depth : ℕ) (t next : FieldScanned) (c : ℕ) (v : FieldMove) → c < 128 → is_break c ≡ false → field_move t.mode t.held c ≡ v → (t.outer ≡ [] → v ≡ closes → ⊥) → has_room_at (depth + frames t) c v ≡ true → field_moved t c v ≡ Some next → GoesThrough depth t (c ∷ []) next
-one_step depth t next c v low none is goes_on room comes = (low, none, goes_through 0 depth t c v is next room comes goes_on, next, ap (field_moved t c) is ∙ comes, refl)
+one_step depth t next c v low none is goes_on room comes = (low, none, goes_through t c v is depth next room comes goes_on, next, ap (field_moved t c) is ∙ comes, refl)
 
 -- one by which the open piece grows
 grows_to : (depth : ℕ) (t : FieldScanned) (c : ℕ) (m : FieldMode) → c < 128 → is_break c ≡ false → field_move t.mode t.held c ≡ grows m → GoesThrough depth t (c ∷ []) (field_state t.outer t.done t.openers m (t.held ++ c ∷ []))
@@ -170,7 +170,7 @@ code_after quote Q c cs other leads outer l depth t same quotes room (held, is) 
     go (u, (low, none, move, next, step, others), to) =
         let begins : field_move (body l.host literal false after_brace) held c ≡ begins_code l.host = code_moves l.host false held c other in
         let comes : field_moved T c (begins_code l.host) ≡ Some next = sym (ap (field_moved F c) (stops-fresh (c ∷ []))) ∙ step in
-        (u, (low, none, goes_through 0 depth T c (begins_code l.host) begins next free comes (λ o e. keeps_open _ refl e), next, ap (field_moved T c) begins ∙ comes, others), to)
+        (u, (low, none, goes_through T c (begins_code l.host) begins depth next free comes (λ o e. keeps_open _ refl e), next, ap (field_moved T c) begins ∙ comes, others), to)
 
 -- wherever the code stands
 from_code : (passes : Mode → Bool) (os : List ℕ) (quote : ℕ) (run : List ℕ) (Q : Spot) → ((outer : List Level) (l : Level) (depth : ℕ) (front : List ℕ) (done : List Piece) (held : List ℕ) (m : Mode) → passes m ≡ true → depth + (length l.openers + levels_open outer) ≤ 100 → l.host.quote ≡ quote → is_quote quote ≡ true → (u : FieldScanned) × GoesThrough depth (field_state (level_after l front ∷ outer) done os (plain m) held) run u × Q outer l u) → Leads quote (StandsInCode passes os) run Q
@@ -195,10 +195,6 @@ no_more m held c simple word space none = absurd (both_ways _ refl simple)
 word_no_quote : (c : ℕ) → is_word_character c ≡ true → is_quote c ≡ false
 word_no_quote c h = excluded is_word_character is_quote c (quote-not-word c) h
 
-space-not-word : (c : ℕ) → is_space c ≡ true → is_ascii_word c ≡ false
-unfolding is_space is_ascii_word
-space-not-word c h = none_of is_ascii_word (32 ∷ 9 ∷ 12 ∷ []) c refl h
-
 pub operator-not-word : (c : ℕ) → is_operator c ≡ true → is_ascii_word c ≡ false
 unfolding is_operator is_ascii_word
 operator-not-word c h = none_of is_ascii_word (codes "+-*/%@&|^~<>=!()[]{},:.;") c refl h
@@ -206,7 +202,7 @@ operator-not-word c h = none_of is_ascii_word (codes "+-*/%@&|^~<>=!()[]{},:.;")
 word_others : (c : ℕ) → is_ascii_word c ≡ true → (is_space c ≡ false) × (is_break c ≡ false) × (is_opening c ≡ false)
 unfolding is_opening is_ascii_word
 word_others c h = (
-  excluded is_ascii_word is_space c (space-not-word c) h,
+  excluded is_ascii_word is_space c (space-no_word c) h,
   stays-no_break (modes.Word spellings.Name) c h,
   excluded is_ascii_word is_opening c (λ opens. none_of is_ascii_word (40 ∷ 91 ∷ 123 ∷ []) c refl opens) h,
 )
@@ -262,7 +258,7 @@ space_moves c h modes.Free held simple = inl (plain_move_is modes.Free held c (s
 space_moves c h modes.Space held simple = inr (modes.Space, plain_move_is modes.Space held c (space_others c h).0 ∙ rw h refl, refl)
 space_moves c h (modes.Word s) held simple =
     let neither : is_prefix_spelling s && is_quote c ≡ false = and_right (is_prefix_spelling s) _ (space_others c h).0 in
-    inl (plain_move_is (modes.Word s) held c (space_others c h).0 ∙ rw (word_byte_continues c (space_low c h) ∙ space-not-word c h, neither) refl)
+    inl (plain_move_is (modes.Word s) held c (space_others c h).0 ∙ rw (word_byte_continues c (space_low c h) ∙ space-no_word c h, neither) refl)
 space_moves c h m held simple = absurd (both_ways _ refl simple)
 
 -- an operator
@@ -409,9 +405,6 @@ module _ (quote : ℕ) (outer : List Level) (l : Level) (depth : ℕ) (front : L
       goes_on-append depth (open_in ps (modes.Opened q) (q ∷ [])) two (closed_in ps ((q ∷ d ∷ []) ++ ds)) (d ∷ ds) (q ∷ [])
       (goes_on-append depth (open_in ps (modes.Opened q) (q ∷ [])) one two (d ∷ []) ds (text_on ps (modes.Opened q) (q ∷ []) d refl (inside_grows d parts.0).1 parts.0) (texts_on ps (q ∷ d ∷ []) ds parts.1))
       (text_ends ps ((q ∷ d ∷ []) ++ ds))
-
-pub quote_no_word : (q : ℕ) → is_quote q ≡ true → is_ascii_word q ≡ false
-quote_no_word q h = sym (word_byte_continues q (quote_ascii q h)) ∙ quote-not-word q h
 
 quote_opens_none : (q : ℕ) → is_quote q ≡ true → is_opening q ≡ false
 unfolding is_quote is_opening

@@ -12,11 +12,10 @@ use Rattle.py_lines.specs.declared.fault.FaultKind.{FaultKind}
 use Rattle.py_lines.specs.declared.fault.FaultKind.TheVariants as faults
 use Rattle.py_lines.specs.declared.fault.Fault.{Fault}
 use Rattle.py_lines.proofs.Text.Utf8Prefixes.{goes_on}
-use Rattle.py_lines.proofs.Text.Decoding.{decoding}
+use Rattle.py_lines.proofs.Text.Decoding.{decoding, decoded}
 use Rattle.py_lines.proofs.Text.Splits.{Either, either}
 use Rattle.py_lines.proofs.FieldSoundness.LiveTexts.{live_before}
 use Rattle.py_lines.proofs.Faults.FaultPrefixes.{field_fault_prefix, undecodable}
-use Rattle.py_lines.proofs.Text.Decoding.{decoded}
 use Rattle.py_lines.proofs.Lexings.Existence.{IsLineOf, lexical, reading_live}
 use Rattle.py_lines.proofs.Lexings.LineEnds.{none_both}
 use Rattle.py_lines.proofs.Lexings.Prefixes.{same_fault}

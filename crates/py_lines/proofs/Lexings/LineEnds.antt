@@ -113,10 +113,6 @@ level_stack prefix others st steps deep =
     let first = stack_before prefix others st steps in
     first.1 ∙ ap (λ l. Some l) (nil_from_length first.0 (sym (stands prefix first.0 first.1).depth ∙ deep))
 
--- as those that end a line
-pub prefix_stack : (prefix others : List Piece) (st : List Bracket) → brackets_of (prefix ++ others) ≡ Some st → EndsLine prefix → brackets_of prefix ≡ Some []
-prefix_stack prefix others st steps ended = level_stack prefix others st steps (depth_prefix prefix ended)
-
 -- a line end opens nothing
 pub line_string : (body : List Piece) (last : Piece) → last.class ≡ line_end → StringsFit 0 body → StringsFit 0 (body ++ last ∷ [])
 line_string body last class strings = EachAtDepth-append StringFits 0 body (last ∷ []) strings ((λ is. absurd (cc)), tt)

@@ -35,9 +35,6 @@ use Rattle.py_lines.proofs.ScanMachine.Reaching.{reach, same_state, runs_live}
 use Rattle.py_lines.proofs.Lexings.Existence.{reading_live}
 use Rattle.py_lines.proofs.Lexings.LineEnds.{no_end_in, depth_prefix, length_line, return_returns, none_both, line_first, ends-append, ends-line}
 pub use Rattle.py_lines.proofs.Lexings.LineEnds.{line_first, read-alone}
-use Rattle.py_lines.specs.PieceGrammar.{IsLineEnd, feed, return_feed, return}
-use Rattle.py_lines.specs.Fields.{InClass, AreReadBefore}
-use Rattle.py_lines.specs.Settled.{EndsForGood, IsSettledPrefix}
 pub use Rattle.py_lines.proofs.Lexings.Existence.{reading_live, IsLineOf, lexical}
 
 -- a line end that the machine has found stays, though CR may get LF after it

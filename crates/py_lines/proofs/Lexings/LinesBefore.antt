@@ -11,7 +11,7 @@ use Rattle.py_lines.proofs.Pieces.PieceLists.{MayFollow, AreReadIn-append, AreRe
 use Rattle.py_lines.proofs.Pieces.OpenBrackets.{balanced-from_stack, stack-from_balanced}
 use Rattle.py_lines.proofs.Pieces.ShallowPieces.{IsShallow-append, IsShallow-parts, brackets_shallow}
 use Rattle.py_lines.proofs.Machine.EarlierPieces.{shift_if, stack-after}
-use Rattle.py_lines.proofs.Lexings.LineEnds.{ends-line, read_on, ended_reading, depth_prefix, prefix_stack}
+use Rattle.py_lines.proofs.Lexings.LineEnds.{ends-line, read_on, ended_reading, depth_prefix, level_stack}
 
 follows_lines : (lines rest : List Piece) → begins_marked rest ≡ false → MayFollow lines rest
 follows_lines [] rest h = tt
@@ -42,7 +42,7 @@ pub read_apart : (lines rest : List Piece) → EndsLine lines → IsBalancedRead
 read_apart lines rest ended reading =
     let whole = stack-from_balanced (lines ++ rest) reading.balanced (brackets_shallow 0 (lines ++ rest) reading.shallow) in
     let shallow = IsShallow-parts 0 lines rest reading.shallow in
-    let prefix = prefix_stack lines rest [] whole ended in
+    let prefix = level_stack lines rest [] whole (depth_prefix lines ended) in
     let second = no_stack _ _ (sym (stack-after lines rest prefix) ∙ whole) in
     let one = balanced-from_stack lines prefix in
     let two = balanced-from_stack rest second in (

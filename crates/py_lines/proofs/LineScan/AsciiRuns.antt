@@ -4,15 +4,13 @@ use Rattle.std.specs.Prelude.{encode_utf8_all, codes, nat_lt, nat_le}
 use Rattle.std.specs.Str.{all_scalars}
 use Rattle.std.specs.List.{list_all}
 use Rattle.std.specs.Char.{IsScalar}
-use Rattle.std.proofs.lemmas.Bool.{and_parts, and_from, both_ways, lt-ltb, ltb-true}
+use Rattle.std.proofs.lemmas.Bool.{and_parts, and_from, lt-ltb, ltb-true}
 use Rattle.std.proofs.lemmas.Str.{encode_ascii}
 use Rattle.std.proofs.Math.Utf8.{low_scalar}
 use Rattle.py_lines.specs.Character.{is_space, is_word_start, is_word_character, is_digit, is_quote, is_operator, is_break}
 use Rattle.py_lines.specs.declared.mode.Spelling.{Spelling}
-use Rattle.py_lines.specs.declared.mode.Mode.{Mode}
-use Rattle.py_lines.specs.declared.mode.Mode.TheVariants as modes
 use Rattle.py_lines.specs.Private.Machine.{first_spelling, spelling_with, spelling_on, IsFull}
-use Rattle.py_lines.specs.Private.Run.{is_ascii_word, is_free, word_spelling}
+use Rattle.py_lines.specs.Private.Run.{is_ascii_word, word_spelling}
 use Rattle.py_lines.proofs.Text.CharacterTests.{none_of}
 use Rattle.unicode_ident.proofs.IdentLemmas.{is_xid_continue-ascii, is_xid_start-ascii}
 use Rattle.std.proofs.Math.Bool.{or_assoc, or_comm}
@@ -92,6 +90,15 @@ pub quote-no_break : (c : ℕ) → is_quote c ≡ true → is_break c ≡ false
 unfolding is_quote is_break
 quote-no_break c h = none_of is_break (codes "'\"") c refl h
 
+-- neither a quote nor a space is of a word
+pub quote-no_word : (c : ℕ) → is_quote c ≡ true → is_ascii_word c ≡ false
+unfolding is_quote is_ascii_word
+quote-no_word c h = none_of is_ascii_word (codes "'\"") c refl h
+
+pub space-no_word : (c : ℕ) → is_space c ≡ true → is_ascii_word c ≡ false
+unfolding is_space is_ascii_word
+space-no_word c h = none_of is_ascii_word (codes " \t" ++ 0x0C ∷ []) c refl h
+
 abbrev pub is_low : ℕ → Bool
 is_low c = nat_lt c 128
 
@@ -100,7 +107,3 @@ low_is c h = ltb-true c 128 h
 
 pub is_low_from : (c : ℕ) → c < 128 → nat_lt c 128 ≡ true
 is_low_from c h = lt-ltb c 128 h
-
-pub free_is : (m : Mode) → is_free m ≡ true → m ≡ modes.Free
-free_is modes.Free h = refl
-free_is m h = absurd (both_ways _ refl h)

@@ -1,77 +1,120 @@
--- The scan of a line's characters, one after another.
-use Rattle.std.proofs.Common.{◌≡◌, ℕ, ◌+◌, inl, inr, true, false, Some, List, [], ◌∷◌, ◌++◌, refl, sym, ap, ◌∙◌, subst, append-nil, arith}
+-- The scan of a line's characters, one after another: where it has come, both machines have.
+use Rattle.std.proofs.Common.{◌≡◌, ℕ, ◌+◌, ◌==◌, ◌&&◌, not, inl, inr, ◌⊎◌, ⊎_elim, Bool, true, false, Option, None, Some, List, [], ◌∷◌, ◌++◌, length, refl, sym, ap, ◌∙◌, subst, append-nil, arith}
 use Rattle.std.specs.Prelude.{encode_utf8_all}
-use Rattle.std.proofs.lemmas.Bool.{both_ways, and_right, false_from_ne_true}
+use Rattle.std.specs.Char.{len_utf8}
+use Rattle.std.proofs.lemmas.Bool.{both_ways, and_parts, and_right, eqb-true, false_from_ne_true}
+use Rattle.std.proofs.lemmas.List.{nil_from_length, length-map}
 use Rattle.std.proofs.lemmas.Str.{encode_ascii}
+use Rattle.py_lines.specs.Balance.{depth_through}
 use Rattle.py_lines.specs.Character.{is_line_feed, is_return}
-use Rattle.py_lines.specs.Piece.{line_end, Piece, ends, begins, spelled}
+use Rattle.py_lines.specs.Piece.{line_end, operator, Piece, ends, begins, spelled}
 use Rattle.py_lines.specs.Fields.{AreReadBefore, fielded}
 use Rattle.py_lines.specs.PieceGrammar.{return}
-use Rattle.py_lines.specs.LogicalLine.{byte_len, line_ends}
+use Rattle.py_lines.specs.LogicalLine.{byte_len, is_line_end_class}
 use Rattle.py_lines.specs.declared.mode.Mode.{Mode}
 use Rattle.py_lines.specs.declared.mode.Mode.TheVariants as modes
-use Rattle.py_lines.specs.declared.scan.Progress.TheVariants as progress
+use Rattle.py_lines.specs.declared.mode.Move.{Move}
+use Rattle.py_lines.specs.declared.mode.Move.TheVariants as moves
+use Rattle.py_lines.specs.declared.mode.Start.{Start}
+use Rattle.py_lines.specs.declared.mode.Start.TheVariants as starts
+use Rattle.py_lines.specs.declared.field_scan.Progress.{Progress}
+use Rattle.py_lines.specs.declared.field_scan.Progress.TheVariants as progress
+use Rattle.py_lines.specs.declared.field_scan.FieldScan.{FieldScan}
 use Rattle.py_lines.specs.declared.scan.Scan.{Scan}
-use Rattle.py_lines.specs.Private.Machine.{Scanned, fresh, Bracket, brackets_of}
-use Rattle.py_lines.specs.Private.ScanMachine.{IsScanSound, scan_steps}
-use Rattle.py_lines.specs.Private.Scan.{KeepsUp, Tallies, IsStacked, Takes, freed, line_start, stack_of, none_open, is_return_mode, EndsNoLine, EndsWhole, IsUnderWay, IsAtLineEnd}
+use Rattle.py_lines.specs.Private.Machine.{Scanned, fresh, class_of, move_of, moved, started, start_of, Bracket, brackets_of}
+use Rattle.py_lines.specs.Private.FieldMachine.{FieldScanned, FieldMove, FieldMode, plain, closes, breaks, field_state, field_step, field_move, frames, has_room, room_step, roomy}
+use Rattle.py_lines.specs.Private.FieldFaults.{here}
+use Rattle.py_lines.specs.Private.FieldScan.{Follows, HasReached, IsInPlace, ComesTo, StepsTo, PushesField, ends_line, is_line_ending, line_end_size, code_mode, code_moved, code_move, is_returned_mode, mode_from, opened_at, HoldsCode, bracket_openers}
+use Rattle.py_lines.specs.Private.ScanMachine.{HoldsOpen, IsScanSound, line_begun, line_start, meet_of, move_at, move_in, opened_move, scan_step, scan_steps}
+use Rattle.py_lines.specs.Private.Scan.{Counts, HasBegun, IsNotEnded, Takes, TakesNext, count_with, freed, is_returned, is_return_mode, none_open, stack_if, EndsNoLine, EndsWhole, IsUnderWay, IsAtLineEnd}
 use Rattle.py_lines.proofs.Pieces.PieceLists.{piece, spelled-push, AreReadIn-push, follows_any}
 use Rattle.py_lines.proofs.Text.CharacterTests.{feed_is, return_is}
-use Rattle.py_lines.proofs.Machine.PieceSteps.{scanned}
-use Rattle.py_lines.proofs.ScanMachine.Advance.{steps_push}
-use Rattle.py_lines.proofs.ScanMachine.Soundness.{stands_sound}
-use Rattle.py_lines.proofs.LineScan.PieceEnd.{no_class_bracket, closes_shut}
-use Rattle.py_lines.proofs.LineScan.NextCharacter.{one_return, none_level, none_stack}
+use Rattle.py_lines.proofs.Machine.PieceSteps.{scanned, pieces_at}
+use Rattle.py_lines.proofs.FieldSoundness.Holds.{IsFieldSound}
+use Rattle.py_lines.proofs.FieldSoundness.WholeTexts.{two_hundred}
+use Rattle.py_lines.proofs.ScanMachine.Advance.{steps_push, kept, kept_if}
+use Rattle.py_lines.proofs.ScanMachine.Follows.{IsTied, Alike, flat, some_is}
+use Rattle.py_lines.proofs.ScanMachine.Steps.{breaks_in, breaks_out, meets as scan_meets}
+use Rattle.py_lines.proofs.FieldScans.Moves.{meets as field_meets}
+use Rattle.py_lines.specs.declared.field_mode.FieldMode.TheVariants as field_modes
+use Rattle.py_lines.proofs.ScanMachine.Reaching.{scan_takes}
+use Rattle.py_lines.proofs.ScanMachine.Runs.{tied_step}
+use Rattle.py_lines.proofs.ScanMachine.Soundness.{StandsSound, from_start, stands_sound}
+use Rattle.py_lines.proofs.FieldScans.Places.{scan_placed}
+use Rattle.py_lines.proofs.LineScan.PieceEnd.{no_class_bracket}
+use Rattle.py_lines.proofs.LineScan.StringSteps.{field_push}
+use Rattle.py_lines.proofs.LogicalLines.Cuts.{byte_len-append}
+use Rattle.py_lines.proofs.LineScan.LineCount.{EndsNoLine-push, byte_len-one, counted_push}
+use Rattle.py_lines.proofs.LineScan.NextCharacter.{both_ends, one_feed, return_feeds, class_closed, closed_one_line, depth_none, one_return, none_level, none_stack, return_breaks, return_mode}
+use Rattle.py_lines.proofs.LineScan.BracketStack.{none_length}
+use Rattle.py_lines.proofs.FieldScans.Frames.{frames-length, none_outside}
+use Rattle.py_lines.proofs.Machine.LiveTexts.{stack_closed}
+use Rattle.py_lines.proofs.Machine.Starts.{StartsSo, start-feed, starts_so}
+use Rattle.py_lines.specs.declared.field_mode.FieldMode.{FieldMode as OpenMode}
 use Rattle.py_lines.proofs.Lexings.LineEnds.{line_string}
 
 -- where the machine has come, it is sound
 pub sound_steps : {st : List Bracket} (m : Mode) (read : List ℕ) (s : Scanned) → IsScanSound (line_start m) [] → scan_steps (Some (line_start m)) read ≡ Some s → brackets_of s.done ≡ Some st → IsScanSound s read
 sound_steps {st = st} m read s start steps stack = (stands_sound m read s st start (record { run = steps; stack = stack })).scan
 
-pub way_keeps : (m : Mode) (scan : Scan) (read : List ℕ) (way : IsUnderWay m scan read) → IsScanSound (line_start m) [] → KeepsUp scan way.state read
-way_keeps m scan read way start = record { sound = sound_steps m read way.state start way.steps way.stacked; one_line = way.one_line; tallies = way.tallies; stacked = way.stacked }
+-- what is known where the scan of a line is under way
+module _ {m : Mode} {scan : Scan} {read : List ℕ} (way : IsUnderWay m scan read) (start : IsScanSound (line_start m) []) where
+  stands : StandsSound m read way.state way.brackets
+  stands = stands_sound m read way.state way.brackets start (record { run = way.steps; stack = way.stacked })
 
--- a character that ended the line
-pub at_line_end : (m : Mode) (old new : Scan) (read rest : List ℕ) (c len : ℕ) (way : IsUnderWay m old read) → IsScanSound (line_start m) [] → Takes old way.state c (progress.LineEnded len) new → IsAtLineEnd m new (read ++ c ∷ []) rest len
-at_line_end m old new read rest c len way start takes =
-    let ended = takes.0 in
-    let sound = sound_steps m (read ++ c ∷ []) (fresh (ended.body ++ ended.last ∷ [])) start (steps_push (line_start m) read way.state c way.steps ∙ ended.goes) (no_class_bracket ended.body ended.last ended.are.class ended.are.paired) in
-    record {
-      body = ended.body;
-      last = ended.last;
-      are = ended.are;
-      to = fresh (ended.body ++ ended.last ∷ []);
-      steps = steps_push (line_start m) read way.state c way.steps ∙ ended.goes;
-      spell = sym (append-nil (spelled (ended.body ++ ended.last ∷ []))) ∙ sound.spell;
-      fit = λ after is. sound.fit after;
-      strings = sound.strings;
-      tallies = ended.tallies;
-    }
+  same : stands.state ≡ way.field
+  same = some_is stands.state way.field (sym stands.steps ∙ way.field_steps)
+
+  pub way_sound : IsScanSound way.state read
+  way_sound = stands.scan
+
+  pub way_tied : IsTied way.field way.state way.brackets
+  way_tied = subst (λ t. IsTied t way.state way.brackets) same stands.tied
+
+  pub way_field : IsFieldSound two_hundred way.field read
+  way_field = subst (λ t. IsFieldSound two_hundred t read) same stands.field
+
+  pub way_reached : HasReached read way.field
+  way_reached = record { first = m; start = start; steps = way.field_steps }
+
+  pub way_here : here way.field ≡ byte_len read
+  way_here = ap byte_len way_field.spell
+
+  pub way_place : scan.stop ≡ here way.field
+  way_place = way.counts.stop ∙ sym way_here
+
+  pub way_placed : IsInPlace scan.inside
+  way_placed = scan_placed two_hundred scan.inside read way.field way_field way.follows
+
+  -- a character for which there is a step in neither machine
+  pub way_refused : (c : ℕ) → stack_if (scan_step way.state c) ≡ None → room_step way.field c ≡ None
+  way_refused c none = by (scan_step way.state c) (room_step way.field c) none (tied_step way.field way.state way.brackets c way_tied).alike
+    where
+      by : (o : Option Scanned) (p : Option FieldScanned) → stack_if o ≡ None → Alike (kept_if o) p → p ≡ None
+      by o None none alike = refl
+      by None (Some t) none alike = absurd alike
+      by (Some s) (Some t) none alike = absurd (subst (λ (b : Option (List Bracket)). Alike (kept s b) (Some t)) none alike)
+
+-- where a line begins, nothing is read
+pub begun_way : {m : Mode} {scan : Scan} → HasBegun m scan → IsScanSound (line_start m) [] → IsUnderWay m scan []
+begun_way {m} {scan} (inside, stop, count) start = record {
+  state = line_start m;
+  steps = refl;
+  brackets = [];
+  stacked = refl;
+  one_line = tt;
+  field = line_begun m;
+  field_steps = refl;
+  follows = subst (λ (f : FieldScan). Follows f (line_begun m)) (sym inside)
+      (from_start (λ n. Follows (opened_at n) (line_begun n)) m start.holds
+      (record { mode = refl; holds = (refl, refl); no_list = tt; waits = tt; start = refl; frames = ([], refl, refl, refl) })
+      (record { mode = refl; holds = refl; no_list = tt; waits = tt; start = refl; frames = ([], refl, refl, refl) }));
+  counts = record { stop = stop; here = ap (λ n. n.line) count ∙ omega arith; after = ap (λ n. n.after_return) count };
+}
 
 -- what may follow a line that CR ends, which the machine holds yet
 pub returned_fit : (done : List Piece) (held read more : List ℕ) → IsScanSound (scanned done modes.Return held) read → held ≡ 13 ∷ [] → begins is_line_feed more ≡ false → AreReadBefore (done ++ piece line_end held ∷ []) more
 returned_fit done held read more sound text none = AreReadIn-push fielded done line_end held more (sound.fit more) (return text) (and_right _ _ none) (follows_any done line_end held refl)
-
-pub returned : (m : Mode) (old : Scan) (read rest : List ℕ) (way : IsUnderWay m old read) → IsScanSound (line_start m) [] → is_return_mode old.piece.mode ≡ true → none_open (stack_of old.brackets) ≡ true → ((after : List ℕ) → encode_utf8_all after ≡ rest → begins is_line_feed after ≡ false) → IsAtLineEnd m (freed old) read rest 1
-returned m old read rest way start returns empty follows =
-    go way.state.mode (subst (λ k. is_return_mode k ≡ true) way.tallies.counts.mode returns) way.state.done way.state.held way.steps (sound_steps m read way.state start way.steps way.stacked) way.tallies way.stacked way.one_line
-  where
-    go : (k : Mode) → is_return_mode k ≡ true → (done : List Piece) (held : List ℕ) → scan_steps (Some (line_start m)) read ≡ Some (scanned done k held) → IsScanSound (scanned done k held) read → Tallies old (scanned done k held) → IsStacked old (scanned done k held) → EndsNoLine 0 done → IsAtLineEnd m (freed old) read rest 1
-    go modes.Return is done held steps sound tallies stacked none =
-        let r = sound.holds.0.0 in
-        let text : held ≡ 13 ∷ [] = sound.holds.0.1 ∙ ap (λ d. d ∷ []) (return_is r sound.holds.0.2) in
-        record {
-          body = done;
-          last = piece line_end held;
-          are = record { one_line = none; class = refl; level = none_level done (stack_of old.brackets) stacked empty; paired = none_stack done (stack_of old.brackets) stacked empty; size = one_return r sound.holds.0.2 ∙ ap byte_len (sym sound.holds.0.1) };
-          to = scanned done modes.Return held;
-          steps = steps;
-          spell = spelled-push done line_end held ∙ sound.spell;
-          fit = λ after is_rest. returned_fit done held read after sound text (follows after is_rest);
-          strings = line_string done (piece line_end held) refl sound.strings;
-          tallies = closes_shut old done modes.Return held sound.holds tallies;
-        }
-    go k is done held steps sound tallies stacked none = absurd (both_ways _ refl is)
 
 -- characters whose first byte is no LF begin with no LF
 no_feed_first : (cs tail rest : List ℕ) (b : ℕ) → encode_utf8_all cs ++ tail ≡ b ∷ rest → (b ≡ 10 → ⊥) → begins is_line_feed cs ≡ false
@@ -87,9 +130,359 @@ pub follows_whole : (read after more tail beyond : List ℕ) → EndsWhole read 
 follows_whole read after more tail beyond (inl feed) spell is_one = absurd (both_ways _ feed is_one)
 follows_whole read after more tail beyond (inr (b, others, is, other)) spell is_one = no_feed_first more tail (others ++ beyond) b (spell ∙ ap (λ t. t ++ beyond) is) other
 
--- where the scan of a line under way stands
-pub way_stop : (m : Mode) (scan : Scan) (read : List ℕ) (way : IsUnderWay m scan read) → IsScanSound (line_start m) [] → scan.stop ≡ byte_len read
-way_stop m scan read way start = way.tallies.counts.stop ∙ ap byte_len (sound_steps m read way.state start way.steps way.stacked).spell
+-- outside a string with fields both machines have the same piece open
+abbrev pub CodeAt : Scanned → FieldScanned → List Bracket → Type 0
+CodeAt s t st = t ≡ field_state [] s.done (bracket_openers st) (code_mode s.mode) s.held
 
-pub way_here : (m : Mode) (scan : Scan) (read : List ℕ) (way : IsUnderWay m scan read) → IsScanSound (line_start m) [] → scan.count.line ≡ scan.line + line_ends read
-way_here m scan read way start = way.tallies.counts.here ∙ ap (λ t. scan.line + line_ends t) (sound_steps m read way.state start way.steps way.stacked).spell
+pub code_at : (m : Mode) (done : List Piece) (held : List ℕ) (st : List Bracket) (t : FieldScanned) → flat m done (bracket_openers st) held ≡ Some t → (m ≡ modes.Fielded) ⊎ CodeAt (scanned done m held) t st
+code_at modes.Fielded done held st t is = inl refl
+code_at m done held st t is = inr (some_is t _ (sym is))
+
+-- what closes or ends it there
+pub code_move_is : (m : Mode) (c : ℕ) (v : Move) → meet_of m c ≡ v → (v ≡ moves.Closes) ⊎ (v ≡ moves.Breaks) → code_move m c ≡ code_moved v
+unfolding code_move meet_of opened_move
+code_move_is (modes.FieldOpened h) c v is which = absurd (grind arith)
+code_move_is (modes.FieldEmpty h) c v is which = grind arith
+code_move_is m c v is which = ap code_moved is
+
+-- a string with fields ends before no character
+pub fielded_goes : (c : ℕ) → meet_of modes.Fielded c ≡ moves.Breaks → ⊥
+unfolding meet_of move_of
+fielded_goes c ends = cc
+
+line_ending_breaks : (m : FieldMode) (c : ℕ) → is_line_ending m breaks c ≡ is_line_feed c
+line_ending_breaks (plain modes.Return) c = refl
+line_ending_breaks m c = refl
+
+-- whether the open piece is CR, in the words of each machine
+abbrev is_return_at : FieldMode → Bool
+is_return_at (plain modes.Return) = true
+is_return_at other = false
+
+return_code : (m : Mode) → is_return_mode m ≡ is_return_at (code_mode m)
+return_code modes.Return = refl
+return_code m = refl
+
+return_from : (m : OpenMode) → is_returned_mode m ≡ is_return_at (mode_from m)
+return_from (field_modes.Code m) = from_code m
+  where
+    from_code : (n : Mode) → is_returned_mode (field_modes.Code n) ≡ is_return_at (code_mode n)
+    from_code modes.Return = refl
+    from_code n = refl
+return_from (field_modes.Body h region named at) = refl
+
+-- before another character than LF it ends there
+return_ends_at : (m : FieldMode) (held : List ℕ) → is_return_at m ≡ true → field_move m held 0 ≡ breaks
+unfolding field_move move_of is_line_feed
+return_ends_at (plain modes.Return) held is = refl
+return_ends_at m held is = absurd (both_ways _ refl is)
+
+one_at : (m : FieldMode) → is_return_at m ≡ false → line_end_size m ≡ 1
+one_at (plain modes.Return) other = absurd (both_ways _ other refl)
+one_at m other = refl
+
+-- what the machine with fields does to CR
+return_closes : (c : ℕ) → code_move modes.Return c ≡ closes → meet_of modes.Return c ≡ moves.Closes
+unfolding code_move
+return_closes c is = by (meet_of modes.Return c) is
+  where
+    by : (v : Move) → code_moved v ≡ closes → v ≡ moves.Closes
+    by (moves.Grows n) e = absurd (cc)
+    by moves.Closes e = refl
+    by moves.Breaks e = absurd (cc)
+    by moves.Refused e = absurd (cc)
+
+return_stays : (c : ℕ) → is_line_feed c ≡ true → meet_of modes.Return c ≡ moves.Breaks → ⊥
+unfolding meet_of move_of
+return_stays c feeds is = let clash : moves.Closes ≡ moves.Breaks = (rw feeds) ∙ is in cc
+
+module _ {m : Mode} {scan : Scan} {read : List ℕ} (way : IsUnderWay m scan read) (start : IsScanSound (line_start m) []) where
+  abbrev s : Scanned
+  s = way.state
+
+  abbrev t : FieldScanned
+  t = way.field
+
+  abbrev st : List Bracket
+  st = way.brackets
+
+  code : (s.mode ≡ modes.Fielded) ⊎ CodeAt s t st
+  code = code_at s.mode s.done s.held st t (way_tied way start).flat_is
+
+  frames_are : CodeAt s t st → frames t ≡ length st
+  frames_are is = ap frames is ∙ omega (arith, length-map st (λ (b : Bracket). b.opener))
+
+  frames_kept : length scan.inside.frames ≡ frames t
+  frames_kept = frames-length t.outer t.done t.openers scan.inside.frames way.follows.frames
+
+  mode_kept : is_returned_mode scan.inside.mode ≡ is_return_at t.mode
+  mode_kept = return_from scan.inside.mode ∙ ap is_return_at way.follows.mode
+
+  -- outside fields, a piece that ends before a character is no string with fields
+  pub outside : length scan.inside.frames ≡ 0 → t.outer ≡ []
+  outside none = (none_outside t.outer t.done t.openers scan.inside.frames way.follows.frames none).0
+
+  pub breaks_code : (c : ℕ) → meet_of s.mode c ≡ moves.Breaks → CodeAt s t st
+  breaks_code c ends = ⊎_elim (λ is. absurd (fielded_goes c (ap (λ n. meet_of n c) (sym is) ∙ ends))) (λ is. is) code
+
+  pub breaks_there : (c : ℕ) → t.outer ≡ [] → field_move t.mode t.held c ≡ breaks → meet_of s.mode c ≡ moves.Breaks
+  breaks_there c none move = ((tied_step t s st c (way_tied way start)).ends none move).0
+
+  -- whether the line had ended with CR
+  pub way_returned : is_returned scan ≡ is_return_mode s.mode && none_open st
+  way_returned = ⊎_elim fielded in_code code
+    where
+      fielded : s.mode ≡ modes.Fielded → is_returned scan ≡ is_return_mode s.mode && none_open st
+      fielded at =
+          false_from_ne_true (is_returned scan) (λ is.
+          let parts = and_parts (is_returned_mode scan.inside.mode) (length scan.inside.frames == 0) is in
+          fielded_goes 0 (ap (λ n. meet_of n 0) (sym at)
+          ∙ breaks_there 0 (outside (eqb-true _ 0 parts.1)) (return_ends_at t.mode t.held (sym mode_kept ∙ parts.0))))
+          ∙ ap (λ n. is_return_mode n && none_open st) (sym at)
+
+      in_code : CodeAt s t st → is_returned scan ≡ is_return_mode s.mode && none_open st
+      in_code at =
+          ap (λ b. b && (length scan.inside.frames == 0)) (mode_kept ∙ ap (λ x. is_return_at x.mode) at ∙ sym (return_code s.mode))
+          ∙ ap (λ b. is_return_mode s.mode && b) (none_length st (length scan.inside.frames) (sym (frames_kept ∙ frames_are at)))
+
+  -- and then it is a line with its end, unless LF follows
+  pub returned : {rest : List ℕ} → is_returned scan ≡ true → ((after : List ℕ) → encode_utf8_all after ≡ rest → begins is_line_feed after ≡ false) → IsAtLineEnd m (freed scan) read rest 1
+  returned {rest} is follows =
+      let parts = and_parts (is_return_mode s.mode) (none_open st) (sym way_returned ∙ is) in
+      go s.mode parts.0 s.done s.held way.steps (way_sound way start) way.stacked way.one_line parts.1
+    where
+      go : (k : Mode) → is_return_mode k ≡ true → (done : List Piece) (held : List ℕ) → scan_steps (Some (line_start m)) read ≡ Some (scanned done k held) → IsScanSound (scanned done k held) read → brackets_of done ≡ Some st → EndsNoLine 0 done → none_open st ≡ true → IsAtLineEnd m (freed scan) read rest 1
+      go modes.Return returns done held steps sound stacked none empty =
+          let r = sound.holds.0.0 in
+          let text : held ≡ 13 ∷ [] = sound.holds.0.1 ∙ ap (λ d. d ∷ []) (return_is r sound.holds.0.2) in
+          record {
+            body = done;
+            last = piece line_end held;
+            are = record { one_line = none; class = refl; level = none_level done st stacked empty; paired = none_stack done st stacked empty; size = one_return r sound.holds.0.2 ∙ ap byte_len (sym sound.holds.0.1) };
+            to = scanned done modes.Return held;
+            steps = steps;
+            spell = spelled-push done line_end held ∙ sound.spell;
+            fit = λ after is_rest. returned_fit done held read after sound text (follows after is_rest);
+            strings = line_string done (piece line_end held) refl sound.strings;
+            counts = record { stop = way.counts.stop; here = way.counts.here; after = way.counts.after };
+          }
+      go k returns done held steps sound stacked none empty = absurd (both_ways _ refl returns)
+
+  module _ (c : ℕ) where
+    field_there : CodeAt s t st → code_move s.mode c ≡ field_move t.mode t.held c
+    field_there at =
+        let holds : HoldsCode (code_mode s.mode) s.held = subst (λ x. HoldsCode x.mode x.held) at way.follows.holds in
+        field_meets (field_modes.Code s.mode) s.held c holds ∙ sym (ap (λ x. field_move x.mode x.held c) at)
+
+    -- where a character that ends a line outside brackets doesn't, a bracket is open
+    open_yet : CodeAt s t st → is_line_ending t.mode (code_move s.mode c) c ≡ true → ends_line t c ≡ false → none_open st ≡ false
+    open_yet at ending goes_on = by st refl
+      where
+        by : (b : List Bracket) → st ≡ b → none_open st ≡ false
+        by (b ∷ bs) is_st = ap none_open is_st
+        by [] is_st =
+            let none : frames t ≡ 0 = frames_are at ∙ ap length is_st in
+            absurd (both_ways _ goes_on (rw none (ap (λ w. is_line_ending t.mode w c) (sym (field_there at)) ∙ ending)))
+
+    breaks_yet : meet_of s.mode c ≡ moves.Breaks → is_line_feed c ≡ true → ends_line t c ≡ false → none_open st ≡ false
+    breaks_yet meets feeds = open_yet (breaks_code c meets)
+        (ap (λ w. is_line_ending t.mode w c) (code_move_is s.mode c moves.Breaks meets (inr refl)) ∙ line_ending_breaks t.mode c ∙ feeds)
+
+    closes_yet : s.mode ≡ modes.Return → move_at s c ≡ moves.Closes → ends_line t c ≡ false → none_open st ≡ false
+    closes_yet returns move =
+        let other : s.mode ≡ modes.Fielded → ⊥ = λ at. absurd (let clash : modes.Return ≡ modes.Fielded = sym returns ∙ at in cc) in
+        let at : CodeAt s t st = ⊎_elim (λ is. absurd (other is)) (λ is. is) code in
+        let meets = sym (scan_meets s.mode (depth_through 0 s.done) s.held c other) ∙ move in
+        open_yet at (ap (λ w. is_line_ending t.mode w c) (code_move_is s.mode c moves.Closes meets (inl refl))
+        ∙ ap (λ n. is_line_ending n closes c) (ap (λ x. x.mode) at ∙ ap code_mode returns))
+
+    closed_line : meet_of s.mode c ≡ moves.Breaks → IsNotEnded scan c → EndsNoLine 0 (pieces_at s)
+    closed_line breaking on = closed_one_line s.mode s.done s.held st way.stacked way.one_line (return_breaks s.mode c st breaking (ap (λ b. b && not (is_line_feed c)) (sym way_returned) ∙ on))
+
+    line_kept : (v : Move) → move_at s c ≡ v → IsNotEnded scan c → ends_line t c ≡ false → (n : Scanned) → moved s c v ≡ Some n → EndsNoLine 0 n.done
+    line_kept (moves.Grows k) is on goes_on n to = subst (λ x. EndsNoLine 0 x.done) (some_is _ n to) way.one_line
+    line_kept moves.Closes is on goes_on n to =
+        subst (λ x. EndsNoLine 0 x.done) (some_is _ n to)
+        (EndsNoLine-push 0 s.done (piece (class_of s.mode) (s.held ++ c ∷ [])) way.one_line (by (is_return_mode s.mode) refl))
+      where
+        by : (b : Bool) → is_return_mode s.mode ≡ b → is_line_end_class (class_of s.mode) && (depth_through 0 s.done == 0) ≡ false
+        by true returns =
+            let at = return_mode s.mode returns in
+            ap (λ k. is_line_end_class (class_of k) && (depth_through 0 s.done == 0)) at
+            ∙ depth_none s.done st way.stacked ∙ closes_yet at is goes_on
+        by false other = ap (λ b. b && (depth_through 0 s.done == 0)) (class_closed s.mode (λ at. both_ways _ other (ap is_return_mode at)))
+    line_kept moves.Breaks is on goes_on n to = by (start_of c) (starts_so c) to
+      where
+        meets : meet_of s.mode c ≡ moves.Breaks
+        meets = breaks_out s.mode (depth_through 0 s.done) s.held c is
+
+        whole : EndsNoLine 0 (pieces_at s)
+        whole = closed_line meets on
+
+        by : (x : Start) → StartsSo c x → started (pieces_at s) c x ≡ Some n → EndsNoLine 0 n.done
+        by (starts.Open k) so e = subst (λ x. EndsNoLine 0 x.done) (some_is _ n e) whole
+        by starts.Operator so e = subst (λ x. EndsNoLine 0 x.done) (some_is _ n e) (EndsNoLine-push 0 (pieces_at s) (piece operator (c ∷ [])) whole refl)
+        by starts.LineEnd so e =
+            subst (λ x. EndsNoLine 0 x.done) (some_is _ n e)
+            (EndsNoLine-push 0 (pieces_at s) (piece line_end (c ∷ [])) whole
+            (depth_none (pieces_at s) st (stack_closed s.mode s.done s.held st way.stacked) ∙ breaks_yet meets so goes_on))
+        by starts.Nothing so e = absurd (cc)
+    line_kept moves.Refused is on goes_on n to = absurd (cc)
+
+    -- what both machines come to, where the line goes on
+    pub one_more : {next : FieldScanned} → IsNotEnded scan c → ends_line t c ≡ false → room_step t c ≡ Some next
+        → (n : Scanned) × (after : List Bracket) × (scan_step s c ≡ Some n) × (brackets_of n.done ≡ Some after) × EndsNoLine 0 n.done × IsTied next n after
+    one_more {next} on goes_on goes =
+        let alike = subst (Alike (kept_if (scan_step s c))) goes (tied_step t s st c (way_tied way start)).alike in
+        let (n, after, takes, tied) = scan_takes (scan_step s c) next alike in
+        (n, after, takes, tied.stack, line_kept (move_at s c) refl on goes_on n takes, tied)
+
+    -- how a line ends with it: in the machine with fields CR closes, or a line end begins
+    abbrev EndsSo : FieldMode → FieldMove → Type 0
+    EndsSo n v = ((n ≡ plain modes.Return) × (v ≡ closes)) ⊎ ((v ≡ breaks) × (is_line_feed c ≡ true))
+
+    ends_so : (n : FieldMode) (v : FieldMove) → is_line_ending n v c ≡ true → EndsSo n v
+    ends_so (plain modes.Return) closes is = inl (refl, refl)
+    ends_so n breaks is = inr (refl, sym (line_ending_breaks n c) ∙ is)
+    ends_so n v is = absurd (grind arith)
+
+    -- the pieces of the line that it ends
+    record LineWith (len : ℕ) : Type 0 where
+      body : List Piece
+      text : List ℕ
+      goes : scan_step s c ≡ Some (fresh (body ++ piece line_end text ∷ []))
+      one_line : EndsNoLine 0 body
+      stacked : brackets_of body ≡ Some st
+      size : len ≡ byte_len text
+
+    returns_at : CodeAt s t st → is_return_at t.mode ≡ is_return_mode s.mode
+    returns_at at = ap (λ x. is_return_at x.mode) at ∙ sym (return_code s.mode)
+
+    ended_with : (len : ℕ) → IsNotEnded scan c → CodeAt s t st → (v : FieldMove) → field_move t.mode t.held c ≡ v → EndsSo t.mode v → len ≡ line_end_size t.mode → LineWith len
+    ended_with len on at v is (inl (returns, closing)) size =
+        let mode : s.mode ≡ modes.Return = return_mode s.mode (sym (returns_at at) ∙ ap is_return_at returns) in
+        let meets : meet_of modes.Return c ≡ moves.Closes = return_closes c (ap (λ n. code_move n c) (sym mode) ∙ field_there at ∙ is ∙ closing) in
+        let r = (subst (λ n. HoldsOpen n s.done s.held) mode (way_sound way start).holds).0 in
+        let move : move_at s c ≡ moves.Closes = ap (λ n. move_in n (depth_through 0 s.done) s.held c) mode ∙ meets in
+        record {
+          body = s.done;
+          text = s.held ++ c ∷ [];
+          goes = ap (moved s c) move ∙ ap (λ n. Some (fresh (s.done ++ piece (class_of n) (s.held ++ c ∷ []) ∷ []))) mode;
+          one_line = way.one_line;
+          stacked = way.stacked;
+          size = size ∙ ap line_end_size returns ∙ both_ends s.held r.0 c r.1 r.2 (return_feeds c meets);
+        }
+    ended_with len on at v is (inr (breaking, feeds)) size =
+        let meets : meet_of s.mode c ≡ moves.Breaks = breaks_there c (ap (λ x. x.outer) at) (is ∙ breaking) in
+        let other : is_return_at t.mode ≡ false = false_from_ne_true _ (λ returns.
+        let mode = return_mode s.mode (sym (returns_at at) ∙ returns) in
+        return_stays c feeds (ap (λ n. meet_of n c) (sym mode) ∙ meets)) in
+        record {
+          body = pieces_at s;
+          text = c ∷ [];
+          goes = ap (moved s c) (breaks_in s.mode (depth_through 0 s.done) s.held c meets) ∙ ap (started (pieces_at s) c) (start-feed c feeds);
+          one_line = closed_line meets on;
+          stacked = stack_closed s.mode s.done s.held st way.stacked;
+          size = size ∙ one_at t.mode other ∙ one_feed c feeds;
+        }
+
+    -- no string with fields is open there
+    ended_code : frames t ≡ 0 → EndsSo t.mode (field_move t.mode t.held c) → CodeAt s t st
+    ended_code none (inl (returns, closing)) =
+        breaks_code 0 (breaks_there 0 (outside (frames_kept ∙ none)) (return_ends_at t.mode t.held (ap is_return_at returns)))
+    ended_code none (inr (breaking, feeds)) = breaks_code c (breaks_there c (outside (frames_kept ∙ none)) breaking)
+
+    none_taken : room_step t c ≡ None → stack_if (scan_step s c) ≡ None
+    none_taken none = by (scan_step s c) (subst (Alike (kept_if (scan_step s c))) none (tied_step t s st c (way_tied way start)).alike)
+      where
+        under : (n : Scanned) (b : Option (List Bracket)) → Alike (kept n b) None → b ≡ None
+        under n None alike = refl
+        under n (Some after) alike = absurd alike
+
+        by : (o : Option Scanned) → Alike (kept_if o) None → stack_if o ≡ None
+        by None alike = refl
+        by (Some n) alike = under n (brackets_of n.done) alike
+
+    no_frames : ends_line t c ≡ true → scan.inside.frames ≡ []
+    no_frames ends =
+        let parts = and_parts (frames t == 0) (is_line_ending t.mode (field_move t.mode t.held c) c) ends in
+        nil_from_length scan.inside.frames (frames_kept ∙ eqb-true _ 0 parts.0)
+
+    ended : (new : Scan) (len : ℕ) → IsNotEnded scan c → ends_line t c ≡ true → len ≡ line_end_size t.mode → Counts new (read ++ c ∷ []) → (rest : List ℕ) → IsAtLineEnd m new (read ++ c ∷ []) rest len
+    ended new len on ends size counts rest =
+        let parts = and_parts (frames t == 0) (is_line_ending t.mode (field_move t.mode t.held c) c) ends in
+        let none : frames t ≡ 0 = eqb-true _ 0 parts.0 in
+        let so = ends_so t.mode (field_move t.mode t.held c) parts.1 in
+        let at = ended_code none so in
+        let l = ended_with len on at (field_move t.mode t.held c) refl so size in
+        let shut : none_open st ≡ true = sym (none_length st 0 (sym (frames_are at) ∙ none)) in
+        let last = piece line_end l.text in
+        let paired = none_stack l.body st l.stacked shut in
+        let steps = steps_push (line_start m) read s c way.steps ∙ l.goes in
+        let sound = sound_steps m (read ++ c ∷ []) (fresh (l.body ++ last ∷ [])) start steps (no_class_bracket l.body last refl paired) in
+        record {
+          body = l.body;
+          last = last;
+          are = record { one_line = l.one_line; class = refl; level = none_level l.body st l.stacked shut; paired = paired; size = l.size };
+          to = fresh (l.body ++ last ∷ []);
+          steps = steps;
+          spell = sym (append-nil (spelled (l.body ++ last ∷ []))) ∙ sound.spell;
+          fit = λ after is. sound.fit after;
+          strings = sound.strings;
+          counts = counts;
+        }
+
+pub roomy_parts : (room : Bool) (o : Option FieldScanned) (next : FieldScanned) → roomy room o ≡ Some next → (room ≡ true) × (o ≡ Some next)
+roomy_parts true o next is = (refl, is)
+roomy_parts false o next is = absurd (cc)
+
+-- a scan that took a character, and counted it
+abbrev pub read_on : Scan → FieldScan → ℕ → Scan
+read_on old inside c = record old { inside = inside; stop = old.stop + len_utf8 c; count = count_with old.count c }
+
+counts_on : (old : Scan) (inside : FieldScan) (read : List ℕ) (c : ℕ) → Counts old read → Counts (read_on old inside c) (read ++ c ∷ [])
+counts_on old inside read c counts =
+    let counted = counted_push old.line old.count read c (record { here = counts.here; after = counts.after }) in
+    record {
+      stop = omega (arith, counts.stop, byte_len-append read (c ∷ []), byte_len-one c);
+      here = counted.here;
+      after = counted.after;
+    }
+
+-- what a character comes to in the line
+module _ (old : Scan) (inside : FieldScan) (c : ℕ) (p : Progress) (pushes : PushesField old.inside c old.stop p inside) where
+  comes_so : {m : Mode} {read : List ℕ} (way : IsUnderWay m old read) → IsScanSound (line_start m) [] → (q : Progress) → p ≡ q → ComesTo way.field c old.inside q inside
+  comes_so way start q is = subst (λ r. ComesTo way.field c old.inside r inside) is (pushes way.field way.follows (way_place way start))
+
+  goes_on : {m : Mode} {read : List ℕ} (way : IsUnderWay m old read) → IsScanSound (line_start m) [] → IsNotEnded old c → StepsTo way.field c inside → ends_line way.field c ≡ false
+      → IsUnderWay m (read_on old inside c) (read ++ c ∷ [])
+  goes_on {m} {read} way start on to goes =
+      let (n, after, takes, stacked, one_line, tied) = one_more way start c on goes to.goes in
+      record {
+        state = n;
+        steps = steps_push (line_start m) read way.state c way.steps ∙ takes;
+        brackets = after;
+        stacked = stacked;
+        one_line = one_line;
+        field = to.next;
+        field_steps = field_push (line_begun m) read way.field c way.field_steps ∙ (roomy_parts (has_room way.field c) (field_step way.field c) to.next to.goes).1;
+        follows = to.follows;
+        counts = counts_on old inside read c way.counts;
+      }
+
+  -- it was taken
+  pub takes_taken : (p ≡ progress.Refused → ⊥) → TakesNext old c p (read_on old inside c)
+  takes_taken taken m read start way on = by p refl
+    where
+      by : (q : Progress) → p ≡ q → Takes m read way.state old c q (read_on old inside c) × (old.line ≡ old.line)
+      by progress.Going is = let (to, goes) = comes_so way start progress.Going is in (goes_on way start on to goes, refl)
+      by (progress.LineEnded len) is =
+          let (to, ends, size) = comes_so way start (progress.LineEnded len) is in
+          ((no_frames way start c ends, ended way start c (read_on old inside c) len on ends size (counts_on old inside read c way.counts)), refl)
+      by progress.Refused is = absurd (taken is)
+
+  -- it was refused
+  pub takes_refused : p ≡ progress.Refused → TakesNext old c progress.Refused (record old { inside = inside })
+  takes_refused refused m read start way on =
+      let (none, same) = comes_so way start progress.Refused refused in
+      rw same ((none_taken way start c none, refl), refl)

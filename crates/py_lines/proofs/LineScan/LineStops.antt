@@ -1,27 +1,26 @@
 -- The scan of a line goes on in more text, and stops.
-use Rattle.std.proofs.Common.{◌≡◌, ℕ, ◌+◌, ◌-◌, ◌≤◌, true, false, not, ◌&&◌, Bor, List, [], ◌∷◌, ◌++◌, ◌<◌, length, take, drop, inl, inr, refl, sym, ap, ◌∙◌, subst, arith, length-append, lit<}
+use Rattle.std.proofs.Common.{◌≡◌, ℕ, ◌+◌, ◌-◌, ◌≤◌, ◌==◌, true, false, not, ◌&&◌, Bor, List, [], ◌∷◌, ◌++◌, length, take, drop, inl, inr, refl, sym, ap, ◌∙◌, subst, arith, length-append, lit<}
 use Rattle.std.specs.Prelude.{encode_utf8, encode_utf8_all, IsUtf8}
 use Rattle.std.specs.Str.{all_scalars, StartsWithNoChar}
 use Rattle.std.specs.Char.{len_utf8}
-use Rattle.std.proofs.lemmas.Bool.{and_parts, both_ways, not-true}
+use Rattle.std.proofs.lemmas.Bool.{and_parts, both_ways, eqb-true, false_from_ne_true, not-true}
 use Rattle.std.proofs.Math.Bool.{and-true}
-use Rattle.std.proofs.lemmas.List.{take_rest}
-use Rattle.std.proofs.lemmas.Str.{cons_from_encodes, encode_ascii, encode_same, encodes_same, length-encode, len_utf8_ascii, len_utf8_bounds}
+use Rattle.std.proofs.lemmas.List.{nil_from_length, take_rest}
+use Rattle.std.proofs.lemmas.Str.{cons_from_encodes, encode_ascii, encode_same, encodes_same, length-encode, len_utf8_bounds}
 use Rattle.py_lines.specs.Character.{is_line_feed, is_return}
 use Rattle.py_lines.specs.Piece.{ends, begins, spelled}
 use Rattle.py_lines.specs.declared.mode.Mode.{Mode}
-use Rattle.py_lines.specs.declared.mode.Mode.TheVariants as modes
-use Rattle.py_lines.specs.declared.scan.Progress.{Progress}
-use Rattle.py_lines.specs.declared.scan.Progress.TheVariants as progress
+use Rattle.py_lines.specs.declared.field_scan.Progress.{Progress}
+use Rattle.py_lines.specs.declared.field_scan.Progress.TheVariants as progress
 use Rattle.py_lines.specs.declared.scan.Scan.{Scan}
 use Rattle.py_lines.specs.declared.whole_pieces.Left.{Left}
 use Rattle.py_lines.specs.declared.whole_pieces.Left.TheVariants as lefts
 use Rattle.py_lines.specs.declared.scan.Stop.{Stop}
 use Rattle.py_lines.specs.declared.scan.Stop.TheVariants as stops
 use Rattle.py_lines.specs.Private.Machine.{Scanned}
-use Rattle.py_lines.specs.Private.ScanMachine.{HoldsOpen, IsScanSound}
-use Rattle.py_lines.specs.Private.Scan.{Tallies, IsStacked, Takes, TakesNext, freed, line_start, stack_of, none_open, is_returned, is_return_mode, IsAtLineEnd, EndsWhole, ScansIn, Scans, StopsIn, StopsSo, StandsInString, TakesInString}
-use Rattle.py_lines.specs.Private.Run.{BeginsWith, ReachedInSomeLine, HoldsLongText, HoldsRun, HasAsciiQuote, Reached, WhereverReached}
+use Rattle.py_lines.specs.Private.ScanMachine.{HoldsOpen, IsScanSound, line_start}
+use Rattle.py_lines.specs.Private.Scan.{HasBegun, Takes, TakesNext, freed, none_open, is_returned, is_return_mode, IsAtLineEnd, EndsWhole, ScansIn, Scans, StopsIn, StopsSo}
+use Rattle.py_lines.specs.Private.Run.{BeginsWith, ReachedInSomeLine, HoldsLongText, HoldsRun, HasAsciiQuoteOpen, Reached, WhereverReached}
 use Rattle.py_lines.specs.Private.WholePieces.{LeavesOff}
 use Rattle.py_lines.proofs.Text.CharacterTests.{feed_from}
 use Rattle.py_lines.proofs.Text.Incomplete.{text_none}
@@ -30,12 +29,11 @@ use Rattle.py_lines.proofs.Pieces.PieceLists.{AreReadBefore-second}
 use Rattle.py_lines.proofs.LogicalLines.Cuts.{uncut}
 use Rattle.py_lines.proofs.Lexings.LineEnds.{ends-line, ends-append}
 use Rattle.py_lines.proofs.LineScan.LineCount.{line_ends-bytes}
-use Rattle.py_lines.proofs.LineScan.NextCharacter.{return_mode, takes_fielded}
-use Rattle.py_lines.proofs.LineScan.LineSteps.{way_here, way_keeps, way_stop, at_line_end, returned, follows_whole}
-use Rattle.py_lines.specs.Private.FieldScan.{IsInPlace}
-use Rattle.py_lines.specs.Private.FieldMachine.{FieldScanned}
-use Rattle.py_lines.proofs.LineScan.StringSteps.{fielded_at}
-use Rattle.py_lines.proofs.LineScan.Runs.{reached_character, reached_run, sound_quote, reached_long}
+use Rattle.py_lines.proofs.LineScan.NextCharacter.{return_mode}
+use Rattle.py_lines.proofs.LineScan.LineSteps.{begun_way, follows_whole, returned, way_placed, way_returned, way_sound}
+use Rattle.py_lines.specs.Private.FieldScan.{IsInPlace, is_returned_mode}
+use Rattle.py_lines.specs.Private.Frames.{has_field}
+use Rattle.py_lines.proofs.LineScan.Runs.{open_quote, reached_character, reached_run, reached_long}
 
 -- wherever in a line the scan stood before a text, it stands now before another
 abbrev pub GoesTo : Scan → List ℕ → Scan → List ℕ → Type 0
@@ -54,29 +52,26 @@ pub record Stands (at : ℕ) (text : List ℕ) (scan : Scan) (rest : List ℕ) :
   pub room : scan.stop + length rest ≡ length text
   pub lines : scan.count.line ≤ scan.line + scan.stop
   pub line : scan.line ≡ at
-  pub quote : HasAsciiQuote scan.piece.mode
-  pub placed : scan.piece.mode ≡ modes.Fielded → IsInPlace scan.fields
+  pub quote : HasAsciiQuoteOpen scan.inside.mode
+  pub placed : IsInPlace scan.inside
 
 pub stands_reached : (m : Mode) (at : ℕ) (text : List ℕ) (scan : Scan) (rest : List ℕ) → IsScanSound (line_start m) []
     → Reached m at text scan rest → Stands at text scan rest
-stands_reached m at text scan rest start r =
-    let keeps = way_keeps m scan r.read r.way start in
-    let mode : scan.piece.mode ≡ r.way.state.mode = keeps.tallies.counts.mode in
-    record {
-      room = omega (arith, way_stop m scan r.read r.way start, ap length r.spell, length-append (encode_utf8_all r.read) rest);
-      lines = omega (arith, way_stop m scan r.read r.way start, way_here m scan r.read r.way start, line_ends-bytes r.read);
-      line = r.line;
-      quote = subst HasAsciiQuote (sym mode) (sound_quote r.way.state.mode r.way.state.done r.way.state.held keeps.sound.holds);
-      placed = λ fielded. (fielded_at scan r.way.state r.read (sym mode ∙ fielded) keeps).stands.placed;
-    }
+stands_reached m at text scan rest start r = record {
+  room = omega (arith, r.way.counts.stop, ap length r.spell, length-append (encode_utf8_all r.read) rest);
+  lines = omega (arith, r.way.counts.stop, r.way.counts.here, line_ends-bytes r.read);
+  line = r.line;
+  quote = open_quote scan.inside r.way.field r.way.follows;
+  placed = way_placed r.way start;
+}
 
 -- what the way from one place of a line to another tells
 pub record Gone (old : Scan) (text : List ℕ) (new : Scan) (rest : List ℕ) : Type 0 where
   pub room : new.stop + length rest ≡ old.stop + length text
   pub lines : new.count.line ≤ old.line + new.stop
   pub line : new.line ≡ old.line
-  pub quote : HasAsciiQuote new.piece.mode
-  pub placed : new.piece.mode ≡ modes.Fielded → IsInPlace new.fields
+  pub quote : HasAsciiQuoteOpen new.inside.mode
+  pub placed : IsInPlace new.inside
   pub way : ReachedInSomeLine new rest
 
 pub gone : {old : Scan} {text : List ℕ} {new : Scan} {rest : List ℕ} → ReachedInSomeLine old text → GoesTo old text new rest → Gone old text new rest
@@ -123,6 +118,13 @@ other_whole read (b ∷ more) c rest is other = inr (
       both_ways (is_line_feed c) other (feed_from c (sym (encode_same 10 c more rest bytes).0))),
 )
 
+-- no line ends where a field is open
+pub field_goes_on : (scan : Scan) (c : ℕ) → has_field scan.inside.frames ≡ true → is_returned scan && not (is_line_feed c) ≡ false
+field_goes_on scan c field =
+    false_from_ne_true _ (λ both.
+    let empty = (and_parts (is_returned_mode scan.inside.mode) (length scan.inside.frames == 0) (and_parts (is_returned scan) (not (is_line_feed c)) both).0).1 in
+    both_ways _ (ap has_field (nil_from_length scan.inside.frames (eqb-true _ 0 empty))) field)
+
 -- the scan of a line stops where it stands
 stopped : {m : Mode} {line : ℕ} {whole : List ℕ} {old : Scan} {before : List ℕ} {new : Scan} {stop : Stop} → (o : Reached m line whole old before)
     → new.line ≡ old.line → StopsIn m new stop o.read before → ScansIn m line whole new stop
@@ -162,9 +164,9 @@ module _ {first : Scan} {text : List ℕ} {old : Scan} {before : List ℕ} (goes
       (takes : TakesNext old c p new) where
     -- the machine takes it
     taken : (q : Progress) {m : Mode} {line : ℕ} {whole : List ℕ} → p ≡ q → IsScanSound (line_start m) [] → (o : Reached m line whole old before)
-        → Takes old o.way.state c q new
-    taken q {m = m} is start o = subst (λ (x : Progress). Takes old o.way.state c x new) is
-        (takes o.way.state o.read (way_keeps m old o.read o.way start) not_yet)
+        → Takes m o.read o.way.state old c q new × (new.line ≡ old.line)
+    taken q {m = m} is start o = subst (λ (x : Progress). Takes m o.read o.way.state old c x new × (new.line ≡ old.line)) is
+        (takes m o.read start o.way not_yet)
 
     -- a character was taken
     pub goes_character : p ≡ progress.Going → (len : ℕ) → len ≡ len_utf8 c → GoesTo first text new (take (length before - len) (drop len before))
@@ -179,35 +181,43 @@ module _ {first : Scan} {text : List ℕ} {old : Scan} {before : List ℕ} (goes
     stops_line {len = len} ended m line whole start r =
         let o = goes m line whole start r in
         let took = taken (progress.LineEnded len) ended start o in
-        let at : (after : List ℕ) → IsAtLineEnd m new (o.read ++ c ∷ []) (encode_utf8_all after) len =
-        λ after. at_line_end m old new o.read (encode_utf8_all after) c len o.way start took in
         record {
           read = o.read ++ c ∷ [];
           rest = drop (len_utf8 c) before;
           scalars = scalars_more o.read c o.scalars next.scalar;
           spell = spell_more o.read _ whole c (ap (λ t. encode_utf8_all o.read ++ t) next.spell ∙ o.spell);
-          stops = ((λ after apart. at after), inl (feed_last m new (o.read ++ c ∷ []) len (at (10 ∷ []))));
+          stops = ((λ after apart. took.0.1 (encode_utf8_all after)), inl (feed_last m new (o.read ++ c ∷ []) len (took.0.1 (encode_utf8_all (10 ∷ [])))));
           number = took.1 ∙ o.line;
         }
+
+    -- it wasn't, where a field is open: then it was refused, and the scan is as it was
+    pub stays_in_field : has_field old.inside.frames ≡ true → (p ≡ progress.Going → ⊥) → GoesTo first text new before
+    stays_in_field field other m line whole start r =
+        let o = goes m line whole start r in
+        by p refl o (taken p refl start o)
+      where
+        by : (q : Progress) → p ≡ q → (o : Reached m line whole old before) → Takes m o.read o.way.state old c q new × (new.line ≡ old.line) → Reached m line whole new before
+        by progress.Going is o took = absurd (other is)
+        by (progress.LineEnded len) is o took = absurd (both_ways _ (ap has_field took.0.0) field)
+        by progress.Refused is o took = subst (λ scan. Reached m line whole scan before) (sym took.0.1) o
 
     -- it was refused
     pub stops_refused : p ≡ progress.Refused → StopsNow first text new (stops.Refused c)
     stops_refused refused m line whole start r =
         let o = goes m line whole start r in
-        let took = taken progress.Refused refused start o in
-        subst (λ (x : Scan). ScansIn m line whole x (stops.Refused c)) (sym took.1)
-        (stopped o refl (o.way, drop (len_utf8 c) before, next.scalar, sym next.spell, took.0, not_yet))
+        let ((stuck, same), number) = taken progress.Refused refused start o in
+        subst (λ (x : Scan). ScansIn m line whole x (stops.Refused c)) (sym same)
+        (stopped o refl (o.way, drop (len_utf8 c) before, next.scalar, sym next.spell, stuck, not_yet))
 
   -- the line had ended before a character, with CR
   pub stops_returned : {c : ℕ} → BeginsWith before c → is_returned old && not (is_line_feed c) ≡ true → StopsNow first text (freed old) (stops.LineEnd 1)
   stops_returned {c = c} next ended m line whole start r =
-      let both = and_parts _ _ ended in
-      let parts = and_parts _ _ both.0 in
+      let both = and_parts (is_returned old) (not (is_line_feed c)) ended in
       let o = goes m line whole start r in
-      let keeps = way_keeps m old o.read o.way start in
-      let returns = return_ends o.way.state o.read keeps.sound (ap is_return_mode (sym keeps.tallies.counts.mode) ∙ parts.0) in
+      let mode = and_parts (is_return_mode o.way.state.mode) (none_open o.way.brackets) (sym (way_returned o.way start) ∙ both.0) in
+      let returns = return_ends o.way.state o.read (way_sound o.way start) mode.0 in
       stopped o refl (
-        (λ after apart. returned m old o.read (encode_utf8_all after) o.way start parts.0 parts.1
+        (λ after apart. returned o.way start both.0
             (λ a spells. ap (begins is_line_feed) (encodes_same a after spells) ∙ apart returns)),
         other_whole o.read before c _ (sym next.spell) (not-true (is_line_feed c) both.1),
       )
@@ -216,38 +226,10 @@ module _ {first : Scan} {text : List ℕ} {old : Scan} {before : List ℕ} (goes
   pub stops_text : StartsWithNoChar before → StopsNow first text old stops.TextEnd
   stops_text none m line whole start r = let o = goes m line whole start r in stopped o refl (o.way, none)
 
-  -- in a string with fields
-  module _ (here : old.piece.mode ≡ modes.Fielded) (c : ℕ) (p : Progress) (new : Scan)
-      (takes : (t : FieldScanned) → StandsInString old t → TakesInString old t c p new) where
-    -- a character of ASCII is taken
-    pub goes_in_string : c < 128 → BeginsWith before c → p ≡ progress.Going → GoesTo first text new (take (length before - 1) (drop 1 before))
-    goes_in_string low next going =
-        goes_character next (ap (λ m. (is_return_mode m && none_open (stack_of old.brackets)) && not (is_line_feed c)) here) p new
-        (λ s read on not_yet. takes_fielded old s read c on new p (sym on.tallies.counts.mode ∙ here) takes) going 1 (sym (len_utf8_ascii c low))
-
-    -- or refused
-    pub stays_in_string : (p ≡ progress.Going → ⊥) → GoesTo first text new before
-    stays_in_string other m line whole start r =
-        let o = goes m line whole start r in
-        let keeps = way_keeps m old o.read o.way start in
-        let i = fielded_at old o.way.state o.read (sym keeps.tallies.counts.mode ∙ here) keeps in
-        by i.state p refl (takes i.state i.stands) o
-      where
-        by : (t : FieldScanned) (q : Progress) → p ≡ q → TakesInString old t c q new → Reached m line whole old before → Reached m line whole new before
-        by t progress.Going is comes o = absurd (other is)
-        by t (progress.LineEnded len) is comes o = absurd comes
-        by t progress.Refused is comes o = subst (λ scan. Reached m line whole scan before) (sym comes.1) o
-
 -- at a line's start the scan stands before all of it
-pub begun_reached : {m : Mode} {line : ℕ} {text bytes : List ℕ} {old : Scan} → bytes ≡ text → Tallies old (line_start m) → IsStacked old (line_start m)
+pub begun_reached : {m : Mode} {line : ℕ} {text bytes : List ℕ} {old : Scan} → bytes ≡ text → HasBegun m old → IsScanSound (line_start m) []
     → old.line ≡ line → Reached m line text old bytes
-begun_reached {m = m} is tallies stacked line = record {
-  read = [];
-  way = record { state = line_start m; steps = refl; tallies = tallies; stacked = stacked; one_line = tt };
-  spell = is;
-  scalars = refl;
-  line = line;
-}
+begun_reached is begun start line = record { read = []; way = begun_way begun start; spell = is; scalars = refl; line = line }
 
 -- what follows characters of a text is characters
 rest_utf8 : (text read rest : List ℕ) → IsUtf8 text → encode_utf8_all read ++ rest ≡ text → IsUtf8 rest
@@ -267,8 +249,7 @@ module _ {m : Mode} {line : ℕ} {text : List ℕ} {scan : Scan} {stop : Stop} (
 pub scans_returned : {m : Mode} {line : ℕ} {text : List ℕ} {old : Scan} → IsUtf8 text → IsScanSound (line_start m) []
     → ScansIn m line text old stops.TextEnd → is_returned old ≡ true → Scans m text (freed old) (stops.LineEnd 1)
 scans_returned {m = m} {old = old} utf8 start scans ended =
-    let parts = and_parts (is_return_mode old.piece.mode) (none_open (stack_of old.brackets)) ended in
-    as_text utf8 scans (returned m old scans.read _ scans.stops.0 start parts.0 parts.1
+    as_text utf8 scans (returned scans.stops.0 start ended
     (λ more spells. ap (begins is_line_feed) (encodes_same more [] (spells ∙ text_none scans.rest (after utf8 scans) scans.stops.1))))
 
 -- and elsewhere it stops as it does in the line

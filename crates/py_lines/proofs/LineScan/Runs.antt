@@ -1,46 +1,49 @@
 -- Characters that leave the open piece as it is are held in one step, and text of a string of three quotes with its line feeds, where
 -- it is ASCII without CR.
-use Rattle.std.proofs.Common.{◌≡◌, ℕ, ◌+◌, ◌<◌, ◌≤◌, ◌⊎◌, inl, inr, Bool, true, false, leb, not, ◌||◌, ◌==◌, Some, List, [], ◌∷◌, ◌++◌, length, take, drop, slice_index, refl, sym, ap, ◌∙◌, subst, append_assoc, append-nil, arith, ⊎_elim, take-append-drop, length-append, lit<, cond}
+use Rattle.std.proofs.Common.{take, ◌≡◌, ℕ, ◌+◌, ◌<◌, ◌≤◌, inl, inr, Bool, true, false, leb, not, ◌||◌, ◌==◌, Option, None, Some, List, [], ◌∷◌, ◌++◌, length, drop, slice_index, refl, sym, ap, ◌∙◌, subst, append_assoc, append-nil, arith, ⊎_elim, length-append, lit<, cond}
 use Rattle.std.specs.Prelude.{encode_utf8_all, encode_utf8, codes, nat_lt}
 use Rattle.std.specs.Char.{IsScalar}
 use Rattle.std.specs.Str.{all_scalars}
 use Rattle.std.specs.List.{list_all, count_by}
 use Rattle.std.proofs.lemmas.Bool.{and_parts, and_from, cases_lt, both_ways, eqb-true, false_from_ne_true, not-true, leb-false, or_parts, or_cases}
-use Rattle.std.proofs.lemmas.List.{get_or-append-add, length-take-le, get_or-take}
+use Rattle.std.proofs.lemmas.List.{get_or-append-add, get_or-take, length-take-le}
 use Rattle.std.proofs.lemmas.Str.{encodes-append, length-encode, len_utf8_bounds, char_from_byte, byte_from_char}
 use Rattle.py_lines.specs.Character.{is_space, is_break, is_backslash, is_return, is_line_feed, is_one_of, is_quote}
-use Rattle.py_lines.specs.Piece.{ends, spelled, Piece}
+use Rattle.py_lines.specs.Piece.{ends, Piece}
 use Rattle.py_lines.specs.LogicalLine.{byte_len, line_ends}
 use Rattle.py_lines.specs.declared.mode.Spelling.TheVariants as spellings
 use Rattle.py_lines.specs.declared.mode.Mode.{Mode}
 use Rattle.py_lines.specs.declared.mode.Mode.TheVariants as modes
 use Rattle.py_lines.specs.declared.mode.Move.TheVariants as moves
-use Rattle.py_lines.specs.declared.brackets.Brackets.{Brackets}
+use Rattle.py_lines.specs.declared.field_mode.FieldMode.{FieldMode}
+use Rattle.py_lines.specs.declared.field_mode.FieldMode.TheVariants as field_modes
 use Rattle.py_lines.specs.declared.scan.Scan.{Scan}
-use Rattle.py_lines.specs.Private.Machine.{Scanned, move_of, short_move, long_move, spelling_with, IsFull}
-use Rattle.py_lines.specs.Private.ScanMachine.{HoldsOpen, IsScanSound, fielded_move, meet_of, move_in, scan_steps, string_state, move_at}
+use Rattle.py_lines.specs.Private.Machine.{Scanned, Bracket, move_of, short_move, long_move, spelling_with, IsFull}
+use Rattle.py_lines.specs.Private.ScanMachine.{IsScanSound, fielded_move, line_begun, line_start, meet_of, move_in, scan_steps, string_state, move_at}
 use Rattle.py_lines.specs.declared.field_scan.FieldScan.{FieldScan}
-use Rattle.py_lines.specs.Private.Scan.{Counts, FieldsFollow, Tallies, IsStacked, depth_of, with_field_scan, line_start, stack_of, counts_after, Takes}
+use Rattle.py_lines.specs.Private.Scan.{Counts, EndsNoLine, IsUnderWay, counts_after}
 use Rattle.py_lines.specs.Balance.{depth_through}
-use Rattle.py_lines.specs.Private.FieldMachine.{FieldScanned}
-use Rattle.py_lines.specs.Private.FieldScan.{GoesThrough, HoldsField}
-use Rattle.py_lines.specs.Private.Run.{is_ascii_word, is_body_byte, stays, Stay, HeldIn, HoldsRun, with_bytes, HasAsciiQuote, Reached, Spans, HoldsLongText, is_feed, is_long_byte, is_text_byte, with_lines}
+use Rattle.py_lines.specs.Private.FieldMachine as spots
+use Rattle.py_lines.specs.Private.FieldMachine.{Level, FieldScanned, field_state, field_move, field_moved, field_step, field_steps_from, frames, has_room, has_room_at, have_room, room_step, roomy}
+use Rattle.py_lines.specs.Private.FieldScan.{Follows, GoesOn, GoesThrough, HoldsCode, code_mode, line_pieces, mode_from, bracket_openers}
+use Rattle.py_lines.specs.Private.Run.{is_ascii_word, is_body_byte, stays, HoldsRun, with_bytes, HasAsciiQuote, HasAsciiQuoteOpen, Reached, HoldsLongText, is_feed, is_long_byte, is_text_byte, with_lines}
 use Rattle.py_lines.proofs.Text.CharacterTests.{none_of, excluded, feed-not-others, feed_from}
 use Rattle.py_lines.proofs.LineScan.LineCount.{line_ends-step, ends-last}
-use Rattle.py_lines.proofs.LineScan.PieceEnd.{counts_longer}
-use Rattle.py_lines.proofs.LineScan.StringSteps.{here_at, in_string, string_more, string_through}
-use Rattle.py_lines.proofs.LineScan.LineSteps.{sound_steps}
-use Rattle.py_lines.proofs.ScanMachine.Advance.{steps_push}
-use Rattle.py_lines.specs.declared.scan.Progress.TheVariants as progress
+use Rattle.py_lines.proofs.LineScan.StringSteps.{string_more}
+use Rattle.py_lines.proofs.LineScan.LineSteps.{way_reached, way_tied, roomy_parts}
+use Rattle.py_lines.proofs.FieldSoundness.LiveTexts.{steps-append}
+use Rattle.py_lines.proofs.ScanMachine.Follows.{IsTied, flat, some_is}
+use Rattle.py_lines.proofs.ScanMachine.Reaching.{goes_along}
+use Rattle.py_lines.proofs.ScanMachine.Rebased.{based, rebased_if, rebased_in}
 use Rattle.py_lines.proofs.Text.Utf8Prefixes.{all_scalars-append, scalars_more, spell_more}
 pub use Rattle.py_lines.proofs.LogicalLines.Cuts.{break-return}
-use Rattle.py_lines.proofs.LogicalLines.Cuts.{no_bytes}
+use Rattle.py_lines.proofs.LogicalLines.Cuts.{byte_len-append}
 pub use Rattle.py_lines.proofs.LineScan.AsciiRuns.{word_byte_continues, word_byte_low, word_byte_starts}
 use Rattle.py_lines.proofs.Machine.PieceSteps.{scanned, longer, all_held, steps_by-append, grown_by, run_by}
-use Rattle.py_lines.proofs.Pieces.OpenBrackets.{stands}
 use Rattle.std.proofs.Math.Bool.{and-true, or-false}
 use Rattle.std.proofs.lemmas.List.Sums.{sum_by-append}
 use Rattle.py_lines.proofs.LineScan.AsciiRuns.{low_encodes, low_is}
+use Rattle.py_lines.proofs.FieldScans.Taking.{grown_on, with_text}
 
 -- no line ends in a byte that stays
 word_byte-no_break : (c : ℕ) → is_break c ≡ true → is_ascii_word c ≡ false
@@ -118,7 +121,7 @@ ascii_or_high m c rest quote h =
     (λ (low : c < 128). absurd (omega (arith, high, low, byte_from_char (encode_utf8 c ++ rest) rest c refl low)))
     (λ (more : 128 ≤ c). stays-high m _ c quote high more h) (cases_lt c 128)) (cases_lt (slice_index (encode_utf8 c ++ rest) 0) 128)
 
-pub characters_stay : (m : Mode) (cs : List ℕ) → HasAsciiQuote m → ((i : ℕ) → i < length (encode_utf8_all cs) → stays m (slice_index (encode_utf8_all cs) i) ≡ true) → list_all (stays m) cs ≡ true
+characters_stay : (m : Mode) (cs : List ℕ) → HasAsciiQuote m → ((i : ℕ) → i < length (encode_utf8_all cs) → stays m (slice_index (encode_utf8_all cs) i) ≡ true) → list_all (stays m) cs ≡ true
 characters_stay m [] quote each = refl
 characters_stay m (c ∷ cs) quote each =
     and_from (stays m c) (list_all (stays m) cs)
@@ -128,66 +131,35 @@ characters_stay m (c ∷ cs) quote each =
     later : (i : ℕ) → slice_index (encode_utf8 c ++ encode_utf8_all cs) (length (encode_utf8 c) + i) ≡ slice_index (encode_utf8_all cs) i
     later i = get_or-append-add (encode_utf8 c) (encode_utf8_all cs) i 0
 
+-- the characters of bytes that stay
+pub stay_spelled : (m : Mode) (bytes : List ℕ) (k : ℕ) → HasAsciiQuote m → k ≤ length bytes → ((i : ℕ) → i < k → stays m (slice_index bytes i) ≡ true) → (run : List ℕ) → encode_utf8_all run ≡ take k bytes → list_all (stays m) run ≡ true
+stay_spelled m bytes k quote within each run spell =
+    let size : length (encode_utf8_all run) ≡ k = ap length spell ∙ length-take-le k bytes within in
+    characters_stay m run quote (λ i less.
+    let short : i < k = omega (arith, less, size) in
+    ap (λ (t : List ℕ). stays m (slice_index t i)) spell ∙ ap (stays m) (get_or-take k bytes i 0 short) ∙ each i short)
+
 -- a quote is one byte
 pub quote_ascii : (q : ℕ) → is_quote q ≡ true → q < 128
 unfolding is_quote
 quote_ascii q h = leb-false 128 q (none_of (λ d. leb 128 d) (codes "'\"") q refl h)
 
-pub sound_quote : (m : Mode) (done : List Piece) (held : List ℕ) → HoldsOpen m done held → HasAsciiQuote m
-sound_quote (modes.Inside q) done held holds = quote_ascii q holds.0.0.opens
-sound_quote (modes.Long q) done held holds = quote_ascii q holds.0.opens
-sound_quote m done held holds = tt
-
--- what the first n bytes hold
-pub held_in : (scan : Scan) (text : List ℕ) (n : ℕ) → Spans (stays scan.piece.mode) text n → HasAsciiQuote scan.piece.mode → (scan.piece.mode ≡ modes.Fielded → ⊥) → HeldIn scan text n scan
-held_in scan text n spans quote other =
-    let m = scan.piece.mode in
-    let (run, (scalars, spell)) = spans.utf8 in
-    let size : length (take n text) ≡ n = length-take-le n text spans.run.within in
-    record {
-      run = run;
-      spell = ap (λ t. t ++ drop n text) spell ∙ take-append-drop n text;
-      scalars = scalars;
-      size = ap length spell ∙ size;
-      none = λ nothing. refl;
-      fields = scan.fields;
-      same = refl;
-      stay = stay_in m run other (characters_stay m run quote (λ i less.
-          let short : i < n = omega (arith, less, ap length spell, size) in
-          subst (λ (t : List ℕ). stays m (slice_index t i) ≡ true) (sym spell) (subst (λ (b : ℕ). stays m b ≡ true) (sym (get_or-take n text i 0 short)) (spans.run.each i short))));
-    }
+-- of an open string too
+pub open_quote : (scan : FieldScan) (t : FieldScanned) → Follows scan t → HasAsciiQuoteOpen scan.mode
+open_quote scan t follows = by scan.mode (subst (λ m. HoldsCode m t.held) (sym follows.mode) follows.holds)
   where
-    stay_in : (m : Mode) (run : List ℕ) → (m ≡ modes.Fielded → ⊥) → list_all (stays m) run ≡ true → Stay m scan scan.fields run
-    stay_in modes.Fielded run other all = absurd (other refl)
-    stay_in m run other all = all
+    code : (m : Mode) → HoldsCode (code_mode m) t.held → HasAsciiQuote m
+    code (modes.Inside q) holds = quote_ascii q holds.0.opens
+    code (modes.Long q) holds = quote_ascii q holds.opens
+    code m holds = tt
 
-pub string_held : (old : Scan) (fields : FieldScan) (text : List ℕ) (n : ℕ) → old.piece.mode ≡ modes.Fielded → HoldsField old.fields (depth_of old.brackets) old.stop text n fields → HeldIn old text n (with_field_scan old fields)
-string_held old fields text n here held = record {
-  run = held.run;
-  spell = held.spell;
-  scalars = held.scalars;
-  size = held.size;
-  none = λ nothing. ap (with_field_scan old) (held.none nothing);
-  fields = fields;
-  same = refl;
-  stay = subst (λ (m : Mode). Stay m old fields held.run) (sym here) (λ text t steps stop follows inside. held.stay old.piece.start text t steps stop follows inside);
-}
+    by : (m : FieldMode) → HoldsCode (mode_from m) t.held → HasAsciiQuoteOpen m
+    by (field_modes.Code m) holds = code m holds
+    by (field_modes.Body h region named at) holds = tt
 
 full_from : (run : List ℕ) → 0 < byte_len run → IsFull run
 full_from [] some = absurd (omega (arith, some))
 full_from (c ∷ cs) some = tt
-
--- a run was read, or none
-pub holds_run : (old mid new : Scan) (text : List ℕ) (n : ℕ) → HeldIn old text n mid → ((0 < n) × (new ≡ with_bytes mid n)) ⊎ ((n ≤ 0) × (new ≡ mid)) → HoldsRun old text (drop n text) new
-holds_run old mid new text n held how = record {
-  run = held.run;
-  spell = held.spell;
-  scalars = held.scalars;
-  fields = held.fields;
-  stay = held.stay;
-  reads = ⊎_elim (λ some. inr (full_from held.run (omega (arith, held.size, some.0)), some.1 ∙ (λ i. with_bytes (held.same i) (sym held.size i))))
-      (λ none. inl (no_bytes held.run (omega (arith, held.size, none.0)), none.1 ∙ held.none (omega (arith, none.0)))) how;
-}
 
 -- no line ends in a run
 pub counts_none : (after : Bool) (c : ℕ) → is_break c ≡ false → counts_after after c ≡ 0
@@ -215,10 +187,12 @@ all_no_break m (c ∷ cs) all =
     and_from (not (is_break c)) (list_all (λ d. not (is_break d)) cs) (ap not (stays-no_break m c parts.0)) (all_no_break m cs parts.1)
 
 -- the scan keeps count over a run
-pub counts_run : (old : Scan) (fields : FieldScan) (s : Scanned) (run : List ℕ) → list_all (λ d. not (is_break d)) run ≡ true → IsFull run → Counts old s → Counts (with_bytes (with_field_scan old fields) (byte_len run)) (scanned s.done s.mode (s.held ++ run))
-counts_run old fields s run all full counts =
-    counts_longer old (with_bytes (with_field_scan old fields) (byte_len run)) s s.mode run counts (ap (λ (m : Mode). record { mode = m; start = old.piece.start }) counts.mode) refl
-    (counts.here ∙ ap (λ (n : ℕ). old.line + n) (sym (line_ends-run (spelled s.done ++ s.held) run all))) (sym (ends-run (spelled s.done ++ s.held) run full all))
+counts_run : (old : Scan) (inside : FieldScan) (read run : List ℕ) (len : ℕ) → list_all (λ d. not (is_break d)) run ≡ true → IsFull run → byte_len run ≡ len → Counts old read → Counts (with_bytes (record old { inside = inside }) len) (read ++ run)
+counts_run old inside read run len all full size counts = record {
+  stop = omega (arith, counts.stop, size, byte_len-append read run);
+  here = counts.here ∙ ap (λ (n : ℕ). old.line + n) (sym (line_ends-run read run all));
+  after = sym (ends-run read run full all);
+}
 
 -- a string with fields that goes on over a run
 pub string_run : (done : List Piece) (held run : List ℕ) (t u : FieldScanned) → string_state held ≡ Some t → GoesThrough (depth_through 0 done) t run u → scan_steps (Some (scanned done modes.Fielded held)) run ≡ Some (scanned done modes.Fielded (held ++ run))
@@ -231,80 +205,101 @@ pub string_no_break : (depth : ℕ) (t : FieldScanned) (run : List ℕ) (u : Fie
 string_no_break depth t [] u goes = refl
 string_no_break depth t (c ∷ cs) u (low, none, move, next, step, others) = and_from (not (is_break c)) (list_all (λ d. not (is_break d)) cs) (ap not none) (string_no_break depth next cs u others)
 
--- what a run comes to, in each mode
-record RunsOn (old : Scan) (fields : FieldScan) (s : Scanned) (run : List ℕ) : Type 0 where
-  steps : scan_steps (Some s) run ≡ Some (scanned s.done s.mode (s.held ++ run))
-  none : list_all (λ d. not (is_break d)) run ≡ true
-  follows : FieldsFollow (with_bytes (with_field_scan old fields) (byte_len run)) s.mode (s.held ++ run)
+-- where the machines stand together, they have the same finished pieces in the line's own list
+based_pieces : (done : List Piece) (os : List ℕ) (l : Level) (ls : List Level) (ps : List Piece) → line_pieces (based done os l ls) ps ≡ done
+based_pieces done os l [] ps = refl
+based_pieces done os l (k ∷ ks) ps = based_pieces done os k ks l.done
 
-runs_on : (old : Scan) (fields : FieldScan) (done : List Piece) (m : Mode) (held read run : List ℕ) → IsScanSound (scanned done m held) read → Tallies old (scanned done m held) → IsStacked old (scanned done m held) → Stay m old fields run → RunsOn old fields (scanned done m held) run
-runs_on old fields done modes.Fielded held read run sound tallies stacked stay =
-    let i = in_string old done held read sound tallies in
-    let stop = i.stands.stop ∙ ap (λ n. old.piece.start + n) (here_at held i.state i.steps) in
-    let (u, through, follows) = stay held i.state i.steps stop i.stands.follows i.stands.inside in
-    let goes = subst (λ d. GoesThrough d i.state run u) (sym (stands done (stack_of old.brackets) stacked).depth) through in
+pub tied_pieces : {t : FieldScanned} {s : Scanned} {st : List Bracket} → IsTied t s st → s.done ≡ line_pieces t.outer t.done
+tied_pieces {t} {s} {st} tied = by s.mode s.done (bracket_openers st) s.held tied.flat_is
+  where
+    in_string : (done : List Piece) (os : List ℕ) (outer : List Level) (ps : List Piece) (bs held : List ℕ) (m : spots.FieldMode)
+        → done ≡ line_pieces (rebased_in done os outer ps bs m held).outer (rebased_in done os outer ps bs m held).done
+    in_string done os [] ps bs held m = refl
+    in_string done os (l ∷ ls) ps bs held m = sym (based_pieces done os l ls ps)
+
+    fielded : (done : List Piece) (os : List ℕ) (o : Option FieldScanned) → rebased_if done os o ≡ Some t → done ≡ line_pieces t.outer t.done
+    fielded done os None is = absurd (cc)
+    fielded done os (Some x) is = subst (λ (u : FieldScanned). done ≡ line_pieces u.outer u.done) (some_is _ t is) (in_string done os x.outer x.done x.openers x.held x.mode)
+
+    by : (m : Mode) (done : List Piece) (os held : List ℕ) → flat m done os held ≡ Some t → done ≡ line_pieces t.outer t.done
+    by modes.Fielded done os held is = fielded done os (string_state held) is
+    by m done os held is = subst (λ (u : FieldScanned). done ≡ line_pieces u.outer u.done) (some_is _ t is) refl
+
+-- the machine with fields goes through these characters, for each of which there is room
+pub record Goes (t : FieldScanned) (run : List ℕ) (u : FieldScanned) : Type 0 where
+  pub steps : field_steps_from (Some t) run ≡ Some u
+  pub room : have_room (Some t) run ≡ true
+
+goes_more : (t : FieldScanned) (c : ℕ) (cs : List ℕ) (next u : FieldScanned) → room_step t c ≡ Some next → Goes next cs u → Goes t (c ∷ cs) u
+goes_more t c cs next u step others =
+    let parts = roomy_parts (has_room t c) (field_step t c) next step in
     record {
-      steps = string_run done held run i.state u i.steps goes;
-      none = string_no_break (depth_through 0 done) i.state run u goes;
-      follows = (u, string_through (depth_through 0 done) held run i.state u i.steps goes, follows);
+      steps = ap (λ o. field_steps_from o cs) parts.1 ∙ others.steps;
+      room = and_from _ _ parts.0 (ap (λ o. have_room o cs) parts.1 ∙ others.room);
     }
-runs_on old fields done m held read run sound tallies stacked stay = record { steps = held_run done m held run stay; none = all_no_break m run stay; follows = tt }
 
--- the machine goes on in the open piece over these characters, and the scan follows it
-pub record GoesOver (old new : Scan) (s : Scanned) (run : List ℕ) : Type 0 where
-  pub steps : scan_steps (Some s) run ≡ Some (scanned s.done s.mode (s.held ++ run))
-  pub tallies : Tallies new (scanned s.done s.mode (s.held ++ run))
-  pub brackets : new.brackets ≡ old.brackets
-  pub line : new.line ≡ old.line
+pub goes_through : (t : FieldScanned) (run : List ℕ) (u : FieldScanned) → GoesOn t run u → Goes t run u
+goes_through t [] u goes = record { steps = ap Some goes; room = refl }
+goes_through t (c ∷ cs) u (none, next, step, others) = goes_more t c cs next u step (goes_through next cs u others)
 
-pub reached_over : (m : Mode) (at : ℕ) (text : List ℕ) (old new : Scan) (mid rest run : List ℕ) (r : Reached m at text old mid) → all_scalars run ≡ true
-    → encode_utf8_all run ++ rest ≡ mid → GoesOver old new r.way.state run → Reached m at text new rest
-reached_over m at text old new mid rest run r scalars spell over = record {
+pub no_break_in : (t : FieldScanned) (run : List ℕ) (u : FieldScanned) → GoesOn t run u → list_all (λ d. not (is_break d)) run ≡ true
+no_break_in t [] u goes = refl
+no_break_in t (c ∷ cs) u (none, next, step, others) = and_from (not (is_break c)) (list_all (λ d. not (is_break d)) cs) (ap not none) (no_break_in next cs u others)
+
+-- so the scan goes on in the line over them, where the pieces of its own list stay
+pub way_over : {m : Mode} {old : Scan} {read : List ℕ} (way : IsUnderWay m old read) → IsScanSound (line_start m) [] → (new : Scan) (run : List ℕ) (u : FieldScanned)
+    → Goes way.field run u → line_pieces u.outer u.done ≡ line_pieces way.field.outer way.field.done → Follows new.inside u → Counts new (read ++ run) → IsUnderWay m new (read ++ run)
+way_over {m} {old} {read} way start new run u goes same follows counts =
+    let tied = way_tied way start in
+    let along = goes_along run way.state way.brackets way.field u tied goes.steps goes.room in
+    record {
+      state = along.state;
+      steps = steps_by-append move_at (Some (line_start m)) read run ∙ ap (λ o. scan_steps o run) way.steps ∙ along.goes.run;
+      brackets = along.brackets;
+      stacked = along.goes.stack;
+      one_line = subst (EndsNoLine 0) (tied_pieces tied ∙ sym same ∙ sym (tied_pieces along.tied)) way.one_line;
+      field = u;
+      field_steps = steps-append (Some (line_begun m)) read run ∙ ap (λ o. field_steps_from o run) way.field_steps ∙ goes.steps;
+      follows = follows;
+      counts = counts;
+    }
+
+reached_over : (m : Mode) (at : ℕ) (text : List ℕ) (old new : Scan) (mid rest run : List ℕ) (r : Reached m at text old mid) → all_scalars run ≡ true
+    → encode_utf8_all run ++ rest ≡ mid → IsUnderWay m new (r.read ++ run) → new.line ≡ old.line → Reached m at text new rest
+reached_over m at text old new mid rest run r scalars spell way line = record {
   read = r.read ++ run;
-  way = record {
-    state = scanned r.way.state.done r.way.state.mode (r.way.state.held ++ run);
-    steps = steps_by-append move_at (Some (line_start m)) r.read run ∙ ap (λ o. scan_steps o run) r.way.steps ∙ over.steps;
-    tallies = over.tallies;
-    stacked = r.way.stacked ∙ ap (λ (b : Brackets). Some (stack_of b)) (sym over.brackets);
-    one_line = r.way.one_line;
-  };
+  way = way;
   spell = ap (λ t. t ++ rest) (encodes-append r.read run) ∙ append_assoc (encode_utf8_all r.read) (encode_utf8_all run) rest
       ∙ ap (λ t. encode_utf8_all r.read ++ t) spell ∙ r.spell;
   scalars = all_scalars-append r.read run r.scalars scalars;
-  line = over.line ∙ r.line;
+  line = line ∙ r.line;
 }
 
 -- over a run too
 pub reached_run : (m : Mode) (at : ℕ) (text : List ℕ) (old new : Scan) (mid rest : List ℕ) → Reached m at text old mid → IsScanSound (line_start m) [] → HoldsRun old mid rest new → Reached m at text new rest
-reached_run m at text old new mid rest r start holds =
-    ⊎_elim
-    (λ none. rw (none.1) (subst (Reached m at text old) (sym holds.spell ∙ ap (λ t. encode_utf8_all t ++ rest) none.0) r))
-    (λ some.
+reached_run m at text old new mid rest r start held =
+    let holds = held.holds in
     let way = r.way in
-    let s = way.state in
-    let stay : Stay s.mode old holds.fields holds.run = subst (λ (n : Mode). Stay n old holds.fields holds.run) way.tallies.counts.mode holds.stay in
-    let on = runs_on old holds.fields s.done s.mode s.held r.read holds.run (sound_steps m r.read s start way.steps way.stacked) way.tallies way.stacked stay in
-    reached_over m at text old new mid rest holds.run r holds.scalars holds.spell (rw (some.1) (record {
-      steps = on.steps;
-      tallies = record { counts = counts_run old holds.fields s holds.run on.none some.0 way.tallies.counts; fields = on.follows };
-      brackets = refl;
-      line = refl;
-    }))) holds.reads
+    let (u, goes, follows, same) = holds.stay r.read way.field (way_reached way start) way.counts.stop way.follows in
+    ⊎_elim
+    (λ none. rw none.1 (subst (Reached m at text old) (sym (held.rest_is ∙ ap (λ (n : ℕ). drop n mid) none.0)) r))
+    (λ some.
+    let all = no_break_in way.field holds.run u goes in
+    let full = full_from holds.run (omega (arith, some.0, holds.size)) in
+    reached_over m at text old new mid rest holds.run r holds.scalars (ap (λ t. encode_utf8_all holds.run ++ t) held.rest_is ∙ holds.spell)
+    (rw some.1 (way_over way start (with_bytes (record old { inside = held.inside }) held.len) holds.run u (goes_through way.field holds.run u goes) same follows
+    (counts_run old held.inside r.read holds.run held.len all full holds.size way.counts)))
+    (ap (λ (scan : Scan). scan.line) some.1)) held.reads
 
 -- and over a character
-pub reached_character : (m : Mode) (at : ℕ) (text : List ℕ) (old new : Scan) (before rest : List ℕ) (c : ℕ) (r : Reached m at text old before) → IsScalar c → before ≡ encode_utf8 c ++ rest → Takes old r.way.state c progress.Going new → Reached m at text new rest
-reached_character m at text old new before rest c r scalar is takes = record {
+pub reached_character : (m : Mode) (at : ℕ) (text : List ℕ) (old new : Scan) (before rest : List ℕ) (c : ℕ) (r : Reached m at text old before) → IsScalar c → before ≡ encode_utf8 c ++ rest → IsUnderWay m new (r.read ++ c ∷ []) × (new.line ≡ old.line) → Reached m at text new rest
+reached_character m at text old new before rest c r scalar is (way, line) = record {
   read = r.read ++ c ∷ [];
-  way = record {
-    state = takes.0.next;
-    steps = steps_push (line_start m) r.read r.way.state c r.way.steps ∙ takes.0.goes;
-    tallies = takes.0.tallies;
-    stacked = takes.0.stacked;
-    one_line = takes.0.one_line;
-  };
+  way = way;
   spell = spell_more r.read rest text c (ap (λ t. encode_utf8_all r.read ++ t) (sym is) ∙ r.spell);
   scalars = scalars_more r.read c r.scalars scalar;
-  line = takes.1 ∙ r.line;
+  line = line ∙ r.line;
 }
 
 module _ (q : ℕ) (quote : is_quote q ≡ true) where
@@ -368,27 +363,43 @@ module _ (q : ℕ) (quote : is_quote q ≡ true) where
         ap (ends is_return) (sym spell) ∙ later.1,
       )
 
+  -- the machine with fields holds them too, in a field or not
+  long_move_is : (held : List ℕ) (c : ℕ) → is_long_byte q c ≡ true → field_move (spots.plain (modes.Long q)) held c ≡ spots.grows (spots.plain (modes.Long q))
+  unfolding field_move move_of long_move
+  long_move_is held c passes = let p = plain c passes in rw (p.other, p.slash) refl
+
+  pub long_goes : (scan : FieldScan) (t : FieldScanned) (run : List ℕ) → t.mode ≡ spots.plain (modes.Long q) → Follows scan t → list_all (is_long_byte q) run ≡ true
+      → Goes t run (with_text t run) × Follows scan (with_text t run)
+  long_goes scan t [] here follows all =
+      let same : t ≡ with_text t [] = ap (field_state t.outer t.done t.openers t.mode) (sym (append-nil t.held)) in
+      (record { steps = ap Some same; room = refl }, subst (Follows scan) same follows)
+  long_goes scan t (c ∷ cs) here follows all =
+      let parts = and_parts (is_long_byte q c) (list_all (is_long_byte q) cs) all in
+      let move : field_move t.mode t.held c ≡ spots.grows t.mode = ap (λ m. field_move m t.held c) here ∙ long_move_is t.held c parts.0 ∙ ap spots.grows (sym here) in
+      let next = with_text t (c ∷ []) in
+      let on = grown_on scan t c follows move in
+      let later = long_goes scan next cs here on.1 parts.1 in
+      let same : with_text next cs ≡ with_text t (c ∷ cs) = ap (field_state t.outer t.done t.openers t.mode) (append_assoc t.held (c ∷ []) cs) in
+      subst (λ u. Goes t (c ∷ cs) u × Follows scan u) same (goes_more t c cs next (with_text next cs) on.0 later.0, later.1)
+
 -- the scan goes over them
 pub reached_long : (m : Mode) (at : ℕ) (text : List ℕ) (old new : Scan) (mid rest : List ℕ) → Reached m at text old mid → IsScanSound (line_start m) [] → HoldsLongText old mid rest new → Reached m at text new rest
 reached_long m at text old new mid rest r start (inl (same, still)) = rw still (subst (Reached m at text old) (sym same) r)
 reached_long m at text old new mid rest r start (inr reads) =
     let q = reads.quote in
     let run = reads.run in
-    let s = r.way.state in
-    let counts = r.way.tallies.counts in
-    let here : s.mode ≡ modes.Long q = sym counts.mode ∙ reads.here in
-    let sound = sound_steps m r.read s start r.way.steps r.way.stacked in
-    let quote = (subst (λ (n : Mode). HoldsOpen n s.done s.held) here sound.holds).0.opens in
+    let way = r.way in
+    let t = way.field in
+    let counts = way.counts in
+    let here : t.mode ≡ spots.plain (modes.Long q) = sym way.follows.mode ∙ ap mode_from reads.here in
+    let quote = (subst (λ n. HoldsCode n t.held) here way.follows.holds).opens in
     let chars = long_characters q quote run reads.all in
-    let more = long_counts q quote (spelled s.done ++ s.held) run (sym counts.after ∙ reads.parted) reads.all in
-    reached_over m at text old new mid rest run r chars.1 (ap (λ t. t ++ rest) chars.0 ∙ reads.spell) (rw (reads.reads) (record {
-      steps = subst (λ (n : Mode). scan_steps (Some (scanned s.done n s.held)) run ≡ Some (scanned s.done n (s.held ++ run))) (sym here)
-          (long_held q quote s.done s.held run reads.all);
-      tallies = record {
-        counts = counts_longer old (with_lines old run) s s.mode run counts (ap (λ (k : Mode). record { mode = k; start = old.piece.start }) counts.mode)
-            (ap (λ (n : ℕ). old.stop + n) (sym (ap length chars.0))) (omega (arith, counts.here, more.0)) (reads.parted ∙ sym more.1);
-        fields = subst (λ (n : Mode). FieldsFollow (with_lines old run) n (s.held ++ run)) (sym here) tt;
-      };
-      brackets = refl;
-      line = refl;
-    }))
+    let more = long_counts q quote r.read run (sym counts.after ∙ reads.parted) reads.all in
+    let on = long_goes q quote old.inside t run here way.follows reads.all in
+    reached_over m at text old new mid rest run r chars.1 (ap (λ t. t ++ rest) chars.0 ∙ reads.spell)
+    (rw reads.reads (way_over way start (with_lines old run) run (with_text t run) on.0 refl on.1 (record {
+      stop = omega (arith, counts.stop, ap length chars.0, byte_len-append r.read run);
+      here = omega (arith, counts.here, more.0);
+      after = reads.parted ∙ sym more.1;
+    })))
+    (ap (λ (scan : Scan). scan.line) reads.reads)

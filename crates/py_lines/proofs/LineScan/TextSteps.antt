@@ -1,6 +1,5 @@
 -- The scan of one line is the machine's run over the whole text so far.
-use Rattle.std.proofs.Common.{◌≡◌, ℕ, zero, suc, ◌+◌, ◌<◌, true, false, ◌||◌, Option, None, Some, List, [], ◌∷◌, ◌++◌, length, refl, sym, ap, ◌∙◌, subst, inl, inr, append-nil, zero-add, arith}
-use Rattle.std.proofs.lemmas.Bool.{both_ways}
+use Rattle.std.proofs.Common.{◌≡◌, ℕ, zero, suc, ◌+◌, ◌<◌, false, Option, None, Some, List, [], ◌∷◌, ◌++◌, length, refl, sym, ap, ◌∙◌, subst, inl, inr, append-nil, arith}
 use Rattle.std.proofs.lemmas.List.{same_from_push}
 use Rattle.std.proofs.lemmas.Str.{length-le-encodes}
 use Rattle.py_lines.specs.Piece.{Class, mark, line_end, Piece, is_mark_class, begins_marked, spelled}
@@ -10,10 +9,10 @@ use Rattle.py_lines.specs.Faults.{IsLive}
 use Rattle.py_lines.specs.LogicalLine.{byte_len}
 use Rattle.py_lines.specs.declared.mode.Mode.{Mode}
 use Rattle.py_lines.specs.declared.mode.Mode.TheVariants as modes
-use Rattle.py_lines.specs.Private.Machine.{Scanned, fresh, text_start, class_of, closed, started, start_of, Bracket, brackets_of, in_short, is_after_backslash}
+use Rattle.py_lines.specs.Private.Machine.{Scanned, fresh, text_start, class_of, closed, started, start_of, Bracket, brackets_of}
 use Rattle.py_lines.specs.Private.ScanMachine.{IsScanSound, StringsFit, scan_step, scan_steps, move_at}
 use Rattle.py_lines.specs.declared.scan.Scan.{Scan}
-use Rattle.py_lines.specs.Private.Scan.{line_start, stack_of, stack_if, IsUnderWay}
+use Rattle.py_lines.specs.Private.Scan.{line_start, stack_if, IsUnderWay}
 use Rattle.py_lines.specs.Private.LineState.{first_mode}
 use Rattle.py_lines.proofs.Pieces.PieceLists.{piece, MayFollow, AreReadBefore-second, spelled-append}
 use Rattle.py_lines.proofs.Machine.Starts.{start-mark}
@@ -27,7 +26,6 @@ use Rattle.py_lines.proofs.Machine.EarlierPieces.{closed_grows, after_pieces, af
 use Rattle.py_lines.proofs.Machine.LiveTexts.{stack_closed}
 use Rattle.py_lines.proofs.Lexings.LineEnds.{line_first}
 use Rattle.py_lines.proofs.LogicalLines.Cuts.{byte_len-append}
-use Rattle.py_lines.proofs.LineScan.StringSteps.{first_plain}
 use Rattle.py_lines.proofs.ScanMachine.Steps as runs_of
 use Rattle.py_lines.specs.Balance.{depth_through}
 
@@ -45,7 +43,7 @@ free_mode : (n : ℕ) → 0 < n → first_mode n ≡ modes.Free
 free_mode zero positive = absurd (omega arith)
 free_mode (suc n) positive = refl
 
-begins_any : (body : List Piece) (last : Piece) (rest : List ℕ) → MayBegin (body ++ last ∷ []) rest
+pub begins_any : (body : List Piece) (last : Piece) (rest : List ℕ) → MayBegin (body ++ last ∷ []) rest
 begins_any [] last rest = tt
 begins_any (p ∷ ps) last rest = tt
 
@@ -58,19 +56,31 @@ base_of n base rest fit (inr (body, last, is, class, level)) size =
     let bytes : 0 < byte_len (last.text ++ []) = omega (arith, length-le-encodes (last.text ++ []), ap length (append-nil last.text ∙ text.2)) in
     Base.lined body last is class (λ x. subst (λ l. MayBegin l x) (sym is) (begins_any body last x)) (free_mode n (omega (arith, size, total, bytes)))
 
--- where the machine stands after pieces that end a line, nothing is open but perhaps a CR
-ended_mode : (m : Mode) (done : List Piece) (held : List ℕ) (body : List Piece) (last : Piece) → closed m done held ≡ body ++ last ∷ [] → last.class ≡ line_end → (in_short m ≡ false) × (is_after_backslash m ≡ false) × (m ≡ modes.Fielded → ⊥)
-ended_mode modes.Start done held body last is class = (refl, refl, λ h. cc)
-ended_mode modes.Free done held body last is class = (refl, refl, λ h. cc)
-ended_mode modes.Return done held body last is class = (refl, refl, λ h. cc)
+-- nothing is open, but perhaps the CR of a line end
+abbrev pub IsBetweenLines : Mode → Type 0
+IsBetweenLines modes.Start = Unit {0}
+IsBetweenLines modes.Free = Unit {0}
+IsBetweenLines modes.Return = Unit {0}
+IsBetweenLines other = ⊥
+
+-- so where the machine stands after pieces that end a line
+ended_mode : (m : Mode) (done : List Piece) (held : List ℕ) (body : List Piece) (last : Piece) → closed m done held ≡ body ++ last ∷ [] → last.class ≡ line_end → IsBetweenLines m
+ended_mode modes.Start done held body last is class = tt
+ended_mode modes.Free done held body last is class = tt
+ended_mode modes.Return done held body last is class = tt
 ended_mode m done held body last is class =
     let parts = same_from_push done body (piece (class_of m) held) last is in
     let same : class_of m ≡ line_end = ap (λ (p : Piece). p.class) parts.1 ∙ class in
     absurd (cc)
 
 -- the machine, where the scan of a line has come
-pub way_goes : {m : Mode} {scan : Scan} {read : List ℕ} → (way : IsUnderWay m scan read) → GoesTo (line_start m) read way.state (stack_of scan.brackets)
+pub way_goes : {m : Mode} {scan : Scan} {read : List ℕ} → (way : IsUnderWay m scan read) → GoesTo (line_start m) read way.state way.brackets
 way_goes way = record { run = way.steps; stack = way.stacked }
+
+-- how it stands after pieces that end a line: as it stands in the line, if something of it was read
+abbrev pub StandsAfter : List Piece → List ℕ → Scanned → List Bracket → Scanned → List Bracket → Type 0
+StandsAfter base [] s first state st = IsBetweenLines state.mode
+StandsAfter base (c ∷ cs) s first state st = (state ≡ after_pieces base s) × (st ≡ shift (byte_len (spelled base)) first)
 
 -- the machine at a place of a line
 pub record Joined (base : List Piece) (read : List ℕ) (s : Scanned) (first : List Bracket) (after : List ℕ) : Type 0 where
@@ -79,12 +89,12 @@ pub record Joined (base : List Piece) (read : List ℕ) (s : Scanned) (first : L
   pub steps : RunsTo (spelled base ++ read) state st
   pub pieces : pieces_at state ≡ base ++ pieces_at s
   pub next : (c : ℕ) (more : List ℕ) → after ≡ c ∷ more → scan_step state c ≡ after_if base (scan_step s c)
-  pub short : in_short state.mode ≡ in_short s.mode
-  pub slash : is_after_backslash state.mode ≡ is_after_backslash s.mode
-  pub start : in_short s.mode || is_after_backslash s.mode ≡ true → byte_len (spelled state.done) ≡ byte_len (spelled base) + byte_len (spelled s.done)
-  pub inside : s.mode ≡ modes.Fielded → state ≡ after_pieces base s
-  pub plain : (s.mode ≡ modes.Fielded → ⊥) → state.mode ≡ modes.Fielded → ⊥
-  pub same : 0 < byte_len read → (state ≡ after_pieces base s) × (st ≡ shift (byte_len (spelled base)) first)
+  pub stands : StandsAfter base read s first state st
+
+-- so where something was
+pub stands_on : (base : List Piece) (read : List ℕ) (s state : Scanned) (first st : List Bracket) → 0 < byte_len read → StandsAfter base read s first state st → (state ≡ after_pieces base s) × (st ≡ shift (byte_len (spelled base)) first)
+stands_on base [] s state first st some stands = absurd (omega (arith, some))
+stands_on base (c ∷ cs) s state first st some stands = stands
 
 paired : (base : List Piece) (m : Mode) (done : List Piece) (held : List ℕ) → brackets_of base ≡ Some [] → closed m done held ≡ base → brackets_of done ≡ Some []
 paired base m done held level is =
@@ -125,12 +135,7 @@ module _ (n : ℕ) (base : List Piece) (after : List ℕ) (level : brackets_of b
     steps = full c cs s st fit is goes;
     pieces = closed-after base s.done s.mode s.held;
     next = λ d more follows. step-after base s d (stands base [] level).depth;
-    short = refl;
-    slash = refl;
-    inside = λ at. refl;
-    plain = λ other. other;
-    same = λ full_text. (refl, refl);
-    start = λ open_yet. ap byte_len (spelled-append base s.done) ∙ byte_len-append (spelled base) (spelled s.done);
+    stands = (refl, refl);
   }
 
   -- nothing was read yet
@@ -144,30 +149,19 @@ module _ (n : ℕ) (base : List Piece) (after : List ℕ) (level : brackets_of b
         steps = record { run = ap (λ l. scan_steps (Some text_start) (spelled l ++ [])) nothing ∙ ap (λ (t : Scanned). Some t) here; stack = ap (λ (t : Scanned). brackets_of t.done) (sym here) };
         pieces = ap (λ l. l ++ pieces_at s) (sym nothing);
         next = λ d more follows. sym (after_nothing (scan_step s d)) ∙ ap (λ l. after_if l (scan_step s d)) (sym nothing);
-        short = refl;
-        slash = refl;
-        inside = λ at. absurd (first_plain n (ap (λ (t : Scanned). t.mode) is ∙ at));
-        plain = λ other. other;
-        same = λ full_text. absurd (omega (arith, full_text));
-        start = λ open_yet. sym (zero-add _) ∙ ap (λ l. byte_len (spelled l) + byte_len (spelled s.done)) (sym nothing);
+        stands = subst (λ (t : Scanned). IsBetweenLines t.mode) here tt;
       }
   joined_none s first fit (Base.lined body last is class any mode) begins =
       let reached = reach base [] after fit level strings in
       let to = reached.to in
       let here : line_start modes.Free ≡ s = ap line_start (sym mode) ∙ begins in
-      let closed_mode = ended_mode to.mode to.done to.held body last (reached.pieces_are ∙ is) class in
       record {
         state = to;
         st = [];
         steps = record { run = ap (scan_steps (Some text_start)) (append-nil (spelled base)) ∙ reached.steps; stack = paired base to.mode to.done to.held level reached.pieces_are };
         pieces = reached.pieces_are ∙ sym (append-nil base) ∙ ap (λ (t : Scanned). base ++ pieces_at t) here;
         next = λ d more follows. sym (steps_push to [] to d refl) ∙ from_base base to d [] more (stands base [] level).depth reached.pieces_are (subst (StopsBefore to.mode) follows (reached.stops (any after))) ∙ ap (after_if base) (steps_push (line_start modes.Free) [] (line_start modes.Free) d refl) ∙ ap (λ (t : Scanned). after_if base (scan_step t d)) here;
-        short = closed_mode.0 ∙ ap (λ (t : Scanned). in_short t.mode) here;
-        slash = closed_mode.1 ∙ ap (λ (t : Scanned). is_after_backslash t.mode) here;
-        inside = λ at. absurd (first_plain n (ap (λ (t : Scanned). t.mode) begins ∙ at));
-        plain = λ other. closed_mode.2;
-        same = λ full_text. absurd (omega (arith, full_text));
-        start = λ open_yet. absurd (both_ways _ (sym (ap (λ (t : Scanned). in_short t.mode || is_after_backslash t.mode) here)) open_yet);
+        stands = ended_mode to.mode to.done to.held body last (reached.pieces_are ∙ is) class;
       }
 
   -- the machine where the line has come

@@ -1,5 +1,6 @@
 -- A string with fields whose text is simple is taken whole.
 use Rattle.std.proofs.Common.{◌≡◌, ℕ, ◌+◌, ◌≤◌, Bool, true, false, ◌==◌, Some, List, [], ◌∷◌, ◌++◌, refl, sym, ap, ◌∙◌, subst}
+use Rattle.std.specs.Prelude.{if◌then◌else◌}
 use Rattle.std.proofs.lemmas.Bool.{and_parts, eq-eqb, eqb-true, false_from_ne_true}
 use Rattle.py_lines.specs.Character.{is_word_start, is_word_character, is_quote, is_break}
 use Rattle.py_lines.specs.Piece.{string, Piece}
@@ -11,18 +12,17 @@ use Rattle.py_lines.specs.declared.mode.Mode.TheVariants as modes
 use Rattle.py_lines.specs.declared.mode.Move.TheVariants as moves
 use Rattle.py_lines.specs.Private.Machine.{fresh, moved, Holds, first_spelling, spelling_on}
 use Rattle.py_lines.specs.Private.FieldMachine as spots
-use Rattle.py_lines.specs.Private.FieldMachine.{between, body, closes, FieldScanned, field_state, field_text_start, field_move, body_move, between_move, host_of, frames}
+use Rattle.py_lines.specs.Private.FieldMachine.{between, body, closes, FieldScanned, field_state, field_move, field_moved, body_move, between_move, host_of, frames, has_room_at}
 use Rattle.py_lines.specs.Private.FieldScan.{GoesThrough}
 use Rattle.py_lines.specs.Private.FieldText.{InText}
-use Rattle.py_lines.specs.Private.ScanMachine.{fielded_move, host_in, is_field_spelling, is_raw_spelling, meet_of, opened_move, quote_move, scan_step, scan_steps, string_state, move_at}
+use Rattle.py_lines.specs.Private.ScanMachine.{fielded_move, host_in, is_field_spelling, is_raw_spelling, meet_of, opened_move, quote_move, scan_step, scan_steps, string_move, string_state, move_at}
 use Rattle.py_lines.proofs.Pieces.PieceLists.{piece}
 use Rattle.py_lines.proofs.Text.CharacterTests.{quote-not-word}
 use Rattle.py_lines.proofs.Machine.PieceSteps.{scanned, steps_by-append, grown_by}
 use Rattle.py_lines.proofs.Fields.Prefixes.{field_letters}
-use Rattle.py_lines.proofs.ScanMachine.Follows.{word_alone, host_moves, room_closes}
+use Rattle.py_lines.proofs.ScanMachine.Follows.{word_alone, host_moves}
 use Rattle.py_lines.proofs.ScanMachine.Rooms.{alone_grows}
 use Rattle.py_lines.proofs.Machine.Spellings.{word_tells}
-use Rattle.py_lines.proofs.FieldScans.Taking.{comes_closed}
 use Rattle.py_lines.proofs.LineScan.Runs.{string_run}
 use Rattle.py_lines.proofs.LineScan.NextCharacter.{opened_as_body}
 use Rattle.py_lines.proofs.LineScan.StringSteps.{string_more, string_through}
@@ -80,7 +80,8 @@ module _ (done : List Piece) (few : depth_through 0 done ≤ 100) (c : ℕ) (cs 
     held = (opening ++ d ∷ []) ++ ds
 
     shut_at : (text : List ℕ) → fielded_move depth (Some (at_body (host_in h) text)) q ≡ moves.Closes
-    shut_at text = comes_closed 0 depth (at_body (host_in h) text) q closes (quote_closes (host_in h) text refl) refl refl (room_closes (depth + frames (at_body (host_in h) text)) q)
+    unfolding has_room_at
+    shut_at text = ap (λ v. if has_room_at (depth + frames (at_body (host_in h) text)) q v then string_move [] v (field_moved (at_body (host_in h) text) q v) else moves.Refused) (quote_closes (host_in h) text refl)
 
     other : d == q ≡ false
     other = false_from_ne_true (d == q) (λ same.

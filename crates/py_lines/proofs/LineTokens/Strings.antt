@@ -4,12 +4,12 @@ use Rattle.std.specs.Prelude.{encode_utf8_all, if◌then◌else◌}
 use Rattle.std.specs.Str.{all_scalars, StartsWithNoChar}
 use Rattle.std.specs.Char.{len_utf8}
 use Rattle.std.specs.List.{list_all}
-use Rattle.std.proofs.lemmas.Bool.{both_ways, cases_Bool, cond_both, lt-ltb, cases_lt, false_from_ne_true, not-true, and_parts}
-use Rattle.std.proofs.lemmas.List.{append_cancel_left, length-take-le, take-append-drop, drop_all}
+use Rattle.std.proofs.lemmas.Bool.{both_ways, cases_Bool, lt-ltb, cases_lt, false_from_ne_true, not-true, and_parts}
+use Rattle.std.proofs.lemmas.List.{append_cancel_left, append_cancel_right, length-take-le, take-append-drop, drop_all}
 use Rattle.std.proofs.lemmas.Str.{cons_from_encodes, encodes_same, length-le-encodes, encodes-append}
-use Rattle.py_lines.specs.Character.{is_line_feed, is_break, is_quote, is_word_character, is_word_start}
+use Rattle.py_lines.specs.Character.{is_line_feed, is_break, is_mark, is_quote, is_word_character, is_word_start}
 use Rattle.py_lines.specs.Piece.{Class, operator, line_end, string, Piece, spelled, begins}
-use Rattle.py_lines.specs.Fields.{AreReadBefore, InClass, ShallowFields}
+use Rattle.py_lines.specs.Fields.{InClass, ShallowFields}
 use Rattle.py_lines.specs.LogicalLine.{byte_len, line_ends}
 use Rattle.py_lines.specs.declared.mode.Mode.{Mode}
 use Rattle.py_lines.specs.declared.mode.Mode.TheVariants as modes
@@ -17,48 +17,51 @@ use Rattle.py_lines.specs.declared.mode.Move.{Move}
 use Rattle.py_lines.specs.declared.mode.Move.TheVariants as moves
 use Rattle.py_lines.specs.declared.mode.Start.{Start}
 use Rattle.py_lines.specs.declared.mode.Start.TheVariants as starts
-use Rattle.py_lines.specs.declared.scan.Progress.{Progress}
-use Rattle.py_lines.specs.declared.scan.Progress.TheVariants as progress
+use Rattle.py_lines.specs.declared.field_scan.Progress.{Progress}
+use Rattle.py_lines.specs.declared.field_scan.Progress.TheVariants as progress
 use Rattle.py_lines.specs.declared.scan.Scan.{Scan}
 use Rattle.py_lines.specs.declared.mode.Spelling.{Spelling}
 use Rattle.py_lines.specs.declared.plain_strings.Passed.{Passed}
 use Rattle.py_lines.specs.declared.token.TokKind.TheVariants as kind
-use Rattle.py_lines.specs.Private.FieldMachine.{FieldMove, closes, FieldScanned, Level, field_move, field_step}
+use Rattle.py_lines.specs.Private.FieldMachine.{FieldScanned, field_steps_from}
 use Rattle.py_lines.specs.Private.Machine.{Scanned, fresh, text_start, class_of, closed, started, moved, move_of, start_of, Bracket, brackets_of, first_spelling, spelling_on}
-use Rattle.py_lines.specs.Private.ScanMachine.{IsScanSound, StringsFit, fielded_move, has_room_in, meet_of, move_at, move_in, scan_step, scan_steps, string_move, string_state, begins_string as opens_string, is_field_spelling}
-use Rattle.py_lines.specs.Private.Scan.{Tallies, IsStacked, Takes, TakesNext, is_return_mode, none_open, stack_if, stack_of, line_start}
+use Rattle.py_lines.specs.Private.ScanMachine.{IsScanSound, StringsFit, line_begun, meet_of, move_at, scan_step, scan_steps, begins_string as opens_string, is_field_spelling}
+use Rattle.py_lines.specs.Private.FieldScan.{IsInPlace, ends_piece_before, is_settled, line_pieces}
+use Rattle.py_lines.specs.Private.Scan.{Counts, HasBegun, IsAtLineEnd, IsUnderWay, Takes, TakesNext, is_return_mode, none_open, stack_if, line_start}
 use Rattle.py_lines.specs.Private.Run.{BeginsWith, HoldsRun, Reached, is_free, word_spelling}
 use Rattle.py_lines.specs.Private.LineTokens.{AreTextAt, BeginWithPiece, IsFirstString, is_prefix_word, role_of, string_piece, token_piece}
 use Rattle.py_lines.specs.Private.FieldText.{IsQuotedText}
 use Rattle.py_lines.specs.Private.Outline.{BeforePiece, HasClosedString, HasString, IsInPieceAfter, Passes, PassesString, StringBegins, StringEnds}
 use Rattle.py_lines.proofs.Text.Incomplete.{text_none}
 use Rattle.py_lines.proofs.Text.Splits.{Either, either}
-use Rattle.py_lines.proofs.Text.Utf8Prefixes.{prefix_chars, all_scalars-parts}
+use Rattle.py_lines.proofs.Text.Utf8Prefixes.{prefix_chars, all_scalars-parts, scalars_more, spell_more}
 use Rattle.py_lines.proofs.Pieces.PieceLists.{piece, AreReadBefore-first}
 use Rattle.py_lines.proofs.Pieces.OpenBrackets.{stack_before}
 use Rattle.py_lines.proofs.Fields.Nesting.{string_map}
 use Rattle.py_lines.proofs.Machine.EarlierPieces.{closed_grows, started_grows}
 use Rattle.py_lines.proofs.Machine.LiveTexts.{keeps}
 use Rattle.py_lines.proofs.Machine.PieceSteps.{pieces_at, steps_by-append, scanned, word_by}
+use Rattle.py_lines.proofs.FieldSoundness.LiveTexts.{steps-append}
 use Rattle.py_lines.proofs.ScanMachine.Advance.{steps_push}
 use Rattle.py_lines.proofs.ScanMachine.Follows.{some_is}
 use Rattle.py_lines.proofs.ScanMachine.Reaching.{reach}
 use Rattle.py_lines.proofs.ScanMachine.Rooms.{fields_less}
-use Rattle.py_lines.proofs.ScanMachine.Steps.{StopsBefore, begun, stops-free, grow-word}
+use Rattle.py_lines.proofs.Machine.ReadingSteps.{ReachesBy}
+use Rattle.py_lines.proofs.ScanMachine.Steps.{StopsBefore, begun, stops-free, grow-word, breaks_out}
 use Rattle.py_lines.proofs.Lexings.FirstLines.{piece_some}
 use Rattle.py_lines.proofs.Lexings.LinePrefix.{found_on, kept_on}
-use Rattle.py_lines.proofs.LogicalLines.Cuts.{byte_len-append}
 use Rattle.py_lines.proofs.LineScan.PieceEnd.{closed_text, no_class_bracket}
-use Rattle.py_lines.proofs.LineScan.LineSteps.{sound_steps, way_keeps}
-use Rattle.py_lines.proofs.LineScan.LineStops.{Stands, begun_reached, stands_reached}
-use Rattle.py_lines.proofs.LineScan.Runs.{reached_character, reached_run, ends-run, line_ends-run, quote_ascii}
-use Rattle.py_lines.proofs.LineScan.TextSteps.{begun_sound}
+use Rattle.py_lines.proofs.LineScan.LineSteps.{begun_way, sound_steps, way_placed, way_reached, way_returned, way_tied}
+use Rattle.py_lines.proofs.LineScan.LineStops.{Stands, stands_reached}
+use Rattle.py_lines.proofs.LineScan.Runs.{goes_through, reached_run, tied_pieces, ends-run, line_ends-run, quote_ascii}
+use Rattle.py_lines.proofs.LineScan.TextSteps.{begun_sound, begins_any}
 use Rattle.py_lines.proofs.LineTokens.FirstCharacters.{begins_so, unmarked_first, as_word}
 use Rattle.py_lines.proofs.Machine.Starts.{start-quote, start-word}
 use Rattle.py_lines.proofs.LineScan.AsciiRuns.{is_low, low_encodes, low_is, quote-no_break}
 use Rattle.py_lines.proofs.SimpleLines.Code.{holds_one, one_unreturned}
 use Rattle.py_lines.proofs.SimpleLines.FieldStrings.{fields_passed, fields_some}
 use Rattle.py_lines.proofs.SimpleLines.Strings.{after_word}
+use Rattle.py_lines.proofs.LineScan.OpenPieces.{breaks_ends, ends_breaks, free_settled, settled_free}
 use Rattle.py_lines.proofs.LineTokens.Spellings.{fielded_spelling, prefix_low}
 use Rattle.py_lines.proofs.LineTokens.FirstPieces.{first_byte, wide_unbroken, word_wide}
 use Rattle.py_lines.proofs.FieldScans.TextLengths.{rest_is, rest_of}
@@ -75,14 +78,24 @@ sound_from read s steps stack = sound_steps modes.Free read s (begun_sound 1) st
 then_on : (a b : List ℕ) (s : Scanned) → ComesTo a s → scan_steps (Some s) b ≡ scan_steps (Some (line_start modes.Free)) (a ++ b)
 then_on a b s steps = ap (λ o. scan_steps o b) (sym steps) ∙ sym (steps_by-append move_at (Some (line_start modes.Free)) a b)
 
--- no mark begins a string, so the text's start is like any other place
-from_line : (text : List ℕ) (to : Scanned) → InClass string text → scan_steps (Some text_start) text ≡ Some to → ComesTo text to
+-- where no mark begins a text, its start is like any other place
+from_line : (text : List ℕ) (to : Scanned) → 0 < length text → begins is_mark text ≡ false → scan_steps (Some text_start) text ≡ Some to
+    → ComesTo text to
 unfolding meet_of move_of
-from_line text to fit steps =
-    let b = begins_so string text refl fit in
-    let breaks : meet_of modes.Start b.first ≡ moves.Breaks = rw (unmarked_first b) in
-    ap (scan_steps (Some (line_start modes.Free))) b.is ∙ sym (ap (λ (v : Move). scan_steps (moved text_start b.first v) b.others) breaks)
-    ∙ ap (scan_steps (Some text_start)) (sym b.is) ∙ steps
+from_line [] to some unmarked steps = absurd (omega (arith, some))
+from_line (c ∷ cs) to some unmarked steps =
+    let breaks : meet_of modes.Start c ≡ moves.Breaks = rw unmarked in
+    sym (ap (λ (v : Move). scan_steps (moved text_start c v) cs) breaks) ∙ steps
+
+-- none begins a string
+unmarked_string : (text : List ℕ) → InClass string text → begins is_mark text ≡ false
+unmarked_string text fit = let b = begins_so string text refl fit in ap (begins is_mark) b.is ∙ unmarked_first b
+
+unmarked_more : (text more read y : List ℕ) → 0 < length text → 0 < length read → text ++ more ≡ read ++ y → begins is_mark text ≡ false
+    → begins is_mark read ≡ false
+unmarked_more [] more read y some other same unmarked = absurd (omega (arith, some))
+unmarked_more (c ∷ cs) more [] y some other same unmarked = absurd (omega (arith, other))
+unmarked_more (c ∷ cs) more (d ∷ ds) y some other same unmarked = let first : d ≡ c = cc same in ap is_mark first ∙ unmarked
 
 -- the bytes begin with this string: the machine passes it, finds that piece alone, and may stop before the rest
 pub record BeginsString (bytes text : List ℕ) : Type 0 where
@@ -91,6 +104,7 @@ pub record BeginsString (bytes text : List ℕ) : Type 0 where
   pub scalars : all_scalars (text ++ more) ≡ true
   pub spell : encode_utf8_all (text ++ more) ≡ bytes
   pub some : 0 < length text
+  pub unmarked : begins is_mark text ≡ false
   pub to : Scanned
   pub steps : ComesTo text to
   pub pieces_are : pieces_at to ≡ piece string text ∷ []
@@ -105,14 +119,17 @@ begins_string bytes p is begin =
     = ((λ here. string_map (ShallowFields begin.depth) (ShallowFields 0) less p.text (at.strings.0 here)), tt) in
     let fit = AreReadBefore-first one begin.others at.after at.fit in
     let reached = reach one [] (spelled begin.others ++ at.after) fit (keeps [] (piece string p.text) [] refl refl refl) room in
+    let some = piece_some string p.text at.fit.0 in
+    let unmarked = unmarked_string p.text at.fit.0 in
     record {
       more = spelled begin.others;
       after = at.after;
       scalars = at.scalars;
       spell = at.spell;
-      some = piece_some string p.text at.fit.0;
+      some = some;
+      unmarked = unmarked;
       to = reached.to;
-      steps = from_line p.text reached.to at.fit.0 (ap (scan_steps (Some text_start)) (sym (append-nil p.text)) ∙ reached.steps);
+      steps = from_line p.text reached.to some unmarked (ap (scan_steps (Some text_start)) (sym (append-nil p.text)) ∙ reached.steps);
       pieces_are = reached.pieces_are;
       stops = reached.stops tt;
     }
@@ -127,6 +144,10 @@ pub free_stops : (m : Mode) (rest : List ℕ) → is_free m ≡ true → MayStop
 free_stops modes.Free [] free = tt
 free_stops modes.Free (c ∷ cs) free = stops-free (c ∷ cs)
 free_stops m rest free = absurd (both_ways _ refl free)
+
+stops_may : (m : Mode) (rest : List ℕ) → StopsBefore m rest → MayStop m rest
+stops_may m [] stops = tt
+stops_may m (c ∷ cs) stops = stops
 
 free_closed : (m : Mode) (done : List Piece) (held : List ℕ) → is_free m ≡ true → closed m done held ≡ done
 free_closed modes.Free done held free = refl
@@ -158,28 +179,21 @@ module _ {bytes text : List ℕ} (b : BeginsString bytes text) where
           (started_grows (pieces_at b.to) one [] d (start_of d) b.pieces_are) on)
 
   -- where it has found one piece, and may stop, that is the string
-  pub whole_read : (read y : List ℕ) (s : Scanned) {st : List Bracket} → text ++ b.more ≡ read ++ y → ComesTo read s
-      → brackets_of s.done ≡ Some st
-      → length (pieces_at s) ≤ 1 → 0 < byte_len read → MayStop s.mode y → read ≡ text
-  whole_read read y s at steps stack few some stops = sym spell ∙ by (has_come read y s at steps)
+  string_found : (read y : List ℕ) (s : Scanned) → text ++ b.more ≡ read ++ y → ComesTo read s → spelled (pieces_at s) ≡ read
+      → length (pieces_at s) ≤ 1 → 0 < byte_len read → MayStop s.mode y → pieces_at s ≡ piece string text ∷ []
+  string_found read y s at steps spell few some stops = by (has_come read y s at steps)
     where
-      sound : IsScanSound s read
-      sound = sound_from read s steps stack
-
-      spell : spelled (pieces_at s) ≡ read
-      spell = closed_text s.mode s.done s.held sound.holds ∙ sound.spell
-
-      only : (ps qs rs : List Piece) → ps ++ qs ≡ piece string text ∷ rs → length ps ≤ 1 → 0 < byte_len (spelled ps) → spelled ps ≡ text
+      only : (ps qs rs : List Piece) → ps ++ qs ≡ piece string text ∷ rs → length ps ≤ 1 → 0 < byte_len (spelled ps) → ps ≡ piece string text ∷ []
       only [] qs rs all one full = absurd (omega (arith, full))
       only (q ∷ []) qs rs all one full =
           let first : q ≡ piece string text = cc in
-          append-nil q.text ∙ ap (λ (p : Piece). p.text) first
+          ap (λ (p : Piece). p ∷ []) first
       only (q ∷ r ∷ ps) qs rs all one full = absurd (omega (arith, one))
 
-      found : (qs rs : List Piece) → pieces_at s ++ qs ≡ piece string text ∷ rs → spelled (pieces_at s) ≡ text
+      found : (qs rs : List Piece) → pieces_at s ++ qs ≡ piece string text ∷ rs → pieces_at s ≡ piece string text ∷ []
       found qs rs all = only (pieces_at s) qs rs all few (omega (arith, some, ap byte_len spell))
 
-      by : HasCome read y s → spelled (pieces_at s) ≡ text
+      by : HasCome read y s → pieces_at s ≡ piece string text ∷ []
       by (inr (ps, past)) =
           let last = closed_grows s.mode s.done s.held in
           found [] (ps ++ last.0) (append-nil (pieces_at s) ∙ last.1 ∙ ap (λ l. l ++ last.0) past)
@@ -190,6 +204,50 @@ module _ {bytes text : List ℕ} (b : BeginsString bytes text) where
           let on = sym (begun s d z z (start_of d) may refl) ∙ goes in
           let kept = found_on (pieces_at s) (started (pieces_at s) d (start_of d)) z b.to grows on in
           found kept.0 [] (sym kept.1 ∙ b.pieces_are)
+
+  -- what the pieces spell there
+  spells_read : (read : List ℕ) (s : Scanned) {st : List Bracket} → ComesTo read s → brackets_of s.done ≡ Some st → spelled (pieces_at s) ≡ read
+  spells_read read s steps stack =
+      let sound = sound_from read s steps stack in
+      closed_text s.mode s.done s.held sound.holds ∙ sound.spell
+
+  pub whole_read : (read y : List ℕ) (s : Scanned) {st : List Bracket} → text ++ b.more ≡ read ++ y → ComesTo read s
+      → brackets_of s.done ≡ Some st
+      → length (pieces_at s) ≤ 1 → 0 < byte_len read → MayStop s.mode y → read ≡ text
+  whole_read read y s at steps stack few some stops =
+      let spell = spells_read read s steps stack in
+      sym spell ∙ ap spelled (string_found read y s at steps spell few some stops) ∙ append-nil text
+
+  -- nor is that a line with its line end
+  no_line : {new : Scan} (read y : List ℕ) (len : ℕ) → text ++ b.more ≡ read ++ y → 0 < length read
+      → (end : IsAtLineEnd modes.Free new read (encode_utf8_all y) len) → length (pieces_at end.to) ≤ 1 → ⊥
+  no_line read y len at some end few = other end.body end.last end.are.class (sym pieces_are ∙ string_found read y end.to at end.steps
+      (ap spelled pieces_are ∙ end.spell) few (omega (arith, some, length-le-encodes read)) stops)
+    where
+      all : List Piece
+      all = end.body ++ end.last ∷ []
+
+      reached : ReachesBy move_at StopsBefore (spelled all) all y
+      reached = reach all [] y (end.fit y refl) (no_class_bracket end.body end.last end.are.class end.are.paired) end.strings
+
+      comes : ComesTo read reached.to
+      comes =
+          from_line read reached.to some (unmarked_more text b.more read y b.some some at b.unmarked)
+          (ap (scan_steps (Some text_start)) (sym end.spell) ∙ reached.steps)
+
+      same : reached.to ≡ end.to
+      same = some_is reached.to end.to (sym comes ∙ end.steps)
+
+      pieces_are : pieces_at end.to ≡ all
+      pieces_are = ap pieces_at (sym same) ∙ reached.pieces_are
+
+      stops : MayStop end.to.mode y
+      stops = stops_may end.to.mode y (subst (λ (t : Scanned). StopsBefore t.mode y) same (reached.stops (begins_any end.body end.last y)))
+
+      other : (body : List Piece) (last : Piece) → last.class ≡ line_end → body ++ last ∷ [] ≡ piece string text ∷ [] → ⊥
+      other [] last class is = cc
+      other (p ∷ []) last class is = cc
+      other (p ∷ q ∷ ps) last class is = cc
 
   -- where it has closed none, no character is refused before which it may not stop
   not_refused : (read y : List ℕ) (c : ℕ) (s : Scanned) → text ++ b.more ≡ read ++ c ∷ y → ComesTo read s → s.done ≡ []
@@ -227,21 +285,6 @@ abbrev ClosesOne : Option Scanned → Type 0
 ClosesOne None = Unit {0}
 ClosesOne (Some t) = (t.done ≡ []) ⊎ ((q : Piece) × (t ≡ fresh (q ∷ [])))
 
-breaks_out : (m : Mode) (depth : ℕ) (held : List ℕ) (c : ℕ) → move_in m depth held c ≡ moves.Breaks → meet_of m c ≡ moves.Breaks
-breaks_out modes.Fielded depth held c breaks = absurd (fielded (string_state held) breaks)
-  where
-    by : (outer : List Level) (move : FieldMove) (next : Option FieldScanned) → string_move outer move next ≡ moves.Breaks → ⊥
-    by [] closes next h = cc
-    by outer move None h = cc
-    by outer move (Some t) h = cc
-
-    fielded : (o : Option FieldScanned) → fielded_move depth o c ≡ moves.Breaks → ⊥
-    fielded None h = cc
-    fielded (Some t) h =
-        cond_both (has_room_in depth t c) _ moves.Refused (λ (v : Move). v ≡ moves.Breaks → ⊥)
-        (λ room. by t.outer (field_move t.mode t.held c) (field_step t c)) (λ full same. cc) h
-breaks_out m depth held c breaks = breaks
-
 one_closed : (s : Scanned) (c : ℕ) → s.done ≡ [] → (is_free s.mode ≡ false → meet_of s.mode c ≡ moves.Breaks → ⊥)
     → ClosesOne (scan_step s c)
 one_closed s c none on = go (move_at s c) refl
@@ -262,16 +305,20 @@ one_closed s c none on = go (move_at s c) refl
 -- the scan of the bytes has come to these, and has closed nothing
 pub record InFirst (bytes : List ℕ) (scan : Scan) (rest : List ℕ) : Type 0 where
   pub reached : Reached modes.Free 1 bytes scan rest
-  pub first : scan.piece.start ≡ 0
+  pub none : reached.way.state.done ≡ []
 
 -- it has taken this text
 abbrev pub HasPassed : List ℕ → Scan → Type 0
 HasPassed text scan = (scan.stop ≡ byte_len text) × (scan.count.line ≡ 1 + line_ends text)
 
 -- at a line's start
-pub at_start : (bytes : List ℕ) {scan : Scan} → Tallies scan (line_start modes.Free) → IsStacked scan (line_start modes.Free)
-    → scan.line ≡ 1 → InFirst bytes scan bytes
-at_start bytes tallies stacked line = record { reached = begun_reached refl tallies stacked line; first = tallies.counts.start }
+pub at_start : (bytes : List ℕ) {scan : Scan} → HasBegun modes.Free scan → scan.line ≡ 1 → InFirst bytes scan bytes
+at_start bytes {scan} begins line =
+    let way = begun_way begins (begun_sound 1) in
+    record {
+      reached = record { read = []; way = way; spell = refl; scalars = refl; line = line };
+      none = ap (λ (t : Scanned). t.done) (sym (some_is (line_start modes.Free) way.state way.steps));
+    }
 
 some_read : (read : List ℕ) (s : Scanned) → ComesTo read s → is_free s.mode ≡ false → 0 < length read
 some_read [] s steps other =
@@ -279,22 +326,15 @@ some_read [] s steps other =
     absurd (both_ways _ other (ap (λ (t : Scanned). is_free t.mode) (sym same)))
 some_read (c ∷ cs) s steps other = omega arith
 
-none_done : (ps : List Piece) (rest : List ℕ) → AreReadBefore ps rest → byte_len (spelled ps) ≡ 0 → ps ≡ []
-none_done [] rest fit none = refl
-none_done (p ∷ ps) rest fit none =
-    absurd (omega (arith, none, byte_len-append p.text (spelled ps), piece_some p.class p.text fit.0, length-le-encodes p.text))
-
 closed_few : (m : Mode) (done : List Piece) (held : List ℕ) → done ≡ [] → length (closed m done held) ≤ 1
 closed_few modes.Start done held none = omega (arith, ap length none)
 closed_few modes.Free done held none = omega (arith, ap length none)
 closed_few m done held none = omega (arith, ap length none, length-append done (piece (class_of m) held ∷ []))
 
--- what is counted where the machine has come, by what it has read
-counted : (new : Scan) (s : Scanned) (read text : List ℕ) → Tallies new s → IsScanSound s read → new.line ≡ 1 → read ≡ text
-    → HasPassed text new
-counted new s read text tallies sound line is =
-    let spell : spelled s.done ++ s.held ≡ text = sound.spell ∙ is in
-    (tallies.counts.stop ∙ ap byte_len spell, tallies.counts.here ∙ ap (λ (n : ℕ). n + line_ends (spelled s.done ++ s.held)) line ∙ ap (λ t. 1 + line_ends t) spell)
+-- what is counted of what was read
+counted : (new : Scan) (read text : List ℕ) → Counts new read → new.line ≡ 1 → read ≡ text → HasPassed text new
+counted new read text counts line is =
+    (counts.stop ∙ ap byte_len is, counts.here ∙ ap (λ (n : ℕ). n + line_ends read) line ∙ ap (λ t. 1 + line_ends t) is)
 
 -- after CR nothing but LF goes on
 not_returned : (m : Mode) (c : ℕ) (b : Bool) → (is_free m ≡ false → meet_of m c ≡ moves.Breaks → ⊥)
@@ -308,24 +348,21 @@ module _ {bytes : List ℕ} {scan : Scan} {rest : List ℕ} (at : InFirst bytes 
   abbrev read : List ℕ
   read = at.reached.read
 
+  abbrev way : IsUnderWay modes.Free scan read
+  way = at.reached.way
+
   abbrev s : Scanned
-  s = at.reached.way.state
+  s = way.state
 
-  abbrev steps : ComesTo read s
-  steps = at.reached.way.steps
-
-  abbrev tallies : Tallies scan s
-  tallies = at.reached.way.tallies
-
-  sound : IsScanSound s read
-  sound = sound_from read s steps at.reached.way.stacked
-
-  none : s.done ≡ []
-  none = none_done s.done (s.held ++ []) (sound.fit []) (sym tallies.counts.start ∙ at.first)
+  bare : way.brackets ≡ []
+  bare = some_is way.brackets [] (sym way.stacked ∙ ap brackets_of at.none)
 
   -- what this tells of the scan
   pub first_stands : Stands 1 bytes scan rest
   first_stands = stands_reached modes.Free 1 bytes scan rest (begun_sound 1) at.reached
+
+  pub first_placed : IsInPlace scan.inside
+  first_placed = way_placed way (begun_sound 1)
 
   module _ {text : List ℕ} (b : BeginsString bytes text) where
     left : (y : List ℕ) × (text ++ b.more ≡ read ++ y) × (encode_utf8_all y ≡ rest)
@@ -334,8 +371,8 @@ module _ {bytes : List ℕ} {scan : Scan} {rest : List ℕ} (at : InFirst bytes 
     -- where the machine may stop
     passed_there : (y : List ℕ) → text ++ b.more ≡ read ++ y → 0 < length read → MayStop s.mode y → HasPassed text scan
     passed_there y cut some stops =
-        counted scan s read text tallies sound at.reached.line
-        (whole_read b read y s cut steps at.reached.way.stacked (closed_few s.mode s.done s.held none)
+        counted scan read text way.counts at.reached.line
+        (whole_read b read y s cut way.steps way.stacked (closed_few s.mode s.done s.held at.none)
         (omega (arith, some, length-le-encodes read)) stops)
 
     -- no character follows
@@ -354,80 +391,117 @@ module _ {bytes : List ℕ} {scan : Scan} {rest : List ℕ} (at : InFirst bytes 
         (z, cut ∙ ap (λ t. read ++ t) begins)
 
     -- the next character comes after the open piece
-    pub passed_before : {c : ℕ} → BeginsWith rest c → is_free scan.piece.mode ≡ false → meet_of scan.piece.mode c ≡ moves.Breaks
-        → HasPassed text scan
-    passed_before {c = c} next other breaks =
+    pub passed_before : {c : ℕ} → BeginsWith rest c → ends_piece_before scan.inside c ≡ true → HasPassed text scan
+    passed_before {c = c} next ends =
         let (y, cut) = next_is c next in
-        passed_there (c ∷ y) cut (some_read read s steps (ap is_free (sym tallies.counts.mode) ∙ other))
-        (ap (λ m. meet_of m c) (sym tallies.counts.mode) ∙ breaks)
+        let (other, stops) = ends_breaks way (begun_sound 1) c ends in
+        passed_there (c ∷ y) cut (some_read read s way.steps other) stops
 
   -- a character that doesn't, and what it comes to
-  module _ {c : ℕ} (p : Progress) (new : Scan) (next : BeginsWith rest c)
-      (on : is_free scan.piece.mode ≡ false → meet_of scan.piece.mode c ≡ moves.Breaks → ⊥) (to : TakesNext scan c p new) where
-    takes : Takes scan s c p new
-    takes = to s read (way_keeps modes.Free scan read at.reached.way (begun_sound 1)) (not_returned scan.piece.mode c (none_open (stack_of scan.brackets)) on)
+  module _ {c : ℕ} (p : Progress) (new : Scan) (next : BeginsWith rest c) (on : ends_piece_before scan.inside c ≡ false)
+      (to : TakesNext scan c p new) where
+    goes_on : is_free s.mode ≡ false → meet_of s.mode c ≡ moves.Breaks → ⊥
+    goes_on other ends = both_ways _ on (breaks_ends way (begun_sound 1) c bare other ends)
 
-    on_there : is_free s.mode ≡ false → meet_of s.mode c ≡ moves.Breaks → ⊥
-    on_there = subst (λ (m : Mode). is_free m ≡ false → meet_of m c ≡ moves.Breaks → ⊥) tallies.counts.mode on
+    takes : Takes modes.Free read s scan c p new × (new.line ≡ scan.line)
+    takes = to modes.Free read (begun_sound 1) way
+        (ap (λ b. b && not (is_line_feed c)) (way_returned way (begun_sound 1)) ∙ not_returned s.mode c (none_open way.brackets) goes_on)
 
-    closes_one : (t : Scanned) → scan_step s c ≡ Some t → (t.done ≡ []) ⊎ ((q : Piece) × (t ≡ fresh (q ∷ [])))
-    closes_one t goes = subst ClosesOne goes (one_closed s c none on_there)
+    -- the text with it
+    abbrev more : List ℕ
+    more = read ++ c ∷ []
+
+    some : 0 < length more
+    some = omega (arith, length-append read (c ∷ []))
+
+    -- it closes no piece, or one at once
+    closes_one : (t : Scanned) → ComesTo more t → (t.done ≡ []) ⊎ ((q : Piece) × (t ≡ fresh (q ∷ [])))
+    closes_one t goes = subst ClosesOne (sym (steps_push (line_start modes.Free) read s c way.steps) ∙ goes) (one_closed s c at.none goes_on)
+
+    one_piece : (t : Scanned) → ComesTo more t → length (pieces_at t) ≤ 1
+    one_piece t goes = ⊎_elim (λ nothing. closed_few t.mode t.done t.held nothing)
+        (λ one. omega (arith, ap (λ (x : Scanned). length (pieces_at x)) one.1)) (closes_one t goes)
 
     module _ {text : List ℕ} (b : BeginsString bytes text) where
+      -- it is not refused, and ends no line
       never : stack_if (scan_step s c) ≡ None → ⊥
-      never refused = let (y, cut) = next_is b c next in not_refused b read y c s cut steps none on_there refused
+      never refused = let (y, cut) = next_is b c next in not_refused b read y c s cut way.steps at.none goes_on refused
 
-      -- it ends the string, where no piece is open after it
-      ends_with : (t : Scanned) {st : List Bracket} → brackets_of t.done ≡ Some st → scan_step s c ≡ Some t → is_free t.mode ≡ true
-          → Tallies new t → new.line ≡ scan.line → HasPassed text new
-      ends_with t stack goes free tallied line =
-          let (y, cut) = next_is b c next in
-          let further : ComesTo (read ++ c ∷ []) t = steps_push (line_start modes.Free) read s c steps ∙ goes in
-          let few : length t.done ≤ 1 = ⊎_elim (λ nothing. omega (arith, ap length nothing))
-          (λ one. omega (arith, ap (λ (x : Scanned). length x.done) one.1)) (closes_one t goes) in
-          let some : 0 < byte_len (read ++ c ∷ []) = omega (arith, length-append read (c ∷ []), length-le-encodes (read ++ c ∷ [])) in
-          counted new t (read ++ c ∷ []) text tallied (sound_from (read ++ c ∷ []) t further stack) (line ∙ at.reached.line)
-          (whole_read b (read ++ c ∷ []) y t (cut ∙ sym (append_assoc read (c ∷ []) y)) further stack
-          (subst (λ (l : List Piece). length l ≤ 1) (sym (free_closed t.mode t.done t.held free)) few) some (free_stops t.mode y free))
+      after : (y : List ℕ) × (text ++ b.more ≡ more ++ y)
+      after = let (y, cut) = next_is b c next in (y, cut ∙ sym (append_assoc read (c ∷ []) y))
 
-      pub passed_with : is_free new.piece.mode ≡ true → HasPassed text new
-      passed_with free = by p takes
-        where
-          by : (q : Progress) → Takes scan s c q new → HasPassed text new
-          by progress.Going (taken, line) =
-              ends_with taken.next taken.stacked taken.goes (ap is_free (sym taken.tallies.counts.mode) ∙ free) taken.tallies line
-          by (progress.LineEnded len) (end, line) =
-              let stack = no_class_bracket end.body end.last end.are.class end.are.paired in
-              ends_with (fresh (end.body ++ end.last ∷ [])) stack end.goes refl end.tallies line
-          by progress.Refused (refused, same) = absurd (never refused)
+      no_end : {len : ℕ} → ((rest : List ℕ) → IsAtLineEnd modes.Free new more rest len) → ⊥
+      no_end {len} ends =
+          let (y, cut) = after in
+          let end = ends (encode_utf8_all y) in
+          no_line b more y len cut some end (one_piece end.to end.steps)
+
+      -- so the machines go on
+      going : (q : Progress) → Takes modes.Free read s scan c q new → IsUnderWay modes.Free new more
+      going progress.Going further = further
+      going (progress.LineEnded len) ends = absurd (no_end ends.1)
+      going progress.Refused (refused, same) = absurd (never refused)
+
+      abbrev on_way : IsUnderWay modes.Free new more
+      on_way = going p takes.0
+
+      full : 0 < byte_len more
+      full = omega (arith, some, length-le-encodes more)
+
+      -- it ends the string, where nothing is open after it
+      pub passed_with : is_settled new.inside ≡ true → HasPassed text new
+      passed_with settled =
+          let (y, cut) = after in
+          let free = settled_free on_way (begun_sound 1) settled in
+          counted new more text on_way.counts (takes.1 ∙ at.reached.line)
+          (whole_read b more y on_way.state cut on_way.steps on_way.stacked (one_piece on_way.state on_way.steps) full
+          (free_stops on_way.state.mode y free))
 
       -- any other goes on in it
-      pub still_first : is_free new.piece.mode ≡ false → InFirst bytes new (drop (len_utf8 c) rest)
-      still_first other = by p takes
+      pub still_first : is_settled new.inside ≡ false → InFirst bytes new (drop (len_utf8 c) rest)
+      still_first on_in = record {
+        reached = record {
+          read = more;
+          way = on_way;
+          spell = spell_more read (drop (len_utf8 c) rest) bytes c (ap (λ t. encode_utf8_all read ++ t) next.spell ∙ at.reached.spell);
+          scalars = scalars_more read c at.reached.scalars next.scalar;
+          line = takes.1 ∙ at.reached.line;
+        };
+        none = ⊎_elim (λ nothing. nothing) (λ one. absurd (shut one.0 one.1)) (closes_one on_way.state on_way.steps);
+      }
         where
-          by : (q : Progress) → Takes scan s c q new → InFirst bytes new (drop (len_utf8 c) rest)
-          by progress.Going (taken, line) =
-              let more = drop (len_utf8 c) rest in
-              let counts = taken.tallies.counts in
-              let nothing : taken.next.done ≡ [] = ⊎_elim (λ none_yet. none_yet)
-              (λ one. absurd (both_ways _ other (ap is_free (counts.mode ∙ ap (λ (t : Scanned). t.mode) one.1))))
-              (closes_one taken.next taken.goes) in
-              record {
-                reached = reached_character modes.Free 1 bytes scan new rest more c at.reached next.scalar (sym next.spell) (taken, line);
-                first = counts.start ∙ ap (λ (l : List Piece). byte_len (spelled l)) nothing;
-              }
-          by (progress.LineEnded len) (end, line) = absurd (both_ways _ other (ap is_free end.tallies.counts.mode))
-          by progress.Refused (refused, same) = absurd (never refused)
+          shut : (q : Piece) → on_way.state ≡ fresh (q ∷ []) → ⊥
+          shut q closed_there =
+              let (y, cut) = after in
+              let free : is_free on_way.state.mode ≡ true = ap (λ (t : Scanned). is_free t.mode) closed_there in
+              let spell = spells_read b more on_way.state on_way.steps on_way.stacked in
+              let found = string_found b more y on_way.state cut on_way.steps spell (one_piece on_way.state on_way.steps) full
+              (free_stops on_way.state.mode y free) in
+              let string_is : q ∷ [] ≡ piece string text ∷ [] = sym (ap pieces_at closed_there) ∙ found in
+              let stack = sym on_way.stacked ∙ ap (λ (t : Scanned). brackets_of t.done) closed_there ∙ ap brackets_of string_is
+              ∙ keeps [] (piece string text) [] refl refl refl in
+              both_ways _ on_in (free_settled on_way (begun_sound 1) (some_is on_way.brackets [] stack) free)
 
--- so does a run that is held
+-- so does a run that is held, over which the line's own pieces stay
 pub first_run : {bytes : List ℕ} {old new : Scan} {mid rest : List ℕ} → InFirst bytes old mid → HoldsRun old mid rest new
     → InFirst bytes new rest
-first_run {bytes = bytes} {old = old} {new = new} {mid = mid} {rest = rest} at holds =
-    let start_of_piece : Scan → ℕ = λ s. s.piece.start in
-    record {
-      reached = reached_run modes.Free 1 bytes old new mid rest at.reached (begun_sound 1) holds;
-      first = ⊎_elim (λ none. ap start_of_piece none.1) (λ some. ap start_of_piece some.1) holds.reads ∙ at.first;
-    }
+first_run {bytes = bytes} {old = old} {new = new} {mid = mid} {rest = rest} at held =
+    let r = at.reached in
+    let run = held.holds.run in
+    let (u, goes, follows, same) = held.holds.stay r.read r.way.field (way_reached r.way (begun_sound 1)) r.way.counts.stop r.way.follows in
+    let reached = reached_run modes.Free 1 bytes old new mid rest r (begun_sound 1) held in
+    let spell : encode_utf8_all (r.read ++ run) ++ rest ≡ bytes
+    = ap (λ t. t ++ rest) (encodes-append r.read run) ∙ append_assoc (encode_utf8_all r.read) (encode_utf8_all run) rest
+    ∙ ap (λ t. encode_utf8_all r.read ++ t) (ap (λ t. encode_utf8_all run ++ t) held.rest_is ∙ held.holds.spell) ∙ r.spell in
+    let read : reached.read ≡ r.read ++ run
+    = encodes_same reached.read (r.read ++ run) (append_cancel_right _ _ rest (reached.spell ∙ sym spell)) in
+    let field : reached.way.field ≡ u
+    = some_is reached.way.field u
+    (sym reached.way.field_steps ∙ ap (field_steps_from (Some (line_begun modes.Free))) read ∙ steps-append (Some (line_begun modes.Free)) r.read run
+    ∙ ap (λ o. field_steps_from o run) r.way.field_steps ∙ (goes_through r.way.field run u goes).steps) in
+    let pieces = tied_pieces (way_tied reached.way (begun_sound 1)) ∙ ap (λ (t : FieldScanned). line_pieces t.outer t.done) field ∙ same
+    ∙ sym (tied_pieces (way_tied r.way (begun_sound 1))) in
+    record { reached = reached; none = pieces ∙ at.none }
 
 -- a line's start
 abbrev start : BeforePiece

@@ -8,7 +8,7 @@ use Rattle.py_lines.specs.Piece.{Piece, begins, ends, spelled}
 use Rattle.py_lines.specs.Balance.{depth_after}
 use Rattle.py_lines.specs.Fields.{AreReadBefore}
 use Rattle.py_lines.specs.Reading.{EndsLine}
-use Rattle.py_lines.specs.LogicalLine.{is_line_end_class, put_first, cut, byte_len, line_ends, LogicalLine, line_of, lines_from, lines_of, tokens_from}
+use Rattle.py_lines.specs.LogicalLine.{is_line_end_class, put_first, cut, byte_len, line_ends, LogicalLine, line_of, lines_from, lines_of}
 use Rattle.py_lines.proofs.Pieces.PieceLists.{AreReadBefore-first}
 use Rattle.py_lines.proofs.LogicalLines.Cuts.{uncut, line_ends-append, lines_in, byte_len-append, cut-append}
 
@@ -79,11 +79,6 @@ lines_of-more given others ended = (
   lines_from (0 + byte_len (parts_spelled (cut 0 given))) (1 + parts_lines (cut 0 given)) (cut 0 others),
   ap (lines_from 0 1) (cut-append given others ended) ∙ lines_from-append 0 1 (cut 0 given) (cut 0 others),
 )
-
--- the tokens of pieces, one list after another
-pub tokens_from-append : (start line : ℕ) (ps qs : List Piece) → tokens_from start line (ps ++ qs) ≡ tokens_from start line ps ++ tokens_from (start + byte_len (spelled ps)) (line + lines_in ps) qs
-tokens_from-append start line [] qs = simp add-zero
-tokens_from-append start line (p ∷ ps) qs = rw (tokens_from-append (start + byte_len p.text) (line + line_ends p.text) ps qs) (simp (byte_len-append, add_assoc, append_assoc))
 
 -- the bytes of logical lines, one after another
 abbrev pub texts : List LogicalLine → List ℕ

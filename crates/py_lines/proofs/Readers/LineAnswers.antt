@@ -34,7 +34,8 @@ use Rattle.py_lines.specs.declared.scan.LineFault.{LineFault}
 use Rattle.py_lines.specs.declared.fault.FaultKind.{FaultKind}
 use Rattle.py_lines.specs.Private.Machine.{Scanned, brackets_of, closed, is_final}
 use Rattle.py_lines.specs.Private.ScanMachine.{scan_steps, StringsFit, IsScanSound}
-use Rattle.py_lines.specs.Private.Scan.{IsAtLineEnd, line_start, IsUnderWay, EndsNoLine, none_open, is_return_mode, stack_of, IsUnfinished, IsRefusal}
+use Rattle.py_lines.specs.Private.Scan.{IsAtLineEnd, line_start, IsUnderWay, EndsNoLine, none_open, is_return_mode}
+use Rattle.py_lines.specs.Private.FieldScan.{EndsField, RefusesField}
 use Rattle.py_lines.specs.Private.LineState.{first_mode, IsFaultAfter}
 use Rattle.py_lines.specs.Private.LineTokens.{AreLineText}
 use Rattle.py_lines.specs.Private.Source.{line_of_source, scanned_text, GivesTokens, HasScanned, FailsAfter}
@@ -56,7 +57,6 @@ use Rattle.py_lines.proofs.Machine.PieceSteps.{scanned, pieces_at}
 use Rattle.py_lines.proofs.Machine.LiveTexts.{stack_closed}
 use Rattle.py_lines.proofs.ScanMachine.Soundness.{StandsSound, stands_sound, end_sound}
 use Rattle.py_lines.proofs.LineScan.NextCharacter.{closed_one_line, one_return}
-use Rattle.py_lines.proofs.LineScan.LineSteps.{way_stop}
 use Rattle.py_lines.proofs.Feeds.DecidedSoFar.{way_open, by_character}
 use Rattle.py_lines.proofs.Feeds.Ended.{ended_bytes, ended_unfinished}
 use Rattle.py_lines.proofs.Feeds.Known as of
@@ -273,8 +273,6 @@ full_line body last read class spell holds =
 -- a line with its line end
 pub line_at_end : (m : Mode) (scan : Scan) (read rest : List ℕ) (len : ℕ) (at : IsAtLineEnd m scan read rest len) (after : List ℕ) → encode_utf8_all after ≡ rest → IsScannedLine (line_start m) scan read len (at.body ++ at.last ∷ [])
 line_at_end m scan read rest len at after is =
-    let t = at.tallies in
-    let spell = append-nil (spelled (at.body ++ at.last ∷ [])) ∙ at.spell in
     record {
       line = record {
         to = at.to;
@@ -285,8 +283,8 @@ line_at_end m scan read rest len at after is =
         strings = at.strings;
         some = full_line at.body at.last read at.are.class at.spell (AreReadBefore-second at.body (at.last ∷ []) after (at.fit after is)).0;
       };
-      stop = t.counts.stop ∙ ap byte_len spell;
-      here = t.counts.here ∙ ap (λ l. scan.line + line_ends l) spell;
+      stop = at.counts.stop;
+      here = at.counts.here;
       ends = at.are.size ∙ sym (end_len-push at.body at.last at.are.class);
       after = after;
       fit = at.fit after is;
@@ -357,10 +355,10 @@ module _ (old : Source) (stop : Stop) (has : HasScanned old stop) where
       subst (λ b. IsFaultAfter old.state kind offset b at.keeps.fault) taken at.keeps.at
 
 -- the next character was refused
-pub refused_place_within : (old : Source) (c : ℕ) (has : HasScanned old (stops.Refused c)) (line_fault : LineFault) → IsRefusal old.state.scan c line_fault → Within has.scans.read line_fault.place
+pub refused_place_within : (old : Source) (c : ℕ) (has : HasScanned old (stops.Refused c)) (line_fault : LineFault) → RefusesField old.state.scan.inside c old.state.scan.stop line_fault → Within has.scans.read line_fault.place
 refused_place_within old c has line_fault is = refused_within old.state.place old.state.scan has.scans.read has.scans.stops.0 c has.scans.stops.3 line_fault is
 
-pub fails_at_character : (old new : Source) (c : ℕ) (line_fault : LineFault) (error : LexError) (has : HasScanned old (stops.Refused c)) (at : FailsAfter old line_fault.kind line_fault.place error new) → IsRefusal old.state.scan c line_fault → Fails (reader_of old) at.keeps.fault (reader_of new)
+pub fails_at_character : (old new : Source) (c : ℕ) (line_fault : LineFault) (error : LexError) (has : HasScanned old (stops.Refused c)) (at : FailsAfter old line_fault.kind line_fault.place error new) → RefusesField old.state.scan.inside c old.state.scan.stop line_fault → Fails (reader_of old) at.keeps.fault (reader_of new)
 fails_at_character old new c line_fault error has at is_line_fault =
     let stop : Stop = stops.Refused c in
     let read = has.scans.read in
@@ -386,34 +384,34 @@ one_or [] none some = absurd (some refl)
 one_or (p ∷ ps) none some = one_part 0 p ps none
 
 -- the text's last line: its pieces, with the open one, are one line
-line_at_close : (m : Mode) (scan : Scan) (read : List ℕ) (way : IsUnderWay m scan read) → StandsSound m read way.state (stack_of scan.brackets) → is_final way.state.mode ≡ true → stack_of scan.brackets ≡ [] → 0 < byte_len read → (end_len : ℕ) → cut 0 (pieces_at way.state) ≡ pieces_at way.state ∷ [] → end_len ≡ end_len_of (pieces_at way.state) → IsScannedLine (line_start m) scan read end_len (pieces_at way.state)
+line_at_close : (m : Mode) (scan : Scan) (read : List ℕ) (way : IsUnderWay m scan read) → StandsSound m read way.state way.brackets → is_final way.state.mode ≡ true → way.brackets ≡ [] → 0 < byte_len read → (end_len : ℕ) → cut 0 (pieces_at way.state) ≡ pieces_at way.state ∷ [] → end_len ≡ end_len_of (pieces_at way.state) → IsScannedLine (line_start m) scan read end_len (pieces_at way.state)
 line_at_close m scan read way sound final empty some end_len whole ends =
     let s = way.state in
-    let ended = end_sound m read s (stack_of scan.brackets) sound final in
+    let ended = end_sound m read s way.brackets sound final in
     record {
       line = record {
         to = s;
         steps = way.steps;
         spell = ended.spell;
         whole = whole;
-        stacked = stack_closed s.mode s.done s.held (stack_of scan.brackets) way.stacked ∙ ap (λ l. Some l) empty;
+        stacked = stack_closed s.mode s.done s.held way.brackets way.stacked ∙ ap (λ l. Some l) empty;
         strings = ended.strings;
         some = some;
       };
-      stop = way.tallies.counts.stop ∙ ap byte_len sound.scan.spell;
-      here = way.tallies.counts.here ∙ ap (λ l. scan.line + line_ends l) sound.scan.spell;
+      stop = way.counts.stop;
+      here = way.counts.here;
       ends = ends;
       after = [];
       fit = ended.fit;
     }
 
 -- no line end closes it
-pub line_at_text_end : (m : Mode) (scan : Scan) (read : List ℕ) (way : IsUnderWay m scan read) → StandsSound m read way.state (stack_of scan.brackets) → is_final way.state.mode ≡ true → (way.state.mode ≡ modes.Return → none_open (stack_of scan.brackets) ≡ false) → stack_of scan.brackets ≡ [] → 0 < byte_len read → IsScannedLine (line_start m) scan read 0 (pieces_at way.state)
+pub line_at_text_end : (m : Mode) (scan : Scan) (read : List ℕ) (way : IsUnderWay m scan read) → StandsSound m read way.state way.brackets → is_final way.state.mode ≡ true → (way.state.mode ≡ modes.Return → none_open way.brackets ≡ false) → way.brackets ≡ [] → 0 < byte_len read → IsScannedLine (line_start m) scan read 0 (pieces_at way.state)
 line_at_text_end m scan read way sound final open_yet empty some =
     let s = way.state in
     let spell : spelled (pieces_at s) ≡ read = closed_text s.mode s.done s.held sound.scan.holds ∙ sound.scan.spell in
-    let none = closed_one_line s.mode s.done s.held (stack_of scan.brackets) way.stacked way.one_line open_yet in
-    let stacked : brackets_of (pieces_at s) ≡ Some [] = stack_closed s.mode s.done s.held (stack_of scan.brackets) way.stacked ∙ ap (λ l. Some l) empty in
+    let none = closed_one_line s.mode s.done s.held way.brackets way.stacked way.one_line open_yet in
+    let stacked : brackets_of (pieces_at s) ≡ Some [] = stack_closed s.mode s.done s.held way.brackets way.stacked ∙ ap (λ l. Some l) empty in
     line_at_close m scan read way sound final empty some 0 (one_or (pieces_at s) none (λ e. omega (arith, some, ap byte_len (sym spell ∙ ap spelled e)))) (sym (end_len-none 0 (pieces_at s) none (stands (pieces_at s) [] stacked).depth))
 
 -- CR closes it
@@ -425,15 +423,15 @@ pub returned_final : (m : Mode) → is_return_mode m ≡ true → is_final m ≡
 returned_final modes.Return returned = refl
 returned_final m returned = absurd (both_ways _ refl returned)
 
-pub line_at_return : (m : Mode) (scan : Scan) (read : List ℕ) (way : IsUnderWay m scan read) → StandsSound m read way.state (stack_of scan.brackets) → is_return_mode scan.piece.mode ≡ true → stack_of scan.brackets ≡ [] → 0 < byte_len read → IsScannedLine (line_start m) scan read 1 (pieces_at way.state)
+pub line_at_return : (m : Mode) (scan : Scan) (read : List ℕ) (way : IsUnderWay m scan read) → StandsSound m read way.state way.brackets → is_return_mode way.state.mode ≡ true → way.brackets ≡ [] → 0 < byte_len read → IsScannedLine (line_start m) scan read 1 (pieces_at way.state)
 line_at_return m scan read way sound returned empty some =
     let s = way.state in
-    let both = return_pieces s.mode s.done s.held read sound.scan (ap is_return_mode (sym way.tallies.counts.mode) ∙ returned) way.one_line (stands s.done [] (way.stacked ∙ ap (λ l. Some l) empty)).depth in
-    line_at_close m scan read way sound (returned_final s.mode (ap is_return_mode (sym way.tallies.counts.mode) ∙ returned)) empty some 1 both.0 both.1
+    let both = return_pieces s.mode s.done s.held read sound.scan returned way.one_line (stands s.done [] (way.stacked ∙ ap (λ l. Some l) empty)).depth in
+    line_at_close m scan read way sound (returned_final s.mode returned) empty some 1 both.0 both.1
 
 module _ (old : Source) (has : HasScanned old stops.TextEnd) where
   pub stop_size : old.state.scan.stop ≡ byte_len has.scans.read
-  stop_size = way_stop (first_mode old.state.place) old.state.scan has.scans.read has.scans.stops.0 (begun_sound old.state.place)
+  stop_size = has.scans.stops.0.counts.stop
 
   some_text : length old.bytes.now ≤ length old.characters.now → 0 < byte_len has.scans.read
   some_text full = omega (arith, ap length has.scans.spell, length-append (encode_utf8_all has.scans.read) has.scans.rest, ap length has.scans.stops.1, length-drop old.state.place old.characters.now, has.more, full)
@@ -450,11 +448,11 @@ module _ (old : Source) (has : HasScanned old stops.TextEnd) where
       ended_bytes old.bytes.now old.state lines read (left old stops.TextEnd has) (known old stops.TextEnd has lines given) (whole old stops.TextEnd has) has.scans.stops.0 has.scans.stops.2 (omega (arith, left_size, more))
       at.keeps.fault (fault_in old stops.TextEnd has new BadUtf8 old.state.scan.stop error at w) bad)
 
-  pub end_within : length old.bytes.now ≤ length old.characters.now → (line_fault : LineFault) → IsUnfinished old.state.scan (Some line_fault) → Within has.scans.read line_fault.place
+  pub end_within : length old.bytes.now ≤ length old.characters.now → (line_fault : LineFault) → EndsField old.state.scan.inside old.state.scan.stop (Some line_fault) → Within has.scans.read line_fault.place
   end_within full line_fault is = unfinished_within old.state.place old.state.scan has.scans.read has.scans.stops.0 (some_text full) line_fault is
 
   -- the text's end where it may not end
-  pub fails_at_end : (new : Source) (line_fault : LineFault) (error : LexError) (at : FailsAfter old line_fault.kind line_fault.place error new) → IsUnfinished old.state.scan (Some line_fault) → length old.bytes.now ≤ length old.characters.now → Fails (reader_of old) at.keeps.fault (reader_of new)
+  pub fails_at_end : (new : Source) (line_fault : LineFault) (error : LexError) (at : FailsAfter old line_fault.kind line_fault.place error new) → EndsField old.state.scan.inside old.state.scan.stop (Some line_fault) → length old.bytes.now ≤ length old.characters.now → Fails (reader_of old) at.keeps.fault (reader_of new)
   fails_at_end new line_fault error at is_line_fault full = fails old new line_fault.kind line_fault.place error at has.no_fault has.more (λ lines given.
       let w = end_within full line_fault is_line_fault in
       let none = nil_from_length (left old stops.TextEnd has) (omega (arith, left_size, full)) in
@@ -462,24 +460,24 @@ module _ (old : Source) (has : HasScanned old stops.TextEnd) where
       line_fault is_line_fault at.keeps.fault w (fault_in old stops.TextEnd has new line_fault.kind line_fault.place error at w))
 
   -- the last line
-  way_sound : StandsSound (first_mode old.state.place) has.scans.read has.scans.stops.0.state (stack_of old.state.scan.brackets)
+  way_sound : StandsSound (first_mode old.state.place) has.scans.read has.scans.stops.0.state has.scans.stops.0.brackets
   way_sound =
       let way = has.scans.stops.0 in
-      stands_sound (first_mode old.state.place) has.scans.read way.state (stack_of old.state.scan.brackets) (begun_sound old.state.place) (record { run = way.steps; stack = way.stacked })
+      stands_sound (first_mode old.state.place) has.scans.read way.state way.brackets (begun_sound old.state.place) (record { run = way.steps; stack = way.stacked })
 
-  pub last_line : is_final has.scans.stops.0.state.mode ≡ true → stack_of old.state.scan.brackets ≡ [] → length old.bytes.now ≤ length old.characters.now → IsScannedLine (line_start (first_mode old.state.place)) old.state.scan has.scans.read 0 (pieces_at has.scans.stops.0.state)
+  pub last_line : is_final has.scans.stops.0.state.mode ≡ true → has.scans.stops.0.brackets ≡ [] → length old.bytes.now ≤ length old.characters.now → IsScannedLine (line_start (first_mode old.state.place)) old.state.scan has.scans.read 0 (pieces_at has.scans.stops.0.state)
   last_line final empty full = line_at_text_end (first_mode old.state.place) old.state.scan has.scans.read has.scans.stops.0 way_sound final
-      (way_open (first_mode old.state.place) old.state.scan has.scans.read has.scans.stops.0 has.scans.stops.2) empty (some_text full)
+      (way_open has.scans.stops.0 (begun_sound old.state.place) has.scans.stops.2) empty (some_text full)
 
-  pub continues_text : (new : Source) → is_final has.scans.stops.0.state.mode ≡ true → stack_of old.state.scan.brackets ≡ [] → length old.bytes.now ≤ length old.characters.now → GivesTokens old 0 new → Continues (reader_of old) (line_of_source new) (reader_of new) × EachLiesIn (line_of_source new).text new.state.tokens.tokens.items
+  pub continues_text : (new : Source) → is_final has.scans.stops.0.state.mode ≡ true → has.scans.stops.0.brackets ≡ [] → length old.bytes.now ≤ length old.characters.now → GivesTokens old 0 new → Continues (reader_of old) (line_of_source new) (reader_of new) × EachLiesIn (line_of_source new).text new.state.tokens.tokens.items
   continues_text new final empty full gives =
       let s = has.scans.stops.0.state in
       continues old stops.TextEnd has new 0 (pieces_at s) (last_line final empty full) gives
       (λ after is.
       let none = encodes_same after [] (is ∙ has.scans.stops.1) in (
-        subst (AreReadBefore (pieces_at s)) (sym none) (end_sound (first_mode old.state.place) has.scans.read s (stack_of old.state.scan.brackets) way_sound final).fit,
+        subst (AreReadBefore (pieces_at s)) (sym none) (end_sound (first_mode old.state.place) has.scans.read s has.scans.stops.0.brackets way_sound final).fit,
         IsEnded.by_text (λ i. none i ++ drop_all (length old.characters.now) old.bytes.now full i),
       ))
 
   pub few_lines_text : old.state.scan.count.line ≤ old.state.place + old.state.scan.stop + 1
-  few_lines_text = omega (arith, stop_size, has.scans.stops.0.tallies.counts.here, ap line_ends way_sound.scan.spell, line_ends-bytes has.scans.read, has.line, old.few_lines)
+  few_lines_text = omega (arith, stop_size, has.scans.stops.0.counts.here, line_ends-bytes has.scans.read, has.line, old.few_lines)

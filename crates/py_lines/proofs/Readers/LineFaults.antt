@@ -1,155 +1,132 @@
--- The fault that the scan of a line names is that of the whole text, whatever lines stand before it; and it stands in the line. Outside
--- strings with fields the machine's mode names it, and in such a string the machine with fields over the string's text.
-use Rattle.std.proofs.Common.{◌≡◌, ℕ, ◌+◌, ◌-◌, ◌<◌, Bool, true, false, not, ◌||◌, ◌&&◌, ◌==◌, Option, None, Some, List, [], ◌∷◌, ◌++◌, ◌⊎◌, inl, inr, length, nat_lt, refl, sym, ap, ◌∙◌, subst, append_assoc, append-nil, length-append, zero-add, arith, zero, suc, ⊎_elim}
+-- The fault that the scan of a line names is that of the whole text, whatever lines stand before it; and it stands in the line. The
+-- machine with fields stands in the whole text as it stands in the line, with the pieces of those lines before the others of its
+-- outermost list.
+use Rattle.std.proofs.Common.{◌≡◌, ℕ, zero, suc, ◌+◌, ◌-◌, ◌<◌, ◌==◌, ◌&&◌, ◌||◌, not, Bool, true, false, Option, None, Some, List, [], ◌∷◌, ◌++◌, inl, inr, length, refl, sym, ap, ◌∙◌, subst, append_assoc, append-nil, length-append, arith}
 use Rattle.std.specs.Prelude.{if◌then◌else◌}
 use Rattle.std.proofs.lemmas.Bool.{both_ways, cond_both}
 use Rattle.std.proofs.lemmas.Str.{length-le-encodes}
 use Rattle.std.proofs.lemmas.List.{append_cancel_left}
 use Rattle.py_lines.specs.Character.{is_break, is_return}
-use Rattle.py_lines.specs.Piece.{Piece, spelled, line_end, string}
+use Rattle.py_lines.specs.Piece.{Piece, spelled, line_end}
 use Rattle.py_lines.specs.Balance.{is_opening, is_closing, depth_through}
 use Rattle.py_lines.specs.LogicalLine.{byte_len}
-use Rattle.py_lines.specs.Faults.{Cause, breaks_string, breaks_join, closes_wrong, opens_too_deep, begins_nothing, kind_of_cause, Unfinished, open_brace, open_short, open_long, open_join, open_bracket, open_inside, kind_of_unfinished, IsCharacterFault, IsEndFault, at_end}
-use Rattle.py_lines.specs.FieldStrings.{Host, Place, literal, specification}
+use Rattle.py_lines.specs.Faults.{Cause, breaks_string, closes_wrong, opens_too_deep, begins_nothing, kind_of_cause, Unfinished, open_brace, open_short, open_long, open_join, open_bracket, open_inside, kind_of_unfinished, IsCharacterFault, IsEndFault, at_end}
+use Rattle.py_lines.specs.FieldStrings.{Place, literal, specification}
 use Rattle.py_lines.specs.PieceGrammar.{feed}
 use Rattle.py_lines.specs.Fields.{AreReadBefore}
-use Rattle.py_lines.specs.declared.fault.FaultKind.TheVariants as faults
+use Rattle.py_lines.specs.declared.fault.FaultKind.{FaultKind}
 use Rattle.py_lines.specs.declared.mode.Mode.{Mode}
 use Rattle.py_lines.specs.declared.mode.Mode.TheVariants as modes
-use Rattle.py_lines.specs.declared.fault.FaultKind.{FaultKind}
-use Rattle.py_lines.specs.declared.mode.Move.{Move}
-use Rattle.py_lines.specs.declared.mode.Move.TheVariants as moves
 use Rattle.py_lines.specs.declared.scan.LineFault.{LineFault}
 use Rattle.py_lines.specs.declared.scan.Scan.{Scan}
-use Rattle.py_lines.specs.Private.Machine.{Scanned, in_short, in_long, is_after_backslash, is_final, character_kind, character_place, end_kind, Bracket, brackets_of, moved, brackets_after}
-use Rattle.py_lines.specs.Private.FieldMachine.{after_brace, FieldMode, plain, opened, empty, body, Level, FieldScanned, field_state, field_text_start, field_step, has_room, frames, before, text_place, after_open_backslash, in_open_short, InSpecificationOf, FieldMove, closes, field_move}
+use Rattle.py_lines.specs.Private.Machine.{Scanned, in_short, in_long, is_after_backslash, is_final, Bracket, brackets_of, brackets_after}
+use Rattle.py_lines.specs.Private.FieldMachine.{FieldMode, plain, opened, empty, body, Level, FieldScanned, field_state, field_step, field_steps_from, has_room, roomy, frames, levels_open, before, text_place, after_open_backslash, may_end}
 use Rattle.py_lines.specs.Private.FieldFaults.{is_waiting, quotes_specification, cause_in, cause_place, here, piece_start, field_start, unfinished_code, unfinished_literal, unfinished_in, unfinished_at}
-use Rattle.py_lines.specs.Private.ScanMachine.{string_state, host_in, string_move, fielded_move, has_room_in, scan_step, StringsFit, IsScanSound}
-use Rattle.py_lines.specs.Private.FieldScan.{unfinished_with, unfinished_round, IsUnfinishedAt}
-use Rattle.py_lines.specs.Private.Scan.{HasInnermostAt, IsUnderWay, Tallies, stack_of, depth_of, stack_if, IsRefusal, IsOpenFrom, IsPlainUnfinished, IsUnfinished}
+use Rattle.py_lines.specs.Private.FieldScan.{EndsField, IsUnfinishedAt, RefusesField, bracket_openers}
+use Rattle.py_lines.specs.Private.ScanMachine.{host_in, scan_step, string_state, line_begun, IsScanSound, StringsFit}
+use Rattle.py_lines.specs.Private.Scan.{IsUnderWay, stack_if, line_start}
 use Rattle.py_lines.specs.Private.LineState.{first_mode}
 use Rattle.py_lines.proofs.LogicalLines.Cuts.{byte_len-append}
 use Rattle.py_lines.proofs.FieldSoundness.Holds.{Limit, HoldsLevel, HoldsLevels, IsFieldSound}
-use Rattle.py_lines.proofs.FieldSoundness.HostSteps.{sound_at}
-use Rattle.py_lines.proofs.FieldSoundness.WholeTexts.{no_limit, any_rooms}
-use Rattle.py_lines.proofs.Faults.CharacterFaults.{IsStuck, IsShortHere, cause_fits, short_here, only_breaks}
+use Rattle.py_lines.proofs.FieldSoundness.WholeTexts.{two_hundred}
+use Rattle.py_lines.proofs.Faults.CharacterFaults.{IsStuck, IsShortHere, cause_fits, short_here}
 use Rattle.py_lines.proofs.Faults.EndFaults.{final_by}
 use Rattle.py_lines.proofs.Faults.Ends.{StandsThere, text_is, unfinished_fits}
-use Rattle.py_lines.proofs.ScanMachine.Advance.{RunsTo, advance}
-use Rattle.py_lines.proofs.ScanMachine.BodyMoves.{IsBodyMode}
-use Rattle.py_lines.proofs.ScanMachine.Rebased.{rebased, rebased_in, rebased_if, based, frames_more}
-use Rattle.py_lines.proofs.ScanMachine.Follows.{openers_of, openers-length, flat, Own, Alike, roomy, some_is}
+use Rattle.py_lines.proofs.Faults.FaultPrefixes.{PrefixTo, explained, field_fault_prefix}
+use Rattle.py_lines.proofs.ScanMachine.Advance.{advance}
+use Rattle.py_lines.proofs.ScanMachine.Rebased.{based, rebased, rebased_in, rebased_if, none_based}
+use Rattle.py_lines.proofs.ScanMachine.Follows.{flat, Own, IsTied, Alike, some_is}
 use Rattle.py_lines.proofs.ScanMachine.Runs.{tied_step}
 use Rattle.py_lines.proofs.ScanMachine.Soundness.{StandsSound, comes_along}
 use Rattle.py_lines.proofs.Text.Splits.{Either, either}
 use Rattle.py_lines.proofs.Pieces.PieceLists.{piece, spelled-append}
-use Rattle.py_lines.proofs.FieldMachine.ListBrackets.{none_some}
-use Rattle.py_lines.proofs.Machine.PieceSteps.{scanned}
-use Rattle.py_lines.proofs.Machine.LiveTexts.{keeps}
-use Rattle.py_lines.proofs.Machine.EarlierPieces.{after_pieces, shift, shift_if, length-shift, stack-after}
-use Rattle.py_lines.proofs.Faults.FaultPrefixes.{PrefixTo, explained, field_fault_prefix}
-use Rattle.py_lines.proofs.LineScan.LineSteps.{sound_steps, way_stop}
-use Rattle.py_lines.proofs.LineScan.StringSteps.{InString, in_string, string_move_is}
-use Rattle.py_lines.proofs.LineScan.TextSteps.{begun_sound, Base, way_goes, Joined, joined, refused_at}
+use Rattle.py_lines.proofs.Machine.EarlierPieces.{after_pieces, shift, shift_if, stack-after}
+use Rattle.py_lines.proofs.LineScan.LineSteps.{way_field, way_here, way_place, way_placed, way_refused, way_tied}
+use Rattle.py_lines.proofs.LineScan.TextSteps.{begun_sound, Base, IsBetweenLines, StandsAfter, way_goes, Joined, joined, refused_at}
 
--- the mode of the machine with fields, outside a string with fields that holds something
-abbrev flat_mode : Mode → FieldMode
-flat_mode (modes.FieldOpened h) = opened (host_in h)
-flat_mode (modes.FieldEmpty h) = empty (host_in h)
-flat_mode m = plain m
+-- pieces before the others of the outermost list
+module _ (base : List Piece) where
+  abbrev list_after : List Level → List Piece → List Piece
+  list_after [] done = base ++ done
+  list_after (l ∷ ls) done = done
 
-flat_state : (m : Mode) (done : List Piece) (openers held : List ℕ) (t : FieldScanned) → (m ≡ modes.Fielded → ⊥) → flat m done openers held ≡ Some t → field_state [] done openers (flat_mode m) held ≡ t
-flat_state modes.Fielded done openers held t other is = absurd (other refl)
-flat_state m done openers held t other is = some_is _ t is
+  abbrev levels_after : List Level → List Level
+  levels_after [] = []
+  levels_after (l ∷ ls) = record l { done = list_after ls l.done } ∷ levels_after ls
 
--- what it says
-record IsFlat (m : Mode) : Type 0 where
-  waits : is_waiting (flat_mode m) ≡ false
-  slash : after_open_backslash (flat_mode m) ≡ is_after_backslash m
-  quotes : (c : ℕ) → quotes_specification (flat_mode m) c ≡ false
-  short : in_open_short (flat_mode m) ≡ in_short m
-  no_specification : (host : Host) → InSpecificationOf host (flat_mode m) → ⊥
-  unfinished : (openers : List ℕ) → unfinished_in [] openers (flat_mode m) ≡ (if in_short m then Some open_short else (if in_long m then Some open_long else (if is_after_backslash m then Some open_join else unfinished_code [] openers)))
+  abbrev state_after : FieldScanned → FieldScanned
+  state_after t = field_state (levels_after t.outer) (list_after t.outer t.done) t.openers t.mode t.held
 
-is_flat : (m : Mode) → IsFlat m
-is_flat modes.Fielded = record { waits = refl; slash = refl; quotes = λ c. refl; short = refl; no_specification = λ host is. is; unfinished = λ openers. refl }
-is_flat m = record { waits = refl; slash = refl; quotes = λ c. refl; short = refl; no_specification = λ host is. is; unfinished = λ openers. refl }
+  abbrev state_after_if : Option FieldScanned → Option FieldScanned
+  state_after_if None = None
+  state_after_if (Some t) = Some (state_after t)
 
--- the cause there, by what the mode and the character are
-abbrev flat_cause : (short slash shuts opens : Bool) → Cause
-flat_cause short slash shuts opens = if short then breaks_string else (if slash then breaks_join else (if shuts then closes_wrong else (if opens then opens_too_deep else begins_nothing)))
+  -- so in a string, whose outermost list they go on from
+  based_after : (done : List Piece) (os : List ℕ) (l : Level) (ls : List Level) → based (base ++ done) os l ls ≡ levels_after (based done os l ls)
+  based_after done os l [] = refl
+  based_after done os l (k ∷ []) = refl
+  based_after done os l (k ∷ j ∷ js) = ap (λ x. l ∷ x) (based_after done os k (j ∷ js))
 
--- it says the same kind and place
-flat_named : (t : FieldScanned) (short slash shuts opens : Bool)
-    → (kind_of_cause (flat_cause short slash shuts opens) ≡ (if short then faults.OpenString else (if slash then faults.BadJoin else (if shuts then faults.WrongClose else (if opens then faults.TooDeep else faults.BadChar)))))
-    × (cause_place t (flat_cause short slash shuts opens) ≡ (if short || slash then piece_start t else here t))
-flat_named t true slash shuts opens = (refl, refl)
-flat_named t false true shuts opens = (refl, refl)
-flat_named t false false true opens = (refl, refl)
-flat_named t false false false true = (refl, refl)
-flat_named t false false false false = (refl, refl)
+  list_kept : (done : List Piece) (os : List ℕ) (l : Level) (ls : List Level) (ps : List Piece) → list_after (based done os l ls) ps ≡ ps
+  list_kept done os l [] ps = refl
+  list_kept done os l (k ∷ ks) ps = refl
 
--- One state stands as the other does, so many bytes further, and in so many brackets more. These are the fields that are open.
-record IsShifted (bytes depth : ℕ) (outer : List Level) (t u : FieldScanned) : Type 0 where
-  mode_is : t.mode ≡ u.mode
-  frames_is : frames t ≡ depth + frames u
-  here_is : here t ≡ bytes + here u
-  start_is : piece_start t ≡ bytes + piece_start u
-  open_is : unfinished_at t ≡ unfinished_round depth u
-  outer_is : outer ≡ [] → t.outer ≡ []
-  field_is : (outer ≡ [] → ⊥) → byte_len (before literal t.outer) ≡ bytes + byte_len (before literal u.outer)
-  done_is : (outer ≡ [] → ⊥) → t.done ≡ u.done
+  rebased_after : (done : List Piece) (os : List ℕ) (outer : List Level) (ps : List Piece) (bs : List ℕ) (m : FieldMode) (held : List ℕ) → rebased_in (base ++ done) os outer ps bs m held ≡ state_after (rebased_in done os outer ps bs m held)
+  rebased_after done os [] ps bs m held = refl
+  rebased_after done os (l ∷ ls) ps bs m held =
+      ap (λ x. field_state x ps bs m held) (based_after done os l ls) ∙ ap (λ x. field_state (levels_after (based done os l ls)) x bs m held) (sym (list_kept done os l ls ps))
 
--- In a string with fields the machine with fields stands in the text as it does in that string alone, with the pieces before it and
--- their brackets outermost.
-module _ (done : List Piece) (os : List ℕ) where
-  text_based : (p : Place) (l : Level) (ls : List Level) → before p (based done os l ls) ≡ spelled done ++ before p (based [] [] l ls)
-  text_based literal l [] = refl
-  text_based specification l [] = sym (append-nil (spelled done))
-  text_based literal l (k ∷ ks) = ap (λ x. x ++ (spelled l.done ++ l.front)) (text_based l.place k ks) ∙ append_assoc (spelled done) (before l.place (based [] [] k ks)) (spelled l.done ++ l.front)
-  text_based specification l (k ∷ ks) = ap (λ x. x ++ spelled l.done) (text_based l.place k ks) ∙ append_assoc (spelled done) (before l.place (based [] [] k ks)) (spelled l.done)
+  string_after : (done : List Piece) (os : List ℕ) (o : Option FieldScanned) → rebased_if (base ++ done) os o ≡ state_after_if (rebased_if done os o)
+  string_after done os None = refl
+  string_after done os (Some t) = ap (λ x. Some x) (rebased_after done os t.outer t.done t.openers t.mode t.held)
 
-  bytes_based : (p : Place) (l : Level) (ls : List Level) (more : List ℕ) → byte_len (before p (based done os l ls) ++ more) ≡ byte_len (spelled done) + byte_len (before p (based [] [] l ls) ++ more)
-  bytes_based p l ls more = ap byte_len (ap (λ x. x ++ more) (text_based p l ls) ∙ append_assoc (spelled done) (before p (based [] [] l ls)) more) ∙ byte_len-append (spelled done) _
+  flat_after : (m : Mode) (done : List Piece) (os held : List ℕ) → flat m (base ++ done) os held ≡ state_after_if (flat m done os held)
+  flat_after modes.Fielded done os held = string_after done os (string_state held)
+  flat_after m done os held = refl
 
-  -- what is open at the end
-  code_based : (l : Level) (ls : List Level) (bs : List ℕ) → unfinished_code (based done os l ls) bs ≡ unfinished_code (based [] [] l ls) bs
-  code_based l [] [] = refl
-  code_based l (k ∷ ks) [] = refl
-  code_based l ls (o ∷ bs) = refl
+  -- as many brackets and fields are open
+  levels_same : (outer : List Level) → levels_open (levels_after outer) ≡ levels_open outer
+  levels_same [] = refl
+  levels_same (l ∷ ls) = omega (arith, levels_same ls)
 
-  open_based : (l : Level) (ls : List Level) (ps : List Piece) (bs : List ℕ) (m : FieldMode) (held : List ℕ) → unfinished_at (field_state (based done os l ls) ps bs m held) ≡ unfinished_round (length os) (field_state (based [] [] l ls) ps bs m held)
-  open_based l ls ps bs (plain m) held = ap (λ x. if in_short m then Some open_short else (if in_long m then Some open_long else (if is_after_backslash m then Some open_join else x))) (code_based l ls bs)
-  open_based l ls ps bs (empty h) held = code_based l ls bs
-  open_based l ls ps bs (body h literal named at) held = ap (λ n. Some (unfinished_literal h at n)) (frames_more done os (field_state (l ∷ ls) ps bs (body h literal named at) held))
-  open_based l ls ps bs m held = refl
+  frames_same : (u : FieldScanned) → frames (state_after u) ≡ frames u
+  frames_same u = omega (arith, levels_same u.outer)
 
-  open_body : (m : FieldMode) → IsBodyMode m → unfinished_in [] os m ≡ unfinished_with (length os) [] [] m
-  open_body (body h literal named at) is = ap (λ n. Some (unfinished_literal h at n)) (omega arith)
-  open_body (body h specification named at) is = refl
-  open_body m (host, place, named, at, is) = absurd (cc)
+  code_same : (outer : List Level) (os : List ℕ) → unfinished_code (levels_after outer) os ≡ unfinished_code outer os
+  code_same [] os = refl
+  code_same (l ∷ ls) [] = refl
+  code_same (l ∷ ls) (o ∷ os) = refl
 
-  shifted : (outer : List Level) (ps : List Piece) (bs : List ℕ) (m : FieldMode) (held : List ℕ) → (outer ≡ [] → IsBodyMode m) → IsShifted (byte_len (spelled done)) (length os) outer (rebased_in done os outer ps bs m held) (rebased_in [] [] outer ps bs m held)
-  shifted [] ps bs m held inside = record {
-    mode_is = refl;
-    frames_is = omega arith;
-    here_is = byte_len-append (spelled done) held;
-    start_is = omega arith;
-    open_is = open_body m (inside refl);
-    outer_is = λ none. none;
-    field_is = λ some. absurd (some refl);
-    done_is = λ some. absurd (some refl);
-  }
-  shifted (l ∷ ls) ps bs m held inside = record {
-    mode_is = refl;
-    frames_is = frames_more done os (field_state (l ∷ ls) ps bs m held);
-    here_is = bytes_based (text_place m) l ls (spelled ps ++ held);
-    start_is = bytes_based (text_place m) l ls (spelled ps);
-    open_is = open_based l ls ps bs m held;
-    outer_is = λ none. absurd (cc);
-    field_is = λ some. ap byte_len (text_based literal l ls) ∙ byte_len-append (spelled done) _;
-    done_is = λ some. refl;
-  }
+  open_same : (outer : List Level) (os : List ℕ) (m : FieldMode) → unfinished_in (levels_after outer) os m ≡ unfinished_in outer os m
+  open_same outer os (plain m) = ap (λ x. if in_short m then Some open_short else (if in_long m then Some open_long else (if is_after_backslash m then Some open_join else x))) (code_same outer os)
+  open_same outer os (empty h) = code_same outer os
+  open_same outer os (body h literal named at) = ap (λ n. Some (unfinished_literal h at (length os + n))) (levels_same outer)
+  open_same outer os m = refl
+
+  -- what they spell stands before the rest
+  text_after : (p : Place) (outer : List Level) (done : List Piece) (more : List ℕ) → before p (levels_after outer) ++ (spelled (list_after outer done) ++ more) ≡ spelled base ++ (before p outer ++ (spelled done ++ more))
+  text_after p [] done more = ap (λ x. x ++ more) (spelled-append base done) ∙ append_assoc (spelled base) (spelled done) more
+  text_after literal (l ∷ ls) done more =
+      ap (λ x. x ++ (spelled done ++ more)) (text_after l.place ls l.done l.front) ∙ append_assoc (spelled base) (before l.place ls ++ (spelled l.done ++ l.front)) (spelled done ++ more)
+  text_after specification (l ∷ ls) done more =
+      ap (λ x. (before l.place (levels_after ls) ++ x) ++ (spelled done ++ more)) (sym (append-nil (spelled (list_after ls l.done))))
+      ∙ ap (λ x. x ++ (spelled done ++ more)) (text_after l.place ls l.done [])
+      ∙ append_assoc (spelled base) (before l.place ls ++ (spelled l.done ++ [])) (spelled done ++ more)
+      ∙ ap (λ x. spelled base ++ ((before l.place ls ++ x) ++ (spelled done ++ more))) (append-nil (spelled l.done))
+
+  here_after : (u : FieldScanned) → here (state_after u) ≡ byte_len (spelled base) + here u
+  here_after u = ap byte_len (text_after (text_place u.mode) u.outer u.done u.held) ∙ byte_len-append (spelled base) _
+
+  start_after : (u : FieldScanned) → piece_start (state_after u) ≡ byte_len (spelled base) + piece_start u
+  start_after u =
+      ap (λ x. byte_len (before (text_place u.mode) (levels_after u.outer) ++ x)) (sym (append-nil (spelled (list_after u.outer u.done))))
+      ∙ ap byte_len (text_after (text_place u.mode) u.outer u.done [])
+      ∙ byte_len-append (spelled base) (before (text_place u.mode) u.outer ++ (spelled u.done ++ []))
+      ∙ ap (λ x. byte_len (spelled base) + byte_len (before (text_place u.mode) u.outer ++ x)) (append-nil (spelled u.done))
+
+  field_after : (outer : List Level) → (outer ≡ [] → ⊥) → byte_len (before literal (levels_after outer)) ≡ byte_len (spelled base) + byte_len (before literal outer)
+  field_after [] some = absurd (some refl)
+  field_after (l ∷ ls) some = ap byte_len (text_after l.place ls l.done l.front) ∙ byte_len-append (spelled base) _
 
 -- a field that is open has a `{`
 level_full : (limit : Limit) (l : Level) (ls : List Level) → HoldsLevel limit l ls → 0 < byte_len (before literal (l ∷ ls))
@@ -166,169 +143,111 @@ quoted_inside limit (body host specification named at) [] text c holds quotes no
 quoted_inside limit (body host specification named at) (l ∷ ls) text c holds quotes none = cc
 quoted_inside limit m outer text c holds quotes none = both_ways _ refl quotes
 
--- no bracket is open in a string
-no_bracket : (depth : ℕ) (outer : List Level) (openers : List ℕ) (m : FieldMode) → IsBodyMode m → unfinished_with depth outer openers m ≡ Some open_bracket → ⊥
-no_bracket depth outer openers (body host specification named at) is = λ same. cc
-no_bracket depth outer openers (body host literal named after_brace) is = cond_both (nat_lt _ 200) open_inside open_brace (λ w. Some w ≡ Some open_bracket → ⊥) (λ h same. cc) (λ h same. cc)
-no_bracket depth outer openers (body host literal named at) is = cond_both host.is_long open_long open_short (λ w. Some w ≡ Some open_bracket → ⊥) (λ h same. cc) (λ h same. cc)
-no_bracket depth outer openers m (host, place, named, at, is) = λ same. cc
+-- The machine with fields stands in the whole text as in the line, for this character: the cause is the same, and its place so many
+-- bytes further.
+record StandsAlike (k : ℕ) (t u : FieldScanned) (c : ℕ) : Type 0 where
+  cause : cause_in (frames t) t.mode c ≡ cause_in (frames u) u.mode c
+  place : cause_place t (cause_in (frames u) u.mode c) ≡ k + cause_place u (cause_in (frames u) u.mode c)
 
--- the two machines have come through a text
-module _ (read : List ℕ) (s : Scanned) (st : List Bracket) (runs : RunsTo read s st) where
-  along : StandsSound modes.Start read s st
-  along = comes_along read s st runs
+-- where some of the line was read
+module _ (base : List Piece) (read : List ℕ) (u : FieldScanned) (sound : IsFieldSound two_hundred u read) (some : 0 < here u) where
+  abbrev k : ℕ
+  k = byte_len (spelled base)
 
-  abbrev t : FieldScanned
-  t = along.state
+  within_after : (u.outer ≡ [] → ⊥) → field_start (state_after base u) ≡ k + field_start u
+  within_after within = omega (arith, field_after base u.outer within, field_full two_hundred (text_place u.mode) u.outer _ sound.levels within)
 
-  -- in a string with fields that holds something, by itself
-  module _ (fielded : s.mode ≡ modes.Fielded) (u : FieldScanned) (at : string_state s.held ≡ Some u) where
-    own : Own modes.Fielded (depth_through 0 s.done) s.held
-    own = subst (λ m. Own m (depth_through 0 s.done) s.held) fielded along.tied.own
-
-    same : own.state ≡ u
-    same = some_is own.state u (sym own.goes.steps ∙ at)
-
-    inside : u.outer ≡ [] → IsBodyMode u.mode
-    inside = subst (λ (x : FieldScanned). x.outer ≡ [] → IsBodyMode x.mode) same own.inside
-
-    alone : IsFieldSound no_limit u s.held
-    alone = sound_at no_limit s.held u (any_rooms (Some field_text_start) s.held) at
-
-    shift_is : IsShifted (byte_len (spelled s.done)) (length st) u.outer t u
-    shift_is =
-        let whole : rebased s.done (openers_of st) u ≡ t = some_is _ t (sym (ap (rebased_if s.done (openers_of st)) at) ∙ ap (λ m. flat m s.done (openers_of st) s.held) (sym fielded) ∙ along.tied.flat_is) in
-        let bare : rebased [] [] u ≡ u = sym (sym same ∙ own.bare ∙ ap (rebased [] []) same) in
-        subst (λ x. IsShifted (byte_len (spelled s.done)) (length st) u.outer x u) whole
-        (subst (λ x. IsShifted (byte_len (spelled s.done)) (length st) u.outer (rebased s.done (openers_of st) u) x) bare
-        (subst (λ n. IsShifted (byte_len (spelled s.done)) n u.outer (rebased s.done (openers_of st) u) (rebased [] [] u)) (openers-length st) (shifted s.done (openers_of st) u.outer u.done u.openers u.mode u.held inside)))
-
-    -- something of it was read
-    some : 0 < here u
-    some = go s.held at
-      where
-        go : (held : List ℕ) → string_state held ≡ Some u → 0 < here u
-        go [] none =
-            let begun : u ≡ field_text_start = cc in
-            let stuck = (inside (ap (λ (x : FieldScanned). x.outer) begun)).4 in
-            let mode = ap (λ (x : FieldScanned). x.mode) begun in
-            absurd (cc)
-        go (c ∷ held) steps = omega (arith, ap byte_len (sound_at no_limit (c ∷ held) u (any_rooms (Some field_text_start) (c ∷ held)) steps).spell, length-le-encodes (c ∷ held))
-
-    field_back : (u.outer ≡ [] → ⊥) → field_start t ≡ byte_len (spelled s.done) + field_start u
-    field_back within = omega (arith, shift_is.field_is within, field_full no_limit (text_place u.mode) u.outer _ alone.levels within)
-
-    -- a cause and its place
-    cause_same : (c : ℕ) → cause_in (frames t) t.mode c ≡ cause_in (length st + frames u) u.mode c
-    cause_same c = ap (λ n. cause_in n t.mode c) shift_is.frames_is ∙ ap (λ m. cause_in (length st + frames u) m c) shift_is.mode_is
-
-    place_same : (c : ℕ) → cause_place t (cause_in (length st + frames u) u.mode c) ≡ byte_len (spelled s.done) + cause_place u (cause_in (length st + frames u) u.mode c)
-    place_same c =
-        let P : Cause → Type 0 = λ cause. cause_place t cause ≡ byte_len (spelled s.done) + cause_place u cause in
-        cond_both (is_waiting u.mode && (length st + frames u == 200)) _ _ P (λ h. omega (arith, shift_is.here_is, some))
-        (λ h. cond_both (is_break c) _ _ P (λ k. shift_is.start_is)
-        (λ k. cond_both (after_open_backslash u.mode) _ _ P (λ l. shift_is.start_is)
-        (λ l. cond_both (is_closing c) _ _ P (λ n. shift_is.here_is)
-        (λ n. cond_both (is_opening c) _ _ P (λ o. shift_is.here_is)
-        (λ o. cond_both (quotes_specification u.mode c) _ _ P (λ quotes. field_back (quoted_inside no_limit u.mode u.outer _ c alone.levels quotes)) (λ p. shift_is.here_is))))))
-
-    -- what is open at the end stands at this byte
-    there : (what : Unfinished) → unfinished_round (length st) u ≡ Some what → (offset : ℕ) → IsUnfinishedAt (byte_len (spelled s.done)) u what offset → (n : ℕ) → StandsThere t what n → n ≡ offset
-    there open_short is offset placed n stands = stands ∙ shift_is.start_is ∙ sym placed
-    there open_long is offset placed n stands = stands ∙ shift_is.start_is ∙ sym placed
-    there open_join is offset placed n stands = stands ∙ shift_is.start_is ∙ sym placed
-    there open_brace is offset placed n stands = omega (arith, stands, shift_is.here_is, some, placed)
-    there open_inside is offset placed n stands = by (is_waiting u.mode) (stands ∙ ap (λ m. if is_waiting m then here t else byte_len (before literal t.outer)) shift_is.mode_is) placed
-      where
-        by : (waits : Bool) → n + 1 ≡ (if waits then here t else byte_len (before literal t.outer)) → offset ≡ byte_len (spelled s.done) + (if waits then here u - 1 else field_start u) → n ≡ offset
-        by true first second = omega (arith, first, second, shift_is.here_is, some)
-        by false first second =
-            let within : u.outer ≡ [] → ⊥ = λ none. omega (arith, first, ap (λ l. byte_len (before literal l)) (shift_is.outer_is none)) in
-            omega (arith, first, second, shift_is.field_is within, field_full no_limit (text_place u.mode) u.outer _ alone.levels within)
-    there open_bracket is offset (b, others, stack, placed) n stands =
-        let within : u.outer ≡ [] → ⊥ = λ none. no_bracket (length st) u.outer u.openers u.mode (inside none) is in
-        stands b others (ap brackets_of (shift_is.done_is within) ∙ stack) ∙ omega (arith, shift_is.field_is within, placed)
-
-  -- outside such a string
-  flat_is : (s.mode ≡ modes.Fielded → ⊥) → field_state [] s.done (openers_of st) (flat_mode s.mode) s.held ≡ t
-  flat_is other = flat_state s.mode s.done (openers_of st) s.held t other along.tied.flat_is
-
-  begun_is : (s.mode ≡ modes.Fielded → ⊥) → piece_start t ≡ byte_len (spelled s.done)
-  begun_is other = sym (ap piece_start (flat_is other))
-
-  -- a character that is refused
-  module _ (c : ℕ) (after : List ℕ) (refused : advance s c ≡ None) where
-    stuck : IsStuck t c
-    stuck = by (has_room t c) (field_step t c) refl refl (subst (λ o. Alike o (roomy (has_room t c) (field_step t c))) refused (tied_step t s st c along.tied).alike)
-      where
-        by : (b : Bool) (o : Option FieldScanned) → has_room t c ≡ b → field_step t c ≡ o → Alike None (roomy b o) → IsStuck t c
-        by false o room step alike = inr room
-        by true None room step alike = inl step
-        by true (Some x) room step alike = absurd alike
-
-    fault : IsCharacterFault (kind_of_cause (cause_in (frames t) t.mode c)) (read ++ c ∷ after) (cause_place t (cause_in (frames t) t.mode c))
-    fault = cause_fits t read c after along.steps along.room stuck
-
-    pub refused_fielded : s.mode ≡ modes.Fielded → (u : FieldScanned) → string_state s.held ≡ Some u → IsCharacterFault (kind_of_cause (cause_in (length st + frames u) u.mode c)) (read ++ c ∷ after) (byte_len (spelled s.done) + cause_place u (cause_in (length st + frames u) u.mode c))
-    refused_fielded fielded u at =
-        subst (λ n. IsCharacterFault (kind_of_cause (cause_in (length st + frames u) u.mode c)) (read ++ c ∷ after) n) (place_same fielded u at c)
-        (subst (λ x. IsCharacterFault (kind_of_cause x) (read ++ c ∷ after) (cause_place t x)) (cause_same fielded u at c) fault)
-
-    module _ (other : s.mode ≡ modes.Fielded → ⊥) where
-      own_mode : flat_mode s.mode ≡ t.mode
-      own_mode = ap (λ (x : FieldScanned). x.mode) (flat_is other)
-
-      f : IsFlat s.mode
-      f = is_flat s.mode
-
-      -- it is a line end exactly in a short string
-      break_is : is_break c ≡ in_short s.mode
-      break_is = by (is_break c) (in_short s.mode) refl refl
-        where
-          breaks_short : IsShortHere t.mode → in_short s.mode ≡ true
-          breaks_short (inl short) = sym f.short ∙ ap in_open_short own_mode ∙ short
-          breaks_short (inr (host, is, short)) = absurd (f.no_specification host (subst (InSpecificationOf host) (sym own_mode) is))
-
-          by : (b d : Bool) → is_break c ≡ b → in_short s.mode ≡ d → is_break c ≡ in_short s.mode
-          by true d one two = one ∙ sym (breaks_short (short_here t read c after along.steps along.room stuck (ap (λ m. is_waiting m && (frames t == 200)) (sym own_mode) ∙ ap (λ b. b && (frames t == 200)) f.waits) one))
-          by false true one two = absurd (both_ways _ one (only_breaks t read c after along.steps along.room stuck (ap in_open_short (sym own_mode) ∙ f.short ∙ two)))
-          by false false one two = one ∙ sym two
-
-      cause_is : cause_in (frames t) t.mode c ≡ flat_cause (in_short s.mode) (is_after_backslash s.mode) (is_closing c) (is_opening c)
-      cause_is = ap (λ m. cause_in (frames t) m c) (sym own_mode) ∙ rw (f.waits, f.slash, f.quotes c, break_is) refl
-
-      pub refused_plain : IsCharacterFault (character_kind s.mode c) (read ++ c ∷ after) (character_place s read)
-      refused_plain =
-          let named = flat_named t (in_short s.mode) (is_after_backslash s.mode) (is_closing c) (is_opening c) in
-          let place : cause_place t (cause_in (frames t) t.mode c) ≡ character_place s read = ap (cause_place t) cause_is ∙ named.1 ∙ rw (begun_is other, text_is read t along.steps along.room) refl in
-          subst (λ n. IsCharacterFault (character_kind s.mode c) (read ++ c ∷ after) n) place (subst (λ k. IsCharacterFault k (read ++ c ∷ after) (cause_place t (cause_in (frames t) t.mode c))) (ap kind_of_cause cause_is ∙ named.0) fault)
-
-  -- where the text ends
-  open_at : (what : Unfinished) → unfinished_at t ≡ Some what → (offset : ℕ) → ((n : ℕ) → StandsThere t what n → n ≡ offset) → IsEndFault (kind_of_unfinished what) read [] offset
-  open_at what is offset same =
-      let found = unfinished_fits read t along.steps along.room what is in
-      subst (IsEndFault (kind_of_unfinished what) read []) (same found.0 found.2) found.1
-
-  pub ends_fielded : s.mode ≡ modes.Fielded → (u : FieldScanned) → string_state s.held ≡ Some u → (what : Unfinished) → unfinished_round (length st) u ≡ Some what → (offset : ℕ) → IsUnfinishedAt (byte_len (spelled s.done)) u what offset → IsEndFault (kind_of_unfinished what) read [] offset
-  ends_fielded fielded u at what is offset place = open_at what ((shift_is fielded u at).open_is ∙ is) offset (there fielded u at what is offset place)
-
-  -- something is open from this byte on
-  abbrev pub IsOpenAt : ℕ → Type 0
-  IsOpenAt place = ((is_final s.mode ≡ false) × (place ≡ byte_len (spelled s.done))) ⊎ ((is_final s.mode ≡ true) × HasInnermostAt st place)
-
-  pub ends_plain : (s.mode ≡ modes.Fielded → ⊥) → (place : ℕ) → IsOpenAt place → IsEndFault (end_kind s.mode) read [] place
-  ends_plain other place open_yet = by (in_short s.mode) (in_long s.mode) (is_after_backslash s.mode) (final_by s.mode) ((ap unfinished_at (sym (flat_is other))) ∙ (is_flat s.mode).unfinished (openers_of st)) open_yet
+  alike_after : (c : ℕ) → StandsAlike k (state_after base u) u c
+  alike_after c = record { cause = ap (λ n. cause_in n u.mode c) (frames_same base u); place = place }
     where
-      by : (short long slash : Bool) → is_final s.mode ≡ not (short || (long || slash)) → unfinished_at t ≡ (if short then Some open_short else (if long then Some open_long else (if slash then Some open_join else unfinished_code [] (openers_of st)))) → IsOpenAt place
-          → IsEndFault (if short then faults.OpenString else (if long then faults.OpenTriple else (if slash then faults.BadJoin else faults.OpenBracket))) read [] place
-      by true long slash final is (inl (unfinal, at)) = open_at open_short is place (λ n there. there ∙ begun_is other ∙ sym at)
-      by false true slash final is (inl (unfinal, at)) = open_at open_long is place (λ n there. there ∙ begun_is other ∙ sym at)
-      by false false true final is (inl (unfinal, at)) = open_at open_join is place (λ n there. there ∙ begun_is other ∙ sym at)
-      by false false false final is (inl (unfinal, at)) = absurd (both_ways _ unfinal final)
-      by false false false final is (inr (ends, (b, others, top, at))) =
-          let stack : brackets_of t.done ≡ Some (b ∷ others) = ap (λ (x : FieldScanned). brackets_of x.done) (sym (flat_is other)) ∙ along.tied.stack ∙ ap (λ l. Some l) top in
-          open_at open_bracket (is ∙ ap (λ l. unfinished_code [] (openers_of l)) top) place (λ n there. there b others stack ∙ ap (λ (x : FieldScanned). byte_len (before literal x.outer) + b.place) (sym (flat_is other)) ∙ zero-add b.place ∙ sym at)
-      by short long slash final is (inr (ends, top)) = absurd (both_ways _ final ends)
+      place : cause_place (state_after base u) (cause_in (frames u) u.mode c) ≡ k + cause_place u (cause_in (frames u) u.mode c)
+      place =
+          let P : Cause → Type 0 = λ cause. cause_place (state_after base u) cause ≡ k + cause_place u cause in
+          cond_both (is_waiting u.mode && (frames u == 200)) _ _ P (λ h. omega (arith, here_after base u, some))
+          (λ h. cond_both (is_break c) _ _ P (λ i. start_after base u)
+          (λ i. cond_both (after_open_backslash u.mode) _ _ P (λ l. start_after base u)
+          (λ l. cond_both (is_closing c) _ _ P (λ n. here_after base u)
+          (λ n. cond_both (is_opening c) _ _ P (λ o. here_after base u)
+          (λ o. cond_both (quotes_specification u.mode c) _ _ P (λ quotes. within_after (quoted_inside two_hundred u.mode u.outer _ c sound.levels quotes)) (λ q. here_after base u))))))
+
+  -- what is open at the end stands so many bytes further
+  there_after : brackets_of base ≡ Some [] → (what : Unfinished) (place : ℕ) → IsUnfinishedAt u what place → (n : ℕ) → StandsThere (state_after base u) what n → n ≡ k + place
+  there_after level open_short place at n stands = stands ∙ start_after base u ∙ ap (λ m. k + m) (sym at)
+  there_after level open_long place at n stands = stands ∙ start_after base u ∙ ap (λ m. k + m) (sym at)
+  there_after level open_join place at n stands = stands ∙ start_after base u ∙ ap (λ m. k + m) (sym at)
+  there_after level open_brace place at n stands = omega (arith, stands, here_after base u, some, at)
+  there_after level open_inside place at n stands = by (is_waiting u.mode) stands at
+    where
+      by : (waits : Bool) → n + 1 ≡ (if waits then here (state_after base u) else byte_len (before literal (levels_after base u.outer))) → place ≡ (if waits then here u - 1 else field_start u) → n ≡ k + place
+      by true first second = omega (arith, first, second, here_after base u, some)
+      by false first second =
+          let within : u.outer ≡ [] → ⊥ = λ none. omega (arith, first, ap (λ l. byte_len (before literal (levels_after base l))) none) in
+          omega (arith, first, second, field_after base u.outer within, field_full two_hundred (text_place u.mode) u.outer _ sound.levels within)
+  there_after level open_bracket place (b, others, stack, at) n stands = by u.outer stack at stands
+    where
+      by : (outer : List Level) → brackets_of u.done ≡ Some (b ∷ others) → place ≡ byte_len (before literal outer) + b.place
+          → ((a : Bracket) (bs : List Bracket) → brackets_of (list_after base outer u.done) ≡ Some (a ∷ bs) → n ≡ byte_len (before literal (levels_after base outer)) + a.place) → n ≡ k + place
+      by [] stack at stands = omega (arith, stands (record { opener = b.opener; place = k + b.place }) (shift k others) (stack-after base u.done level ∙ ap (shift_if k) stack), at)
+      by (l ∷ ls) stack at stands = omega (arith, stands b others stack, at, field_after base (l ∷ ls) (λ none. cc))
+
+-- between lines a character is refused for these causes
+abbrev between_cause : ℕ → Cause
+between_cause c = if is_break c then breaks_string else (if is_closing c then closes_wrong else (if is_opening c then opens_too_deep else begins_nothing))
+
+between_is : (m : Mode) (depth c : ℕ) → IsBetweenLines m → cause_in depth (plain m) c ≡ between_cause c
+between_is modes.Start depth c is = refl
+between_is modes.Free depth c is = refl
+between_is modes.Return depth c is = refl
+between_is m depth c is = absurd is
+
+-- at the character itself
+between_place : (t : FieldScanned) (c : ℕ) → (is_break c ≡ true → ⊥) → cause_place t (between_cause c) ≡ here t
+between_place t c other =
+    let P : Cause → Type 0 = λ cause. cause_place t cause ≡ here t in
+    cond_both (is_break c) _ _ P (λ h. absurd (other h)) (λ h. cond_both (is_closing c) _ _ P (λ i. refl) (λ i. cond_both (is_opening c) _ _ P (λ l. refl) (λ l. refl)))
+
+between_mode : (m : Mode) (done : List Piece) (os held : List ℕ) (t : FieldScanned) → IsBetweenLines m → flat m done os held ≡ Some t → t.mode ≡ plain m
+between_mode modes.Start done os held t is flat_is = ap (λ (x : FieldScanned). x.mode) (some_is t _ (sym flat_is))
+between_mode modes.Free done os held t is flat_is = ap (λ (x : FieldScanned). x.mode) (some_is t _ (sym flat_is))
+between_mode modes.Return done os held t is flat_is = ap (λ (x : FieldScanned). x.mode) (some_is t _ (sym flat_is))
+between_mode m done os held t is flat_is = absurd is
+
+-- no short string is open, in which a line end is refused
+short_between : (m : Mode) → IsBetweenLines m → in_short m ≡ false
+short_between modes.Start is = refl
+short_between modes.Free is = refl
+short_between modes.Return is = refl
+short_between m is = absurd is
+
+not_short : (m : Mode) → IsBetweenLines m → IsShortHere (plain m) → ⊥
+not_short m is (inl short) = both_ways _ (short_between m is) short
+not_short m is (inr (host, at, short)) = at
+
+first_between : (n : ℕ) → IsBetweenLines (first_mode n)
+first_between zero = tt
+first_between (suc n) = tt
+
+openers-shift : (k : ℕ) (st : List Bracket) → bracket_openers (shift k st) ≡ bracket_openers st
+openers-shift k [] = refl
+openers-shift k (b ∷ bs) = ap (λ l. b.opener ∷ l) (openers-shift k bs)
+
+-- the two machines with fields, where the other stands so
+state_is : (base : List Piece) (state s : Scanned) (st first : List Bracket) (t u : FieldScanned) → state ≡ after_pieces base s → st ≡ shift (byte_len (spelled base)) first → IsTied t state st → IsTied u s first → state_after base u ≡ t
+state_is base state s st first t u same stack tied own = some_is (state_after base u) t
+    (ap (state_after_if base) (sym own.flat_is)
+    ∙ sym (flat_after base s.mode s.done (bracket_openers first) s.held)
+    ∙ ap (λ os. flat s.mode (base ++ s.done) os s.held) (sym (openers-shift (byte_len (spelled base)) first) ∙ ap bracket_openers (sym stack))
+    ∙ ap (λ (x : Scanned). flat x.mode x.done (bracket_openers st) x.held) (sym same)
+    ∙ tied.flat_is)
+
+-- a character that one machine refuses stops the other
+stuck_at : (t : FieldScanned) (s : Scanned) (st : List Bracket) (c : ℕ) → IsTied t s st → advance s c ≡ None → IsStuck t c
+stuck_at t s st c tied refused = by (has_room t c) (field_step t c) refl refl (subst (λ o. Alike o (roomy (has_room t c) (field_step t c))) refused (tied_step t s st c tied).alike)
+  where
+    by : (b : Bool) (o : Option FieldScanned) → has_room t c ≡ b → field_step t c ≡ o → Alike None (roomy b o) → IsStuck t c
+    by false o room step alike = inr room
+    by true None room step alike = inl step
+    by true (Some x) room step alike = absurd alike
 
 -- a place in what was scanned
 pub record Within (read : List ℕ) (offset : ℕ) : Type 0 where
@@ -337,130 +256,115 @@ pub record Within (read : List ℕ) (offset : ℕ) : Type 0 where
   pub split : prefix ++ later ≡ read
   pub size : offset ≡ byte_len prefix
 
-place_by : (b : Bool) (k start stop done whole : ℕ) → (b ≡ true → done ≡ k + start) → whole ≡ k + stop → (if b then done else whole) ≡ k + (if b then start else stop)
-place_by true k start stop done whole first second = first refl
-place_by false k start stop done whole first second = second
-
--- a string that refuses a character
-abbrev RefusesIf : List Piece → List ℕ → ℕ → Move → Type 0
-RefusesIf done held c v = stack_if (moved (scanned done modes.Fielded held) c v) ≡ None → v ≡ moves.Refused
-
-refused_string : (scan : Scan) (done : List Piece) (held : List ℕ) (u : FieldScanned) (c : ℕ) → brackets_of done ≡ Some (stack_of scan.brackets) → string_state held ≡ Some u → stack_if (scan_step (scanned done modes.Fielded held) c) ≡ None → fielded_move (depth_of scan.brackets) (Some u) c ≡ moves.Refused
-refused_string scan done held u c stacked at refuses =
-    cond_both (has_room_in (depth_of scan.brackets) u c) _ moves.Refused (RefusesIf done held c) (λ room. by u.outer (field_move u.mode u.held c) (field_step u c)) (λ full none. refl)
-    (ap (λ v. stack_if (moved (scanned done modes.Fielded held) c v)) (sym (string_move_is scan done held u c _ stacked at refl)) ∙ refuses)
-  where
-    by : (outer : List Level) (move : FieldMove) (next : Option FieldScanned) → RefusesIf done held c (string_move outer move next)
-    by [] closes next none = absurd (none_some (sym none ∙ keeps done (piece string (held ++ c ∷ [])) (stack_of scan.brackets) refl refl stacked))
-    by outer move None none = refl
-    by outer move (Some next) none = absurd (none_some (sym none ∙ stacked))
-
-unfinished_shift : (k start : ℕ) (u : FieldScanned) (what : Unfinished) (place : ℕ) → IsUnfinishedAt start u what place → IsUnfinishedAt (k + start) u what (k + place)
-unfinished_shift k start u open_bracket place (b, others, stack, at) = (b, others, stack, omega (arith, at))
-unfinished_shift k start u what place at = omega (arith, at)
-
-fielded_or : (m : Mode) → (m ≡ modes.Fielded) ⊎ (m ≡ modes.Fielded → ⊥)
-fielded_or modes.Fielded = inl refl
-fielded_or m = inr (λ h. cc)
-
--- a text that may end there
-pub finished : (scan : Scan) → IsUnfinished scan None → (is_final scan.piece.mode ≡ true) × (stack_of scan.brackets ≡ [])
-finished scan is = ⊎_elim (λ fielded. absurd (is.0 fielded)) is.1 (fielded_or scan.piece.mode)
-
 -- a line under way, after pieces that end a line
-module _ (n : ℕ) (base : List Piece) (level : brackets_of base ≡ Some []) (strings : StringsFit 0 base) (is : Base n base) (scan : Scan) (read : List ℕ) (way : IsUnderWay (first_mode n) scan read) where
-  sound : IsScanSound way.state read
-  sound = sound_steps (first_mode n) read way.state (begun_sound n) way.steps way.stacked
-
-  string_in : way.state.mode ≡ modes.Fielded → InString scan way.state.held
-  string_in fielded =
-      in_string scan way.state.done way.state.held read (subst (λ m. IsScanSound (scanned way.state.done m way.state.held) read) fielded sound) (subst (λ m. Tallies scan (scanned way.state.done m way.state.held)) fielded way.tallies)
-
-  done_bytes : byte_len (spelled (base ++ way.state.done)) ≡ byte_len (spelled base) + scan.piece.start
-  done_bytes = ap byte_len (spelled-append base way.state.done) ∙ byte_len-append (spelled base) (spelled way.state.done) ∙ ap (λ k. byte_len (spelled base) + k) (sym way.tallies.counts.start)
-
-  stack_is : (t : Scanned) (st : List Bracket) → t ≡ after_pieces base way.state → brackets_of t.done ≡ Some st → length st ≡ depth_of scan.brackets
-  stack_is t st at stack =
-      let both : Some st ≡ Some (shift (byte_len (spelled base)) (stack_of scan.brackets)) = sym stack ∙ ap (λ (x : Scanned). brackets_of x.done) at ∙ stack-after base way.state.done level ∙ ap (shift_if (byte_len (spelled base))) way.stacked in
-      let one : st ≡ shift (byte_len (spelled base)) (stack_of scan.brackets) = cc in
-      ap length one ∙ length-shift (byte_len (spelled base)) (stack_of scan.brackets)
-
+module _ (n : ℕ) (base : List Piece) (level : brackets_of base ≡ Some []) (strings : StringsFit 0 base) (is : Base n base) (scan : Scan) where
   -- the next character is refused
-  module _ (c : ℕ) (after : List ℕ) (fit : AreReadBefore base (read ++ c ∷ after)) (refuses : stack_if (scan_step way.state c) ≡ None) (line_fault : LineFault) (is_line_fault : IsRefusal scan c line_fault) where
-    abbrev HasFault : Type 0
-    HasFault = IsCharacterFault line_fault.kind ((spelled base ++ read) ++ c ∷ after) (byte_len (spelled base) + line_fault.place)
+  module _ (read : List ℕ) (way : IsUnderWay (first_mode n) scan read) (c : ℕ) (after : List ℕ) (fit : AreReadBefore base (read ++ c ∷ after)) (refuses : stack_if (scan_step way.state c) ≡ None) (line_fault : LineFault) (is_line_fault : RefusesField scan.inside c scan.stop line_fault) where
+    j : Joined base read way.state way.brackets (c ∷ after)
+    j = joined n base (c ∷ after) level strings read way.state way.brackets fit is (way_goes way)
 
-    joined_here : Joined base read way.state (stack_of scan.brackets) (c ∷ after)
-    joined_here = joined n base (c ∷ after) level strings read way.state (stack_of scan.brackets) fit is (way_goes way)
+    along : StandsSound modes.Start (spelled base ++ read) j.state j.st
+    along = comes_along (spelled base ++ read) j.state j.st j.steps
 
-    elsewhere : (j : Joined base read way.state (stack_of scan.brackets) (c ∷ after)) → (way.state.mode ≡ modes.Fielded → ⊥) → HasFault
-    elsewhere j other =
-        let own = is_line_fault.1 (λ h. other (sym way.tallies.counts.mode ∙ h)) in
-        let stopped = refused_at base read (c ∷ after) after way.state (stack_of scan.brackets) c j level refl refuses in
-        let stop : byte_len (spelled base ++ read) ≡ byte_len (spelled base) + scan.stop = byte_len-append (spelled base) read ∙ ap (λ k. byte_len (spelled base) + k) (sym (way_stop (first_mode n) scan read way (begun_sound n))) in
-        rw (own.0, own.1, way.tallies.counts.mode, ← j.short, ← j.slash)
-        (subst (IsCharacterFault (character_kind j.state.mode c) ((spelled base ++ read) ++ c ∷ after))
-        (place_by (in_short j.state.mode || is_after_backslash j.state.mode) (byte_len (spelled base)) scan.piece.start scan.stop (byte_len (spelled j.state.done)) (byte_len (spelled base ++ read))
-        (λ h. j.start (rw (j.short, j.slash) at h) ∙ ap (λ k. byte_len (spelled base) + k) (sym way.tallies.counts.start)) stop)
-        (refused_plain (spelled base ++ read) j.state j.st j.steps c after stopped (j.plain other)))
+    stuck : IsStuck along.state c
+    stuck = stuck_at along.state j.state j.st c along.tied (refused_at base read (c ∷ after) after way.state way.brackets c j level refl refuses)
 
-    in_the_string : (j : Joined base read way.state (stack_of scan.brackets) (c ∷ after)) → way.state.mode ≡ modes.Fielded → HasFault
-    in_the_string j fielded =
-        let own = string_in fielded in
-        let u = own.state in
-        let at = j.inside fielded in
-        let stopped = refused_at base read (c ∷ after) after way.state (stack_of scan.brackets) c j level refl refuses in
-        let stuck = refused_string scan way.state.done way.state.held u c way.stacked own.steps (subst (λ m. stack_if (scan_step (scanned way.state.done m way.state.held) c) ≡ None) fielded refuses) in
-        let named = is_line_fault.0 (way.tallies.counts.mode ∙ fielded) u own.stands stuck in
-        let depth : length j.st ≡ depth_of scan.brackets = stack_is j.state j.st at j.steps.stack in
-        let cause_same = ap (λ k. cause_in (k + frames u) u.mode c) (sym depth) in
-        let place : byte_len (spelled j.state.done) + cause_place u (cause_in (length j.st + frames u) u.mode c) ≡ byte_len (spelled base) + line_fault.place = omega (arith, named.1, ap (cause_place u) cause_same, ap (λ (x : Scanned). byte_len (spelled x.done)) at, done_bytes) in
-        rw (named.0, cause_same)
-        (subst (IsCharacterFault _ _) place
-        (refused_fielded (spelled base ++ read) j.state j.st j.steps c after stopped (ap (λ (x : Scanned). x.mode) at ∙ fielded) u (ap (λ (x : Scanned). string_state x.held) at ∙ own.steps)))
+    begun_alike : read ≡ [] → IsBetweenLines j.state.mode → StandsAlike (byte_len (spelled base)) along.state way.field c
+    begun_alike none between =
+        let t = along.state in
+        let u = way.field in
+        let k = byte_len (spelled base) in
+        let text_mode = between_mode j.state.mode j.state.done (bracket_openers j.st) j.state.held t between along.tied.flat_is in
+        let begun : line_begun (first_mode n) ≡ u = some_is _ u (ap (field_steps_from (Some (line_begun (first_mode n)))) (sym none) ∙ way.field_steps) in
+        let cause : cause_in (frames u) u.mode c ≡ between_cause c = ap (λ (x : FieldScanned). cause_in (frames u) x.mode c) (sym begun) ∙ between_is (first_mode n) (frames u) c (first_between n) in
+        let apart : is_break c ≡ true → ⊥ = λ breaks. not_short j.state.mode between (subst IsShortHere text_mode (short_here t (spelled base ++ read) c after along.steps along.room stuck (ap (λ m. is_waiting m && (frames t == 200)) text_mode) breaks)) in
+        let size : here t ≡ k + here u = omega (arith, text_is (spelled base ++ read) t along.steps along.room, byte_len-append (spelled base) read, way_here way (begun_sound n)) in
+        record {
+          cause = ap (λ m. cause_in (frames t) m c) text_mode ∙ between_is j.state.mode (frames t) c between ∙ sym cause;
+          place = ap (cause_place t) cause ∙ between_place t c apart ∙ size ∙ ap (λ m. k + m) (sym (ap (cause_place u) cause ∙ between_place u c apart));
+        }
 
-    pub refused_fault : HasFault
-    refused_fault = ⊎_elim (in_the_string joined_here) (elsewhere joined_here) (fielded_or way.state.mode)
+    alike : (cs : List ℕ) → read ≡ cs → StandsAfter base cs way.state way.brackets j.state j.st → StandsAlike (byte_len (spelled base)) along.state way.field c
+    alike [] none stands = begun_alike none stands
+    alike (d ∷ ds) some stands =
+        let same = state_is base j.state way.state j.st way.brackets along.state way.field stands.0 stands.1 along.tied (way_tied way (begun_sound n)) in
+        let full : 0 < here way.field = omega (arith, way_here way (begun_sound n), ap byte_len some, length-le-encodes (d ∷ ds)) in
+        subst (λ t. StandsAlike (byte_len (spelled base)) t way.field c) same (alike_after base read way.field (way_field way (begun_sound n)) full c)
+
+    pub refused_fault : IsCharacterFault line_fault.kind ((spelled base ++ read) ++ c ∷ after) (byte_len (spelled base) + line_fault.place)
+    refused_fault =
+        let text = (spelled base ++ read) ++ c ∷ after in
+        let cause = cause_in (frames way.field) way.field.mode c in
+        let own = is_line_fault (way_placed way (begun_sound n)) way.field way.follows (way_place way (begun_sound n)) (way_refused way (begun_sound n) c refuses) in
+        let same = alike read refl j.stands in
+        subst (λ (kind : FaultKind). IsCharacterFault kind text (byte_len (spelled base) + line_fault.place)) (sym own.0)
+        (subst (IsCharacterFault (kind_of_cause cause) text) (same.place ∙ ap (λ m. byte_len (spelled base) + m) (sym own.1))
+        (subst (λ x. IsCharacterFault (kind_of_cause x) text (cause_place along.state x)) same.cause
+        (cause_fits along.state (spelled base ++ read) c after along.steps along.room stuck)))
 
   -- the text ends there, where something is open
-  module _ (fit : AreReadBefore base (read ++ [])) (some : 0 < byte_len read) (line_fault : LineFault) (is_line_fault : IsUnfinished scan (Some line_fault)) where
-    abbrev EndsSo : Type 0
-    EndsSo = IsEndFault line_fault.kind (spelled base ++ read) [] (byte_len (spelled base) + line_fault.place)
+  pub unfinished_fault : (read : List ℕ) (way : IsUnderWay (first_mode n) scan read) → AreReadBefore base (read ++ []) → 0 < byte_len read → (line_fault : LineFault) → EndsField scan.inside scan.stop (Some line_fault) → IsEndFault line_fault.kind (spelled base ++ read) [] (byte_len (spelled base) + line_fault.place)
+  unfinished_fault [] way fit some line_fault is_line_fault = absurd (omega (arith, some))
+  unfinished_fault (d ∷ ds) way fit some line_fault is_line_fault =
+      let read = d ∷ ds in
+      let u = way.field in
+      let j = joined n base [] level strings read way.state way.brackets fit is (way_goes way) in
+      let along = comes_along (spelled base ++ read) j.state j.st j.steps in
+      let same = state_is base j.state way.state j.st way.brackets along.state u j.stands.0 j.stands.1 along.tied (way_tied way (begun_sound n)) in
+      let (what, open_yet, kind, place) = is_line_fault (way_placed way (begun_sound n)) u way.follows (way_place way (begun_sound n)) in
+      let found = unfinished_fits (spelled base ++ read) along.state along.steps along.room what (ap unfinished_at (sym same) ∙ open_same base u.outer u.openers u.mode ∙ open_yet) in
+      let at = there_after base read u (way_field way (begun_sound n)) (omega (arith, way_here way (begun_sound n), some)) level what line_fault.place place found.0 (subst (λ t. StandsThere t what found.0) (sym same) found.2) in
+      subst (λ (x : FaultKind). IsEndFault x (spelled base ++ read) [] (byte_len (spelled base) + line_fault.place)) (sym kind) (subst (IsEndFault (kind_of_unfinished what) (spelled base ++ read) []) at found.1)
 
-    ending : Joined base read way.state (stack_of scan.brackets) []
-    ending = joined n base [] level strings read way.state (stack_of scan.brackets) fit is (way_goes way)
+-- where nothing is open at the end, the machine with fields may end
+code_ends : (outer : List Level) (os : List ℕ) → unfinished_code outer os ≡ None → (outer ≡ []) × (os ≡ [])
+code_ends [] [] none = (refl, refl)
+code_ends (l ∷ ls) [] none = absurd (cc)
+code_ends outer (o ∷ os) none = absurd (cc)
 
-    ends_elsewhere : (j : Joined base read way.state (stack_of scan.brackets) []) → (way.state.mode ≡ modes.Fielded → ⊥) → EndsSo
-    ends_elsewhere j other =
-        rw (own.0 ∙ ap end_kind (sym mode_is)) (ends_plain (spelled base ++ read) j.state j.st j.steps (j.plain other) (byte_len (spelled base) + line_fault.place) (open_from own.1))
-      where
-        own : IsPlainUnfinished scan (Some line_fault)
-        own = is_line_fault.1 (λ h. other (sym way.tallies.counts.mode ∙ h))
+none_open_at : (outer : List Level) (os : List ℕ) (m : FieldMode) → unfinished_in outer os m ≡ None → (outer ≡ []) × (os ≡ []) × (may_end m ≡ true)
+none_open_at outer os (plain m) none = by (in_short m) (in_long m) (is_after_backslash m) (final_by m) none
+  where
+    by : (short long slash : Bool) → is_final m ≡ not (short || (long || slash)) → (if short then Some open_short else (if long then Some open_long else (if slash then Some open_join else unfinished_code outer os))) ≡ None → (outer ≡ []) × (os ≡ []) × (is_final m ≡ true)
+    by false false false final none = let both = code_ends outer os none in (both.0, both.1, final)
+    by short long slash final none = absurd (cc)
+none_open_at outer os (empty h) none = let both = code_ends outer os none in (both.0, both.1, refl)
+none_open_at outer os (opened h) none = absurd (cc)
+none_open_at outer os (body h literal named at) none = absurd (cc)
+none_open_at outer os (body h specification named at) none = absurd (cc)
 
-        mode_is : j.state.mode ≡ scan.piece.mode
-        mode_is = ap (λ (x : Scanned). x.mode) (j.same some).0 ∙ sym way.tallies.counts.mode
+no_openers : (st : List Bracket) → bracket_openers st ≡ [] → st ≡ []
+no_openers [] none = refl
+no_openers (b ∷ bs) none = absurd (cc)
 
-        open_from : IsOpenFrom scan line_fault.place → IsOpenAt (spelled base ++ read) j.state j.st j.steps (byte_len (spelled base) + line_fault.place)
-        open_from (inl (unfinal, at)) = inl (ap is_final mode_is ∙ unfinal, omega (arith, at, done_bytes, ap (λ (x : Scanned). byte_len (spelled x.done)) (j.same some).0))
-        open_from (inr (final, (b, others, top, at))) =
-            let k = byte_len (spelled base) in
-            inr (ap is_final mode_is ∙ final, (record { opener = b.opener; place = k + b.place }, shift k others, (j.same some).1 ∙ ap (shift k) top, ap (λ p. k + p) at))
+none_open_in : (u t : FieldScanned) → u ≡ t → unfinished_at t ≡ None → (u.outer ≡ []) × (u.openers ≡ []) × (may_end u.mode ≡ true)
+none_open_in u t same none = none_open_at u.outer u.openers u.mode (ap unfinished_at same ∙ none)
 
-    ends_inside : (j : Joined base read way.state (stack_of scan.brackets) []) → way.state.mode ≡ modes.Fielded → EndsSo
-    ends_inside j fielded =
-        let own = string_in fielded in
-        let u = own.state in
-        let at = j.inside fielded in
-        let named = is_line_fault.0 (way.tallies.counts.mode ∙ fielded) u own.stands in
-        let depth : length j.st ≡ depth_of scan.brackets = stack_is j.state j.st at j.steps.stack in
-        let start : byte_len (spelled base) + scan.piece.start ≡ byte_len (spelled j.state.done) = sym done_bytes ∙ sym (ap (λ (x : Scanned). byte_len (spelled x.done)) at) in
-        rw named.2
-        (ends_fielded (spelled base ++ read) j.state j.st j.steps (ap (λ (x : Scanned). x.mode) at ∙ fielded) u (ap (λ (x : Scanned). string_state x.held) at ∙ own.steps) named.0
-        (ap (λ k. unfinished_round k u) depth ∙ named.1) (byte_len (spelled base) + line_fault.place)
-        (subst (λ k. IsUnfinishedAt k u named.0 (byte_len (spelled base) + line_fault.place)) start (unfinished_shift (byte_len (spelled base)) scan.piece.start u named.0 line_fault.place named.3)))
+-- so may the other
+may_end_so : (m : Mode) (done : List Piece) (st : List Bracket) (depth : ℕ) (held : List ℕ) (u : FieldScanned) → flat m done (bracket_openers st) held ≡ Some u → Own m depth held → unfinished_at u ≡ None → (is_final m ≡ true) × (st ≡ [])
+may_end_so modes.Fielded done st depth held u is own none =
+    let os = bracket_openers st in
+    let t = own.state in
+    let there : rebased done os t ≡ u = some_is (rebased done os t) u (sym (ap (rebased_if done os) own.goes.steps) ∙ is) in
+    let ends = none_open_in (rebased done os t) u there none in
+    let inside = own.inside (none_based done os t.outer t.done t.openers t.mode t.held ends.0) in
+    absurd (both_ways _ (ap may_end inside.4) ends.2)
+may_end_so (modes.FieldEmpty h) done st depth held u is own none =
+    let t = field_state [] done (bracket_openers st) (empty (host_in h)) held in
+    (refl, no_openers st (none_open_in t u (some_is t u is) none).1)
+may_end_so (modes.FieldOpened h) done st depth held u is own none =
+    let t = field_state [] done (bracket_openers st) (opened (host_in h)) held in
+    absurd (both_ways _ refl (none_open_in t u (some_is t u is) none).2)
+may_end_so m done st depth held u is own none =
+    let t = field_state [] done (bracket_openers st) (plain m) held in
+    let ends = none_open_in t u (some_is t u is) none in
+    (ends.2, no_openers st ends.1)
 
-    pub unfinished_fault : EndsSo
-    unfinished_fault = ⊎_elim (ends_inside ending) (ends_elsewhere ending) (fielded_or way.state.mode)
+-- a text that may end there
+pub finished : {m : Mode} {scan : Scan} {read : List ℕ} (way : IsUnderWay m scan read) → IsScanSound (line_start m) [] → EndsField scan.inside scan.stop None → (is_final way.state.mode ≡ true) × (way.brackets ≡ [])
+finished way start is =
+    let tied = way_tied way start in
+    may_end_so way.state.mode way.state.done way.brackets (depth_through 0 way.state.done) way.state.held way.field tied.flat_is tied.own (is (way_placed way start) way.field way.follows (way_place way start))
 
 -- a fault at a character stands before it
 before_character : (read : List ℕ) (c : ℕ) (kind : FaultKind) (offset : ℕ) → IsCharacterFault kind (read ++ c ∷ []) offset → PrefixTo read offset
@@ -500,13 +404,13 @@ lines_before (suc n) =
     record { base = end ∷ []; level = refl; strings = ((λ h. cc), tt); is = Base.lined [] end refl refl (λ rest. tt) refl; fit = λ rest. (feed refl, refl, refl, tt) }
 
 -- the fault of a character that is refused stands in the line, and so does that of the text's end
-pub refused_within : (n : ℕ) (scan : Scan) (read : List ℕ) (way : IsUnderWay (first_mode n) scan read) (c : ℕ) → stack_if (scan_step way.state c) ≡ None → (line_fault : LineFault) → IsRefusal scan c line_fault → Within read line_fault.place
+pub refused_within : (n : ℕ) (scan : Scan) (read : List ℕ) (way : IsUnderWay (first_mode n) scan read) (c : ℕ) → stack_if (scan_step way.state c) ≡ None → (line_fault : LineFault) → RefusesField scan.inside c scan.stop line_fault → Within read line_fault.place
 refused_within n scan read way c refuses line_fault is_line_fault =
     let b = lines_before n in
     within_line (spelled b.base) read line_fault.place
     (before_character (spelled b.base ++ read) c line_fault.kind (byte_len (spelled b.base) + line_fault.place) (refused_fault n b.base b.level b.strings b.is scan read way c [] (b.fit (read ++ c ∷ [])) refuses line_fault is_line_fault))
 
-pub unfinished_within : (n : ℕ) (scan : Scan) (read : List ℕ) (way : IsUnderWay (first_mode n) scan read) → 0 < byte_len read → (line_fault : LineFault) → IsUnfinished scan (Some line_fault) → Within read line_fault.place
+pub unfinished_within : (n : ℕ) (scan : Scan) (read : List ℕ) (way : IsUnderWay (first_mode n) scan read) → 0 < byte_len read → (line_fault : LineFault) → EndsField scan.inside scan.stop (Some line_fault) → Within read line_fault.place
 unfinished_within n scan read way some line_fault is_line_fault =
     let b = lines_before n in
     within_line (spelled b.base) read line_fault.place

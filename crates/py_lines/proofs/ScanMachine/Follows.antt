@@ -3,15 +3,16 @@
 use Rattle.std.proofs.Common.{◌≡◌, ℕ, ◌+◌, Bool, true, false, not, ◌||◌, ◌==◌, Option, None, Some, List, [], ◌∷◌, ◌++◌, length, nat_lt, refl, sym, ap, ◌∙◌, subst, arith, add-zero}
 use Rattle.std.specs.Str.{byte}
 use Rattle.std.proofs.lemmas.Bool.{cond_both, false_from_ne_true}
+use Rattle.std.proofs.lemmas.List.{length-map}
 use Rattle.py_lines.specs.Character.{is_word_character, is_quote, is_break, is_backslash}
 use Rattle.py_lines.specs.Piece.{operator, line_end, Piece, spelled}
 use Rattle.py_lines.specs.Balance.{is_opening, is_opener, is_closer, depth_through}
 use Rattle.py_lines.specs.FieldStrings.{is_field_prefix, Host, literal}
 use Rattle.py_lines.specs.declared.host.StringWithFields.{StringWithFields}
 use Rattle.py_lines.specs.Private.Machine.{Spelling, Mode, Move, Start, Scanned, fresh, class_of, closed, started, moved, move_of, start_of, Holds, spelling_with, Bracket, brackets_after, brackets_of}
-use Rattle.py_lines.specs.Private.FieldMachine.{between, after_slash, after_brace, FieldMode, plain, opened, empty, body, FieldMove, grows, closes, breaks, refused, FieldScanned, field_state, field_fresh, field_text_start, begins_host, host_of, long_host, plain_move, field_move, field_moved, field_step, field_started, field_pieces, openers_with, after_operator, frames, has_room, has_room_at, between_move, body_move}
+use Rattle.py_lines.specs.Private.FieldMachine.{between, after_slash, after_brace, FieldMode, plain, opened, empty, body, FieldMove, grows, closes, breaks, refused, FieldScanned, field_state, field_fresh, field_text_start, begins_host, host_of, long_host, plain_move, field_move, field_moved, field_step, field_started, field_pieces, openers_with, after_operator, frames, has_room, has_room_at, between_move, body_move, roomy}
 use Rattle.py_lines.specs.Private.ScanMachine.{is_field_spelling, is_raw_spelling, begins_string, host_in, quote_move, opened_move, meet_of, string_state, have_room_in, move_at, scan_step, IsInString}
-use Rattle.py_lines.specs.Private.FieldScan.{code_mode, code_moved}
+use Rattle.py_lines.specs.Private.FieldScan.{code_mode, code_moved, bracket_openers}
 use Rattle.py_lines.proofs.Pieces.PieceLists.{piece}
 use Rattle.py_lines.proofs.Pieces.OpenBrackets.{stack_push}
 use Rattle.py_lines.proofs.Machine.PieceSteps.{scanned, pieces_at, is_word_mode}
@@ -31,15 +32,6 @@ use Rattle.py_lines.proofs.ScanMachine.Rebased.{rebased, rebased_if}
 use Rattle.py_lines.proofs.ScanMachine.Rooms.{RoomFrom, goes_room, GoesAlone, alone_grows}
 use Rattle.py_lines.proofs.ScanMachine.BodyMoves.{IsBodyMode}
 use Rattle.py_lines.specs.LogicalLine.{byte_len}
-
--- the openers of the brackets that are open
-abbrev pub openers_of : List Bracket → List ℕ
-openers_of [] = []
-openers_of (b ∷ bs) = b.opener ∷ openers_of bs
-
-pub openers-length : (st : List Bracket) → length (openers_of st) ≡ length st
-openers-length [] = refl
-openers-length (b ∷ bs) = omega (arith, openers-length bs)
 
 -- the state of the machine with fields, where the other has these pieces, brackets and this open piece
 abbrev pub flat : Mode → List Piece → List ℕ → List ℕ → Option FieldScanned
@@ -66,13 +58,8 @@ Own other depth held = Unit {0}
 -- the states of the two machines belong together
 pub record IsTied (t : FieldScanned) (s : Scanned) (st : List Bracket) : Type 0 where
   pub stack : brackets_of s.done ≡ Some st
-  pub flat_is : flat s.mode s.done (openers_of st) s.held ≡ Some t
+  pub flat_is : flat s.mode s.done (bracket_openers st) s.held ≡ Some t
   pub own : Own s.mode (depth_through 0 s.done) s.held
-
--- a state, if there is room for what led to it
-abbrev pub roomy : Bool → Option FieldScanned → Option FieldScanned
-roomy true o = o
-roomy false o = None
 
 -- both machines go on, to states that belong together, or neither does
 abbrev pub Alike : Option Scanned → Option FieldScanned → Type 0
@@ -92,11 +79,11 @@ plain_mode : (m : Mode) (done : List Piece) (os : List ℕ) (depth : ℕ) (held 
 plain_mode (Mode.Word s) done os depth held other = grind arith
 plain_mode m done os depth held other = grind arith
 
-tied_plain : (n : Mode) (done : List Piece) (st : List Bracket) (held : List ℕ) → is_fielded_mode n ≡ false → Own n (depth_through 0 done) held → brackets_of done ≡ Some st → IsTied (field_state [] done (openers_of st) (plain n) held) (scanned done n held) st
-tied_plain n done st held other own stack = record { stack = stack; flat_is = (plain_mode n done (openers_of st) 0 held other).0; own = own }
+tied_plain : (n : Mode) (done : List Piece) (st : List Bracket) (held : List ℕ) → is_fielded_mode n ≡ false → Own n (depth_through 0 done) held → brackets_of done ≡ Some st → IsTied (field_state [] done (bracket_openers st) (plain n) held) (scanned done n held) st
+tied_plain n done st held other own stack = record { stack = stack; flat_is = (plain_mode n done (bracket_openers st) 0 held other).0; own = own }
 
 -- a piece that is closed
-pub tied_fresh : (done : List Piece) (p : Piece) (st : List Bracket) → is_opener p ≡ false → is_closer p ≡ false → brackets_of done ≡ Some st → IsTied (field_fresh [] (done ++ p ∷ []) (openers_of st)) (fresh (done ++ p ∷ [])) st
+pub tied_fresh : (done : List Piece) (p : Piece) (st : List Bracket) → is_opener p ≡ false → is_closer p ≡ false → brackets_of done ≡ Some st → IsTied (field_fresh [] (done ++ p ∷ []) (bracket_openers st)) (fresh (done ++ p ∷ [])) st
 tied_fresh done p st no_opener no_closer stack = record { stack = keeps done p st no_opener no_closer stack; flat_is = refl; own = tt }
 
 -- what is no operator opens no bracket
@@ -118,35 +105,35 @@ module _ (done : List Piece) (c : ℕ) where
   -- the state of the machine with fields, where the other has these brackets open after it
   abbrev met_with : Option (List Bracket) → Option FieldScanned
   met_with None = None
-  met_with (Some st) = Some (field_fresh [] met (openers_of st))
+  met_with (Some st) = Some (field_fresh [] met (bracket_openers st))
 
-  operator_meets : (st : List Bracket) → met_with (brackets_after st (byte_len (spelled done)) (piece operator (c ∷ []))) ≡ roomy (not (is_opening c) || nat_lt (length (openers_of st)) 200) (after_operator [] done c (openers_with (openers_of st) c))
+  operator_meets : (st : List Bracket) → met_with (brackets_after st (byte_len (spelled done)) (piece operator (c ∷ []))) ≡ roomy (not (is_opening c) || nat_lt (length (bracket_openers st)) 200) (after_operator [] done c (openers_with (bracket_openers st) c))
   unfolding brackets_after openers_with
   operator_meets [] = grind arith
-  operator_meets (b ∷ bs) = grind (arith, openers-length bs)
+  operator_meets (b ∷ bs) = grind (arith, length-map bs (λ (b : Bracket). b.opener))
 
   met_alike : (next : Option (List Bracket)) → brackets_of met ≡ next → Alike (kept (fresh met) next) (met_with next)
   met_alike None is = tt
   met_alike (Some st) is = (st, record { stack = is; flat_is = refl; own = tt })
 
-  operator_alike : (st : List Bracket) → brackets_of done ≡ Some st → Alike (kept_if (Some (fresh met))) (roomy (not (is_opening c) || nat_lt (length (openers_of st)) 200) (after_operator [] done c (openers_with (openers_of st) c)))
+  operator_alike : (st : List Bracket) → brackets_of done ≡ Some st → Alike (kept_if (Some (fresh met))) (roomy (not (is_opening c) || nat_lt (length (bracket_openers st)) 200) (after_operator [] done c (openers_with (bracket_openers st) c)))
   operator_alike st stack = subst (Alike (kept_if (Some (fresh met)))) (ap met_with (stack_push done (piece operator (c ∷ [])) st stack) ∙ operator_meets st) (met_alike (brackets_of met) refl)
 
 -- a character that begins a piece, after pieces with these brackets open
-started_with : (done : List Piece) (st : List Bracket) (c : ℕ) (x : Start) → start_of c ≡ x → brackets_of done ≡ Some st → StartsSo c x → Alike (kept_if (started done c x)) (roomy (not (is_opening c) || nat_lt (length (openers_of st)) 200) (field_started [] done (openers_of st) c x))
+started_with : (done : List Piece) (st : List Bracket) (c : ℕ) (x : Start) → start_of c ≡ x → brackets_of done ≡ Some st → StartsSo c x → Alike (kept_if (started done c x)) (roomy (not (is_opening c) || nat_lt (length (bracket_openers st)) 200) (field_started [] done (bracket_openers st) c x))
 started_with done st c Start.Operator is stack so = operator_alike done c st stack
 started_with done st c Start.LineEnd is stack so =
-    alike_if _ _ _ st (ap (λ b. not b || nat_lt (length (openers_of st)) 200) (opens_no c Start.LineEnd is (λ e. cc))) (tied_fresh done (piece line_end (c ∷ [])) st refl refl stack)
-started_with done st c Start.Nothing is stack so = none_alike (not (is_opening c) || nat_lt (length (openers_of st)) 200)
+    alike_if _ _ _ st (ap (λ b. not b || nat_lt (length (bracket_openers st)) 200) (opens_no c Start.LineEnd is (λ e. cc))) (tied_fresh done (piece line_end (c ∷ [])) st refl refl stack)
+started_with done st c Start.Nothing is stack so = none_alike (not (is_opening c) || nat_lt (length (bracket_openers st)) 200)
 started_with done st c (Start.Open n) is stack so =
-    alike_if _ _ _ st (ap (λ b. not b || nat_lt (length (openers_of st)) 200) (opens_no c (Start.Open n) is (λ e. cc))) (tied_plain n done st (c ∷ []) (begun_plain n so).0 (begun_plain n so).1 stack)
+    alike_if _ _ _ st (ap (λ b. not b || nat_lt (length (bracket_openers st)) 200) (opens_no c (Start.Open n) is (λ e. cc))) (tied_plain n done st (c ∷ []) (begun_plain n so).0 (begun_plain n so).1 stack)
   where
     begun_plain : (m : Mode) → StartsSo c (Start.Open m) → (is_fielded_mode m ≡ false) × Own m (depth_through 0 done) (c ∷ [])
     begun_plain (Mode.Word w) s = (refl, (c, [], refl, s.0, refl, s.1))
     begun_plain m s = grind arith
 
 -- a character begins a piece in both machines, after what was open
-broken : (done : List Piece) (st : List Bracket) (c : ℕ) → brackets_of done ≡ Some st → Alike (kept_if (started done c (start_of c))) (roomy (has_room_at (length (openers_of st) + 0) c breaks) (field_started [] done (openers_of st) c (start_of c)))
+broken : (done : List Piece) (st : List Bracket) (c : ℕ) → brackets_of done ≡ Some st → Alike (kept_if (started done c (start_of c))) (roomy (has_room_at (length (bracket_openers st) + 0) c breaks) (field_started [] done (bracket_openers st) c (start_of c)))
 unfolding has_room_at
 broken done st c stack = rw add-zero (started_with done st c (start_of c) refl stack (starts_so c))
 
@@ -211,7 +198,7 @@ module _ (done : List Piece) (held : List ℕ) (st : List Bracket) (c : ℕ) (st
   S m = scanned done m held
 
   abbrev T : FieldMode → FieldScanned
-  T n = field_state [] done (openers_of st) n held
+  T n = field_state [] done (bracket_openers st) n held
 
   abbrev depth : ℕ
   depth = depth_through 0 done
@@ -229,7 +216,7 @@ module _ (done : List Piece) (held : List ℕ) (st : List Bracket) (c : ℕ) (st
   by_moves : (m : Mode) (n : FieldMode) (v : Move) (w : FieldMove) → move_at (S m) c ≡ v → field_move n held c ≡ w → EndsAlike (S m) (T n) c w → Alike (kept_if (moved (S m) c v)) (roomy (has_room_at (frames (T n)) c w) (field_moved (T n) c w)) → StepsAlike (S m) (T n) c
   by_moves m n v w one two ends alike = record { alike = rw (one, two) alike; ends = λ outside h. ends (sym two ∙ h) }
 
-  grows_to : (m : Mode) (n : FieldMode) (after : Mode) (next : FieldMode) → move_at (S m) c ≡ Move.Grows after → field_move n held c ≡ grows next → IsTied (field_state [] done (openers_of st) next (held ++ c ∷ [])) (scanned done after (held ++ c ∷ [])) st → StepsAlike (S m) (T n) c
+  grows_to : (m : Mode) (n : FieldMode) (after : Mode) (next : FieldMode) → move_at (S m) c ≡ Move.Grows after → field_move n held c ≡ grows next → IsTied (field_state [] done (bracket_openers st) next (held ++ c ∷ [])) (scanned done after (held ++ c ∷ [])) st → StepsAlike (S m) (T n) c
   grows_to m n after next one two tied = by_moves m n (Move.Grows after) (grows next) one two (λ k. absurd (cc)) (alike_if _ _ _ st (room_grows (frames (T n)) c next) tied)
 
   -- a string that has just got some text
@@ -237,13 +224,13 @@ module _ (done : List Piece) (held : List ℕ) (st : List Bracket) (c : ℕ) (st
   begins_body m n next one two goes stays =
       let on = alone_grows depth held c _ next goes two in
       grows_to m n Mode.Fielded next one two
-      (record { stack = stack; flat_is = ap (rebased_if done (openers_of st)) on.steps; own = record { state = field_state [] [] [] next (held ++ c ∷ []); goes = on; inside = λ is. stays; bare = refl } })
+      (record { stack = stack; flat_is = ap (rebased_if done (bracket_openers st)) on.steps; own = record { state = field_state [] [] [] next (held ++ c ∷ []); goes = on; inside = λ is. stays; bare = refl } })
 
   -- where no word and no string with fields is open
   pub plain_steps : (m : Mode) → is_word_mode m ≡ false → move_at (S m) c ≡ meet_of m c → meet_of m c ≡ move_of m c → begins_host m held c ≡ false → StepsAlike (S m) (T (plain m)) c
   plain_steps m word at meets other =
       by_moves m (plain m) (move_of m c) (plain_move (move_of m c)) (at ∙ meets) (plain_moves m held c other) (λ h. (meets ∙ (grind arith), refl))
-      (plain_moved m (move_of m c) refl (λ n is. (plain_mode n done (openers_of st) depth (held ++ c ∷ []) (subst IsOpenAfter is (open_after m c))).1 (subst (NoWord (class_of m)) is (no_word m c word)).0))
+      (plain_moved m (move_of m c) refl (λ n is. (plain_mode n done (bracket_openers st) depth (held ++ c ∷ []) (subst IsOpenAfter is (open_after m c))).1 (subst (NoWord (class_of m)) is (no_word m c word)).0))
 
   -- a word
   module _ (s : Spelling) (own : Holds (Mode.Word s) [] held) where

@@ -9,8 +9,9 @@ use Rattle.py_lines.specs.Balance.{depth_through}
 use Rattle.py_lines.specs.Fields.{AreReadBefore, Fields, ShallowFields}
 use Rattle.py_lines.specs.LogicalLine.{first_or_zero}
 use Rattle.py_lines.specs.Private.Machine.{Mode, Scanned, text_start, closed, move_of, is_final, Bracket, brackets_of}
-use Rattle.py_lines.specs.Private.FieldMachine.{FieldScanned, field_state, field_text_start, field_pieces, openers_through, may_end, field_step, field_steps_from, has_room, have_room}
+use Rattle.py_lines.specs.Private.FieldMachine.{FieldScanned, field_state, field_text_start, field_pieces, openers_through, may_end, field_step, field_steps_from, has_room, have_room, roomy}
 use Rattle.py_lines.specs.Private.ScanMachine.{meet_of, move_at, StringsFit, scan_step, scan_steps}
+use Rattle.py_lines.specs.Private.FieldScan.{bracket_openers}
 use Rattle.py_lines.proofs.Pieces.OpenBrackets.{StandsAt, level, inside, stands}
 use Rattle.py_lines.proofs.Pieces.ShallowPieces.{shallow_both, fits_reading}
 use Rattle.py_lines.proofs.Machine.PieceSteps.{pieces_at}
@@ -20,9 +21,9 @@ use Rattle.py_lines.proofs.FieldMachine.ListBrackets.{openers_through-append, op
 use Rattle.py_lines.proofs.FieldMachine.Completeness.{passed_shallow, begin_shallow, shallow_run, reached}
 use Rattle.py_lines.proofs.ScanMachine.Steps.{StopsBefore}
 use Rattle.py_lines.proofs.ScanMachine.Rebased.{none_based}
-use Rattle.py_lines.proofs.ScanMachine.Follows.{openers_of, flat, Own, IsTied, some_is, roomy, Alike}
+use Rattle.py_lines.proofs.ScanMachine.Follows.{flat, Own, IsTied, some_is, Alike}
 use Rattle.py_lines.proofs.ScanMachine.Runs.{tied_step}
-use Rattle.py_lines.proofs.ScanMachine.Soundness.{start_tied, comes_along, ends_sound}
+use Rattle.py_lines.proofs.ScanMachine.Soundness.{start_tied, comes_along, end_sound}
 use Rattle.py_lines.specs.Reading.{IsBalancedReading}
 use Rattle.py_lines.specs.Faults.{IsLive}
 use Rattle.py_lines.proofs.Machine.LiveTexts.{stack_closed}
@@ -37,7 +38,7 @@ pub record GoesAlong (from : Scanned) (cs : List ℕ) (t : FieldScanned) : Type 
   pub tied : IsTied t state brackets
 
 -- where the machine with fields takes a character, the scanning machine takes it too
-scan_takes : (o : Option Scanned) (f : FieldScanned) → Alike (kept_if o) (Some f) → (n : Scanned) × (st : List Bracket) × (o ≡ Some n) × IsTied f n st
+pub scan_takes : (o : Option Scanned) (f : FieldScanned) → Alike (kept_if o) (Some f) → (n : Scanned) × (st : List Bracket) × (o ≡ Some n) × IsTied f n st
 scan_takes None f tie = absurd tie
 scan_takes (Some n) f alike = by (brackets_of n.done) alike
   where
@@ -70,7 +71,7 @@ runs_live cs s st to =
 -- a run to an end at which no bracket is open is a reading
 pub reading_at : (cs : List ℕ) (s : Scanned) → RunsTo cs s [] → is_final s.mode ≡ true → IsBalancedReading (pieces_at s) cs
 reading_at cs s to may =
-    let ends = ends_sound cs s [] to may in
+    let ends = end_sound Mode.Start cs s [] (comes_along cs s [] to) may in
     let level = fits_reading (pieces_at s) (stack_closed s.mode s.done s.held [] to.stack) ends.strings in
     record { reads = record { spell = ends.spell; fit = ends.fit }; balanced = level.0; shallow = level.1 }
 
@@ -79,11 +80,11 @@ pub same_state : (cs : List ℕ) (s t : Scanned) → scan_steps (Some text_start
 same_state cs s t one two = cc
 
 -- the brackets that are open after pieces, in both machines
-stack_openers : (ps : List Piece) (st : List Bracket) → StandsAt st ps → openers_through (Some []) ps ≡ Some (openers_of st)
-stack_openers ps st (level _ _ empty within) = balanced_openers ps within [] ∙ ap (λ (bs : List Bracket). Some (openers_of bs)) (sym empty)
+stack_openers : (ps : List Piece) (st : List Bracket) → StandsAt st ps → openers_through (Some []) ps ≡ Some (bracket_openers st)
+stack_openers ps st (level _ _ empty within) = balanced_openers ps within [] ∙ ap (λ (bs : List Bracket). Some (bracket_openers bs)) (sym empty)
 stack_openers ps st (inside _ _ b others outer inner a is spell out opens kind place within) =
     rw (spell, is, openers_through-append (Some []) outer (a ∷ inner), stack_openers outer others out, kind)
-    (ap (λ o. openers_through o inner) (opener_pushes (openers_of others) a.class a.text opens) ∙ balanced_openers inner within (first_or_zero a.text ∷ openers_of others))
+    (ap (λ o. openers_through o inner) (opener_pushes (bracket_openers others) a.class a.text opens) ∙ balanced_openers inner within (first_or_zero a.text ∷ bracket_openers others))
 
 -- where the machine with fields may end, in no field, the other may, and has found the same
 final_alike : (m : Mode) (done : List Piece) (held os : List ℕ) (t : FieldScanned) → flat m done os held ≡ Some t → Own m (depth_through 0 done) held → t.outer ≡ [] → may_end t.mode ≡ true → (is_final m ≡ true) × (field_pieces t ≡ closed m done held)
@@ -93,7 +94,7 @@ final_alike m done held os t is own none ends = (ap (λ (x : FieldScanned). may_
 
 -- so before any rest
 stops_alike : (rest : List ℕ) (t : FieldScanned) (s : Scanned) (st : List Bracket) → IsTied t s st → t.outer ≡ [] → StopsAt t.mode t.held rest → StopsBefore s.mode rest × (field_pieces t ≡ pieces_at s)
-stops_alike [] t s st tied none stops = final_alike s.mode s.done s.held (openers_of st) t tied.flat_is tied.own none stops
+stops_alike [] t s st tied none stops = final_alike s.mode s.done s.held (bracket_openers st) t tied.flat_is tied.own none stops
 stops_alike (c ∷ cs) t s st tied none stops = (tied_step t s st c tied).ends none stops
 
 -- the machine goes through a text from its start, finds these pieces, and may stop before the rest
@@ -111,8 +112,8 @@ reach [] st rest fit stack strings = record { to = text_start; steps = refl; pie
 reach (p ∷ ps) st rest fit stack strings =
     let at = stands (p ∷ ps) st stack in
     let shallow = passed_shallow ShallowFields 0 (p ∷ ps) (shallow_both 0 (p ∷ ps) at.shallow strings) in
-    let found = reached BelowLimit ShallowFields begin_shallow shallow_run Fields (p ∷ ps) (openers_of st) rest fit shallow (stack_openers (p ∷ ps) st at.at) tt in
-    let t : FieldScanned = field_state [] found.done (openers_of st) found.mode found.held in
+    let found = reached BelowLimit ShallowFields begin_shallow shallow_run Fields (p ∷ ps) (bracket_openers st) rest fit shallow (stack_openers (p ∷ ps) st at.at) tt in
+    let t : FieldScanned = field_state [] found.done (bracket_openers st) found.mode found.held in
     let along = goes_along (spelled (p ∷ ps)) text_start [] field_text_start t start_tied (steps_of BelowLimit field_text_start t (spelled (p ∷ ps)) found.goes) (room_of field_text_start t (spelled (p ∷ ps)) found.goes) in
     let alike = stops_alike rest t along.state along.brackets along.tied refl found.stops in
     record { to = along.state; steps = along.goes.run; pieces_are = sym alike.1 ∙ found.pieces_are; stops = λ begin. alike.0 }

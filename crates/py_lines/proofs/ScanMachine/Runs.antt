@@ -1,12 +1,14 @@
 -- In a string with fields the two machines go alike too, so they do through every text.
 use Rattle.std.proofs.Common.{◌≡◌, ℕ, ◌+◌, Bool, true, false, Option, None, Some, List, [], ◌∷◌, ◌++◌, length, inl, inr, ◌⊎◌, ⊎_elim, refl, sym, ap, ◌∙◌, subst, arith}
 use Rattle.std.specs.Prelude.{if◌then◌else◌}
+use Rattle.std.proofs.lemmas.List.{length-map}
 use Rattle.py_lines.specs.Piece.{string, Piece, spelled}
 use Rattle.py_lines.specs.Balance.{depth_through}
 use Rattle.py_lines.specs.FieldStrings.{Host, Place}
 use Rattle.py_lines.specs.Private.Machine.{Mode, Move, Scanned, fresh, moved, Bracket, brackets_of}
-use Rattle.py_lines.specs.Private.FieldMachine.{At, FieldMode, FieldMove, grows, closes, breaks, Level, FieldScanned, field_fresh, field_text_start, field_class_of, field_move, field_step, frames, has_room, has_room_at, text_place, before}
+use Rattle.py_lines.specs.Private.FieldMachine.{At, FieldMode, FieldMove, grows, closes, breaks, Level, FieldScanned, field_fresh, field_text_start, field_class_of, field_move, field_step, frames, has_room, has_room_at, text_place, before, roomy}
 use Rattle.py_lines.specs.Private.ScanMachine.{meet_of, string_move, has_room_in, fielded_move, move_at, IsInString}
+use Rattle.py_lines.specs.Private.FieldScan.{bracket_openers}
 use Rattle.py_lines.proofs.Pieces.PieceLists.{piece}
 use Rattle.py_lines.proofs.Pieces.OpenBrackets.{stands}
 use Rattle.py_lines.proofs.Machine.PieceSteps.{scanned}
@@ -17,7 +19,7 @@ use Rattle.py_lines.proofs.ScanMachine.Rebased.{rebased, rebased_in, rebased_if,
 use Rattle.py_lines.proofs.ScanMachine.Rooms.{GoesAlone, alone_more}
 use Rattle.py_lines.proofs.ScanMachine.BodyMoves.{IsBodyMode, StaysBody, KeepsString, moved_inside, InStringIf}
 use Rattle.py_lines.proofs.FieldScans.Moves.{BodyMoved, body_moved}
-use Rattle.py_lines.proofs.ScanMachine.Follows.{openers_of, openers-length, flat, IsAlone, Own, IsTied, roomy, Alike, alike_kept, some_is, tied_fresh, StepsAlike, plain_steps, word_steps, opened_steps, empty_steps}
+use Rattle.py_lines.proofs.ScanMachine.Follows.{flat, IsAlone, Own, IsTied, Alike, alike_kept, some_is, tied_fresh, StepsAlike, plain_steps, word_steps, opened_steps, empty_steps}
 
 -- what comes of a move that does not end the string
 abbrev goes_or_not : Option FieldScanned → Move
@@ -45,7 +47,7 @@ module _ (done : List Piece) (held : List ℕ) (st : List Bracket) (c : ℕ) (st
   S = scanned done Mode.Fielded held
 
   abbrev os : List ℕ
-  os = openers_of st
+  os = bracket_openers st
 
   abbrev T : FieldScanned
   T = rebased done os t
@@ -54,7 +56,7 @@ module _ (done : List Piece) (held : List ℕ) (st : List Bracket) (c : ℕ) (st
   v = field_move t.mode t.held c
 
   deep : depth_through 0 done ≡ length os
-  deep = (stands done st stack).depth ∙ sym (openers-length st)
+  deep = (stands done st stack).depth ∙ sym (length-map st (λ (b : Bracket). b.opener))
 
   body_at : IsBodyMode t.mode → StaysBody v
   body_at (host, place, named, at, is) = subst (λ (m : FieldMode). StaysBody (field_move m t.held c)) (sym is) (body_stays host place named at c _ (body_moved host place named at t.held c))
@@ -120,13 +122,13 @@ module _ (done : List Piece) (held : List ℕ) (st : List Bracket) (c : ℕ) (st
       go false room = no_room room
 
 -- one character, wherever the two machines stand together
-tied_mode : (m : Mode) (done : List Piece) (held : List ℕ) (st : List Bracket) (t : FieldScanned) (c : ℕ) → brackets_of done ≡ Some st → flat m done (openers_of st) held ≡ Some t → Own m (depth_through 0 done) held → StepsAlike (scanned done m held) t c
+tied_mode : (m : Mode) (done : List Piece) (held : List ℕ) (st : List Bracket) (t : FieldScanned) (c : ℕ) → brackets_of done ≡ Some st → flat m done (bracket_openers st) held ≡ Some t → Own m (depth_through 0 done) held → StepsAlike (scanned done m held) t c
 unfolding meet_of
 tied_mode (Mode.Word s) done held st t c stack is own = subst (λ x. StepsAlike (scanned done (Mode.Word s) held) x c) (some_is _ t is) (word_steps done held st c stack s own)
 tied_mode (Mode.FieldOpened h) done held st t c stack is own = subst (λ x. StepsAlike (scanned done (Mode.FieldOpened h) held) x c) (some_is _ t is) (opened_steps done held st c stack h own)
 tied_mode (Mode.FieldEmpty h) done held st t c stack is own = subst (λ x. StepsAlike (scanned done (Mode.FieldEmpty h) held) x c) (some_is _ t is) (empty_steps done held st c stack h own)
 tied_mode Mode.Fielded done held st t c stack is own =
-    subst (λ x. StepsAlike (scanned done Mode.Fielded held) x c) (some_is (rebased done (openers_of st) own.state) t (sym (ap (rebased_if done (openers_of st)) own.goes.steps) ∙ is))
+    subst (λ x. StepsAlike (scanned done Mode.Fielded held) x c) (some_is (rebased done (bracket_openers st) own.state) t (sym (ap (rebased_if done (bracket_openers st)) own.goes.steps) ∙ is))
     (fielded_steps done held st c stack own.state own.goes own.inside own.bare)
 tied_mode m done held st t c stack is own = subst (λ x. StepsAlike (scanned done m held) x c) (some_is _ t is) (plain_steps done held st c stack m refl refl refl refl)
 

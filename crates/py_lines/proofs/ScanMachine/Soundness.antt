@@ -6,32 +6,28 @@ use Rattle.py_lines.specs.Piece.{Piece, spelled}
 use Rattle.py_lines.specs.Balance.{depth_through}
 use Rattle.py_lines.specs.Fields.{AreReadBefore}
 use Rattle.py_lines.specs.Private.Machine.{Mode, Move, Start, Scanned, text_start, closed, started, moved, start_of, is_final, Bracket, brackets_of}
-use Rattle.py_lines.specs.Private.FieldMachine.{FieldMode, plain, opened, empty, Level, FieldScanned, field_state, field_text_start, field_step, field_steps_from, frames, has_room, have_room}
-use Rattle.py_lines.specs.Private.ScanMachine.{host_in, move_at, scan_step, scan_steps, IsBare, HoldsOpen, StringsFit, IsScanSound}
-use Rattle.py_lines.specs.Private.Scan.{line_start}
+use Rattle.py_lines.specs.Private.FieldMachine.{FieldMode, plain, opened, empty, Level, FieldScanned, field_state, field_text_start, field_step, field_steps_from, frames, has_room, have_room, roomy}
+use Rattle.py_lines.specs.Private.ScanMachine.{host_in, move_at, scan_step, scan_steps, IsBare, HoldsOpen, StringsFit, IsScanSound, line_begun, line_start}
+use Rattle.py_lines.specs.Private.FieldScan.{bracket_openers}
 use Rattle.py_lines.proofs.Pieces.ShallowPieces.{strings_shallow}
 use Rattle.py_lines.proofs.Machine.Starts.{StartsSo, starts_so}
 use Rattle.py_lines.proofs.Machine.EarlierPieces.{stack_at}
 use Rattle.py_lines.proofs.Machine.PieceSteps.{scanned, pieces_at}
-use Rattle.py_lines.proofs.FieldSoundness.Holds.{HoldsMode, AtStart, IsFieldSound}
+use Rattle.py_lines.proofs.FieldSoundness.Holds.{Limit, HoldsMode, AtStart, IsFieldSound}
 use Rattle.py_lines.proofs.FieldSoundness.Lists.{FieldSoundIf}
 use Rattle.py_lines.proofs.FieldSoundness.HostSteps as field_soundness
-use Rattle.py_lines.proofs.FieldSoundness.WholeTexts.{EndsList, list_ends, two_hundred, room_at}
+use Rattle.py_lines.proofs.FieldSoundness.WholeTexts.{list_ends, two_hundred, room_at}
 use Rattle.py_lines.proofs.FieldSoundness.LiveTexts.{steps-append, room-append}
 use Rattle.py_lines.proofs.ScanMachine.Advance.{kept, kept_if, GoesTo, RunsTo, first_state}
 use Rattle.py_lines.proofs.ScanMachine.Rebased.{based, rebased_in}
-use Rattle.py_lines.proofs.ScanMachine.Follows.{openers_of, flat, Own, IsTied, roomy, Alike, some_is}
+use Rattle.py_lines.proofs.ScanMachine.Follows.{flat, Own, IsTied, Alike, some_is}
 use Rattle.py_lines.proofs.ScanMachine.Runs.{tied_step}
-
--- the machine with fields where a line begins in this mode
-abbrev pub field_start : Mode → FieldScanned
-field_start m = field_state [] [] [] (plain m) []
 
 -- both machines have come to states that belong together, and are sound there
 pub record StandsSound (m : Mode) (read : List ℕ) (s : Scanned) (st : List Bracket) : Type 0 where
   pub state : FieldScanned
-  pub steps : field_steps_from (Some (field_start m)) read ≡ Some state
-  pub room : have_room (Some (field_start m)) read ≡ true
+  pub steps : field_steps_from (Some (line_begun m)) read ≡ Some state
+  pub room : have_room (Some (line_begun m)) read ≡ true
   pub tied : IsTied state s st
   pub field : IsFieldSound two_hundred state read
   pub scan : IsScanSound s read
@@ -125,11 +121,11 @@ run_sound m (c ∷ cs) s read st here u last to =
     let field : IsFieldSound two_hundred f (read ++ c ∷ []) = subst (λ o. FieldSoundIf two_hundred o (read ++ c ∷ [])) is next in
     let here_next : StandsSound m (read ++ c ∷ []) n first = record {
       state = f;
-      steps = steps-append (Some (field_start m)) read (c ∷ []) ∙ ap (λ o. field_steps_from o (c ∷ [])) here.steps ∙ ap (λ o. field_steps_from o []) is;
-      room = room-append (Some (field_start m)) read (c ∷ []) t here.steps here.room (and_from _ _ room (ap (λ o. have_room o []) is));
+      steps = steps-append (Some (line_begun m)) read (c ∷ []) ∙ ap (λ o. field_steps_from o (c ∷ [])) here.steps ∙ ap (λ o. field_steps_from o []) is;
+      room = room-append (Some (line_begun m)) read (c ∷ []) t here.steps here.room (and_from _ _ room (ap (λ o. have_room o []) is));
       tied = tied;
       field = field;
-      scan = next_sound s read c here.scan n.mode n.done n.held (openers_of first) f (subst (Stays s c) taken (moved_stays s c (move_at s c))) tied.flat_is tied.own field;
+      scan = next_sound s read c here.scan n.mode n.done n.held (bracket_openers first) f (subst (Stays s c) taken (moved_stays s c (move_at s c))) tied.flat_is tied.own field;
     } in
     subst (λ x. StandsSound m x u last) (append_assoc read (c ∷ []) cs) (run_sound m cs n (read ++ c ∷ []) first here_next u last on)
 
@@ -138,25 +134,34 @@ not_empty : (xs : List ℕ) (y : ℕ) (ys : List ℕ) → [] ≡ xs ++ y ∷ ys 
 not_empty [] y ys h = cc
 not_empty (x ∷ xs) y ys h = cc
 
+pub from_start : (P : Mode → Type 0) (m : Mode) → HoldsOpen m [] [] → P Mode.Start → P Mode.Free → P m
+from_start P Mode.Start holds first other = first
+from_start P Mode.Free holds first other = other
+from_start P Mode.Space holds first other = absurd (grind (arith, not_empty))
+from_start P m holds first other = absurd (grind (arith, not_empty))
+
+pub begun_field : (limit : Limit) (m : Mode) → HoldsOpen m [] [] → IsFieldSound limit (line_begun m) []
+begun_field limit m holds =
+    let start = field_soundness.start_is_sound limit in
+    from_start (λ n. IsFieldSound limit (line_begun n) []) m holds start
+    (record { spell = refl; mode = (refl, λ at. absurd (cc)); list = start.list; levels = tt; start = tt })
+
 pub start_tied : IsTied field_text_start text_start []
 start_tied = record { stack = refl; flat_is = refl; own = tt }
 
-start_sound : (m : Mode) → HoldsOpen m [] [] → IsScanSound (line_start m) [] → StandsSound m [] (line_start m) []
-start_sound Mode.Start holds start = record { state = field_text_start; steps = refl; room = refl; tied = start_tied; field = field_soundness.start_is_sound two_hundred; scan = start }
-start_sound Mode.Free holds start = record {
-  state = field_start Mode.Free;
+start_sound : (m : Mode) → IsScanSound (line_start m) [] → StandsSound m [] (line_start m) []
+start_sound m start = record {
+  state = line_begun m;
   steps = refl;
   room = refl;
-  tied = record { stack = refl; flat_is = refl; own = tt };
-  field = record { spell = refl; mode = (refl, λ at. absurd (cc)); list = (field_soundness.start_is_sound two_hundred).list; levels = tt; start = tt };
+  tied = from_start (λ n. IsTied (line_begun n) (line_start n) []) m start.holds start_tied (record { stack = refl; flat_is = refl; own = tt });
+  field = begun_field two_hundred m start.holds;
   scan = start;
 }
-start_sound Mode.Space holds start = absurd (grind (arith, not_empty))
-start_sound m holds start = absurd (grind (arith, not_empty))
 
 -- where the machine goes to from a line's start is sound
 pub stands_sound : (m : Mode) (cs : List ℕ) (s : Scanned) (st : List Bracket) → IsScanSound (line_start m) [] → GoesTo (line_start m) cs s st → StandsSound m cs s st
-stands_sound m cs s st start to = run_sound m cs (line_start m) [] [] (start_sound m start.holds start) s st to
+stands_sound m cs s st start to = run_sound m cs (line_start m) [] [] (start_sound m start) s st to
 
 -- and from the text's
 pub start_is_sound : IsScanSound text_start []
@@ -174,17 +179,12 @@ pub record EndsSound (s : Scanned) (read : List ℕ) : Type 0 where
   pub fit : AreReadBefore (pieces_at s) []
   pub strings : StringsFit 0 (pieces_at s)
 
-ends_as : (m : Mode) (done : List Piece) (os held read : List ℕ) → EndsList two_hundred [] os (closed m done held) (spelled done ++ held) → spelled done ++ held ≡ read → EndsSound (scanned done m held) read
-ends_as m done os held read ends spell = record { spell = ends.spell ∙ spell; fit = ends.fit; strings = strings_shallow 0 (closed m done held) ends.passes }
-
 ends_in : (m : Mode) (done : List Piece) (os held read : List ℕ) (t : FieldScanned) → flat m done os held ≡ Some t → IsFieldSound two_hundred t read → is_final m ≡ true → EndsSound (scanned done m held) read
 ends_in Mode.Fielded done os held read t is field may = absurd (both_ways _ refl may)
 ends_in m done os held read t is field may =
     let own = field_as t _ read is field in
-    ends_as m done os held read (list_ends two_hundred [] done os _ held read own may) own.spell
+    let ends = list_ends two_hundred [] done os _ held read own may in
+    record { spell = ends.spell ∙ own.spell; fit = ends.fit; strings = strings_shallow 0 (closed m done held) ends.passes }
 
 pub end_sound : (m : Mode) (read : List ℕ) (s : Scanned) (st : List Bracket) → StandsSound m read s st → is_final s.mode ≡ true → EndsSound s read
-end_sound m read s st here may = ends_in s.mode s.done (openers_of st) s.held read here.state here.tied.flat_is here.field may
-
-pub ends_sound : (cs : List ℕ) (s : Scanned) (st : List Bracket) → RunsTo cs s st → is_final s.mode ≡ true → EndsSound s cs
-ends_sound cs s st to may = end_sound Mode.Start cs s st (comes_along cs s st to) may
+end_sound m read s st here may = ends_in s.mode s.done (bracket_openers st) s.held read here.state here.tied.flat_is here.field may

@@ -4,7 +4,6 @@ use Rattle.std.specs.Prelude.{codes, encode_utf8, encode_utf8_all}
 use Rattle.std.specs.Str.{all_scalars}
 use Rattle.std.specs.List.{list_all}
 use Rattle.std.proofs.lemmas.Bool.{and_from, and_parts, both_ways, cases_lt, false_from_ne_true, or_parts}
-use Rattle.std.proofs.lemmas.Bool.Decides.{nat_tests}
 use Rattle.py_lines.specs.Character.{is_break, is_line_feed, is_operator, is_quote, is_return, is_space, is_word_character}
 use Rattle.py_lines.specs.Piece.{operator, line_end, Piece, ends}
 use Rattle.py_lines.specs.Balance.{depth_through, is_opening, is_closing}
@@ -27,13 +26,12 @@ use Rattle.py_lines.proofs.Machine.Starts.{start-word, start-space, start-operat
 use Rattle.py_lines.proofs.Machine.PieceSteps.{scanned, pieces_at, steps_by-append}
 use Rattle.py_lines.proofs.Machine.LiveTexts.{keeps, stack_closed}
 use Rattle.py_lines.proofs.ScanMachine.Steps.{begun as scan_begun}
-use Rattle.py_lines.proofs.LineScan.BracketStack.{keeps_at}
 use Rattle.py_lines.proofs.LineScan.LineCount.{EndsNoLine-push, line_ends-step, ends-last}
-use Rattle.py_lines.proofs.Pieces.OpenBrackets.{stack_push}
+use Rattle.py_lines.proofs.Pieces.OpenBrackets.{stack_push, other_keeps}
 use Rattle.py_lines.proofs.LineScan.NextCharacter.{closed_one_line, depth_none, none_level}
 use Rattle.py_lines.proofs.LineScan.PieceEnd.{closed_text}
 use Rattle.py_lines.proofs.LineScan.Runs.{break_low, ends-run, line_ends-run, space_low, stays-no_break}
-use Rattle.py_lines.proofs.LineScan.AsciiRuns.{word_byte_continues, word_byte_low, ascii_scalar, operator-no_break, word_starts, space-not-quote}
+use Rattle.py_lines.proofs.LineScan.AsciiRuns.{word_byte_continues, word_byte_low, ascii_scalar, operator-no_break, word_starts, space-not-quote, space-no_word}
 use Rattle.py_lines.proofs.LineScan.TextSteps.{begun_sound}
 use Rattle.py_lines.proofs.SimpleLines.Tails.{apart_tail, come_sound, free_closed, free_goes_on, no_tail, no_tail_with, stands, tail_on-append, tail_push}
 use Rattle.py_lines.proofs.Lexings.LineEnds.{feed_unreturned, return_returns}
@@ -54,16 +52,9 @@ pub break-apart : (c : ℕ) → is_break c ≡ true → stands_in_code c ≡ fal
 unfolding is_ascii_word is_break is_quote is_space
 break-apart c is = none_of stands_in_code (codes "\n\r") c refl is
 
-word-not-space : (c : ℕ) → is_ascii_word c ≡ true → is_space c ≡ false
-unfolding is_ascii_word is_space
-word-not-space c h = grind (arith, nat_tests)
-
 pub quote-not-space : (c : ℕ) → is_quote c ≡ true → is_space c ≡ false
 unfolding is_quote is_space
 quote-not-space c h = none_of is_space (codes "'\"") c refl h
-
-space-no-word : (c : ℕ) → is_space c ≡ true → is_ascii_word c ≡ false
-space-no-word c is = excluded is_space is_ascii_word c (word-not-space c) is
 
 -- more characters, which end no line
 pub holds_more : (read run : List ℕ) (n : ℕ) → HoldsLineEnds read n → all_scalars run ≡ true → list_all (λ d. not (is_break d)) run ≡ true → HoldsLineEnds (read ++ run) n
@@ -352,21 +343,21 @@ word_next rest initial read n st c is on = ⊎_elim
     (λ ends.
     goes_after initial read n st c (scanned (pieces initial read n st c ends.1) (modes.Word (first_spelling c)) (c ∷ [])) (word-not-break c is)
     (opens initial read n st c ends.1 (modes.Word (first_spelling c)) (start-word c (word_starts c is)) (holds (ends.1).come.holds)) (rw (ends.0, is) refl))
-    (word_or_ends rest initial read n st c (rw is refl) (word-not-space c is) on)
+    (word_or_ends rest initial read n st c (rw is refl) (excluded is_ascii_word is_space c (space-no_word c) is) on)
   where
     holds : HoldsLineEnds read n → HoldsLineEnds (read ++ c ∷ []) n
     holds before = holds_one read c n before (word_byte_low c is) (word-not-break c is)
 
 -- a space
 space-not-word : (c : ℕ) → is_space c ≡ true → is_word_character c ≡ false
-space-not-word c is = word_byte_continues c (space_low c is) ∙ space-no-word c is
+space-not-word c is = word_byte_continues c (space_low c is) ∙ space-no_word c is
 
 space-not-break : (c : ℕ) → is_space c ≡ true → is_break c ≡ false
 space-not-break c is = stays-no_break modes.Space c is
 
 space_after : (initial : Mode) (read : List ℕ) (n : ℕ) (st : List Bracket) (c : ℕ) → is_space c ≡ true → (done : List Piece) (held : List ℕ) → HasCome initial (read ++ c ∷ []) n st (scanned done modes.Space held) → GoesOnAfter initial (read ++ c ∷ []) n st
 space_after initial read n st c is done held come =
-    goes_after initial read n st c _ (space-not-break c is) come (apart_tail (tail_with (tail_of read) c) modes.Space refl (no_tail_with (tail_of read) c (space-no-word c is)))
+    goes_after initial read n st c _ (space-not-break c is) come (apart_tail (tail_with (tail_of read) c) modes.Space refl (no_tail_with (tail_of read) c (space-no_word c is)))
 
 space_opens : (initial : Mode) (read : List ℕ) (n : ℕ) (st : List Bracket) (c : ℕ) → is_space c ≡ true → EndsBefore c initial read n st → GoesOnAfter initial (read ++ c ∷ []) n st
 space_opens initial read n st c is on =
@@ -383,7 +374,7 @@ space_next : (rest : List ℕ) (initial : Mode) (read : List ℕ) (n : ℕ) (st 
 space_next rest initial read n st c is (inr on) = space_opens initial read n st c is on
 space_next rest initial read n st c is (inl on) = ⊎_elim
     (λ grows. space_after initial read n st c is on.state.done (on.state.held ++ c ∷ []) (grown modes.Space c on.come grows (holds_one read c n on.come.holds (space_low c is) (space-not-break c is))))
-    (λ breaks. space_opens initial read n st c is (ends_at initial read n st c on breaks (λ begins. absurd (both_ways _ (rw (space-no-word c is, space-not-quote c is) refl) begins))))
+    (λ breaks. space_opens initial read n st c is (ends_at initial read n st c on breaks (λ begins. absurd (both_ways _ (rw (space-no_word c is, space-not-quote c is) refl) begins))))
     (space_or_ends on.state.mode c (tail_code (tail_of read) on.state.mode on.tail) is)
 
 -- a byte of words, a space, or an operator that is no bracket
@@ -394,7 +385,7 @@ code_next : (rest : List ℕ) (initial : Mode) (read : List ℕ) (n : ℕ) (st :
 code_next rest initial read n st c (inl word) on = word_next rest initial read n st c word on
 code_next rest initial read n st c (inr (inl space)) on = space_next rest initial read n st c space on
 code_next rest initial read n st c (inr (inr (stands, opens, closes))) on =
-    free_goes_on initial (read ++ c ∷ []) n st (operator_free c rest initial read n st st stands (keeps_at st (byte_len read) c opens closes) on)
+    free_goes_on initial (read ++ c ∷ []) n st (operator_free c rest initial read n st st stands (other_keeps st (byte_len read) (piece operator (c ∷ [])) opens closes) on)
 
 -- a run of them
 pub code_run : (passes : ℕ → Bool) (initial : Mode) (read run rest : List ℕ) (n : ℕ) (st : List Bracket) → ((c : ℕ) → passes c ≡ true → IsCodeByte c) → list_all passes run ≡ true → StandsBefore (run ++ rest) initial read n st → StandsBefore rest initial (read ++ run) n st

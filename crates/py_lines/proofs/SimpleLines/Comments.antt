@@ -16,7 +16,8 @@ use Rattle.py_lines.proofs.LineTokens.FirstCharacters.{hash_is}
 use Rattle.py_lines.proofs.FieldScans.TextLengths.{rest_is}
 use Rattle.py_lines.proofs.SimpleLines.FirstBytes.{passed_from}
 use Rattle.py_lines.proofs.SimpleLines.Code.{break-apart, code_ends, holds_one, one_unreturned, opens, pieces}
-use Rattle.py_lines.proofs.SimpleLines.Runs.{goes_on, stay_spelled}
+use Rattle.py_lines.proofs.SimpleLines.Runs.{goes_on}
+use Rattle.py_lines.proofs.LineScan.Runs.{stay_spelled}
 
 -- `#` opens a comment
 comment_opens : (initial : Mode) (read : List ℕ) (n : ℕ) (st : List Bracket) (on : EndsBefore 35 initial read n st) → IsInPieceAfter modes.Comment (record { mode = initial; done = pieces initial read n st 35 on }) (read ++ 35 ∷ []) n st

@@ -29,14 +29,6 @@ feed_found bytes within is = record {
   spell = taken_one bytes within ∙ ap (λ (c : ℕ). c ∷ []) is;
 }
 
-pub returned_found : (bytes : List ℕ) → 1 < length bytes → slice_index bytes 0 ≡ 13 → slice_index bytes 1 ≡ 10 → HasLineEnd bytes (Some 2)
-returned_found bytes within first second = record {
-  some = omega arith;
-  within = within;
-  returned = true;
-  spell = taken_two bytes within ∙ ap (λ (c : ℕ). c ∷ slice_index bytes 1 ∷ []) first ∙ ap (λ (c : ℕ). 13 ∷ c ∷ []) second;
-}
-
 pub line_end_low : (returned : Bool) → list_all is_low (line_end_of returned) ≡ true
 line_end_low true = refl
 line_end_low false = refl

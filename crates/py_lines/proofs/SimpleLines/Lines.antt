@@ -11,7 +11,7 @@ use Rattle.py_lines.specs.Balance.{is_closing, is_opening}
 use Rattle.py_lines.specs.Character.{is_operator, is_return, is_space}
 use Rattle.py_lines.specs.Piece.{ends}
 use Rattle.py_lines.specs.LogicalLine.{byte_len}
-use Rattle.py_lines.specs.declared.brackets.Brackets.{Brackets}
+use Rattle.py_lines.specs.declared.frames.Frame.{Frame}
 use Rattle.py_lines.specs.declared.marks.Marks.{Marks}
 use Rattle.py_lines.specs.declared.mode.Mode.{Mode}
 use Rattle.py_lines.specs.declared.mode.Mode.TheVariants as modes
@@ -21,10 +21,12 @@ use Rattle.py_lines.specs.declared.plain_strings.Passed.{Passed}
 use Rattle.py_lines.specs.Private.Machine.{Bracket}
 use Rattle.py_lines.specs.Private.Marks.{FindsNext, HasMarks, is_plain}
 use Rattle.py_lines.specs.Private.Run.{is_ascii_word}
-use Rattle.py_lines.specs.Private.Scan.{none_open, stack_of}
+use Rattle.py_lines.specs.Private.FieldScan.{frames_of}
+use Rattle.py_lines.specs.Private.Scan.{none_open}
 use Rattle.py_lines.specs.Private.Outline.{AreWholeLines, BeginWithLines, BeginsOuterEnd, IsLine, IsWholeLine, StandsBefore, StandsClosed, tail_of, tail_on}
-use Rattle.py_lines.specs.Private.Passing.{EndsLineSo, PassesOver, PassesSo, nothing_passed, up_to}
+use Rattle.py_lines.specs.Private.Passing.{EndsLineSo, PassesOver, PassesSo, nothing_passed}
 use Rattle.py_lines.proofs.FieldScans.TextLengths.{later}
+use Rattle.py_lines.proofs.LineScan.BracketStack.{none_framed}
 use Rattle.py_lines.proofs.LineScan.LineCount.{line_ends-bytes}
 use Rattle.py_lines.proofs.LineScan.NextCharacter.{empty_stack}
 use Rattle.py_lines.proofs.LineScan.AsciiRuns.{all_pass, low_encodes}
@@ -288,58 +290,82 @@ module _ (bytes : List ℕ) where
         length-take-le lines.len bytes past.within,
       )
 
+-- where these frames are open, which are its brackets
+pub record HasComeWith (bytes : List ℕ) (lines : Passed) (at n : ℕ) (b : List Frame) : Type 0 where
+  pub stack : List Bracket
+  pub frames : b ≡ frames_of stack
+  pub come : HasComeTo bytes lines at n stack
+
 -- the line that is open after these lines has come to this byte, which isn't plain, or the bytes end there
-pub record StandsAt (bytes : List ℕ) (lines : Passed) (at : ℕ) (p : Passing) (b : Brackets) : Type 0 where
-  pub come : HasComeTo bytes lines at p.all.line_ends (stack_of b)
+pub record StandsAt (bytes : List ℕ) (lines : Passed) (at : ℕ) (p : Passing) (b : List Frame) : Type 0 where
+  pub come : HasComeWith bytes lines at p.all.line_ends b
   pub marked : at < length bytes → HasMarks bytes (at + 1) p.marks
 
 -- it has come further than this byte, after bytes that were passed
-pub record HasComeFurther (bytes : List ℕ) (lines : Passed) (at : ℕ) (p : Passing) (b : Brackets) : Type 0 where
+pub record HasComeFurther (bytes : List ℕ) (lines : Passed) (at : ℕ) (p : Passing) (b : List Frame) : Type 0 where
   pub further : at < p.all.len
-  pub come : HasComeTo bytes lines p.all.len p.all.line_ends (stack_of b)
+  pub come : HasComeWith bytes lines p.all.len p.all.line_ends b
   pub marked : HasMarks bytes p.all.len p.marks
 
 -- from where bytes were passed to the next one that isn't plain
-pub next_at : (bytes : List ℕ) (lines : Passed) (at : ℕ) (p : Passing) (marks : Marks) (b : Brackets)
-    → HasComeTo bytes lines p.all.len p.all.line_ends (stack_of b) → FindsNext bytes p.all.len at marks
+pub next_at : (bytes : List ℕ) (lines : Passed) (at : ℕ) (p : Passing) (marks : Marks) (b : List Frame)
+    → HasComeWith bytes lines p.all.len p.all.line_ends b → FindsNext bytes p.all.len at marks
     → StandsAt bytes lines at (record p { marks = marks }) b
-next_at bytes lines at p marks b come next = record {
-  come = plain_on bytes lines p.all.len at p.all.line_ends (stack_of b) marks come next;
+next_at bytes lines at p marks b on next = record {
+  come = record {
+    stack = on.stack;
+    frames = on.frames;
+    come = plain_on bytes lines p.all.len at p.all.line_ends on.stack marks on.come next;
+  };
   marked = next.rest;
 }
 
-pub begins_at : (bytes : List ℕ) (at : ℕ) (p : Passing) (marks : Marks) (b : Brackets) → stack_of b ≡ []
+pub begins_at : (bytes : List ℕ) (at : ℕ) (p : Passing) (marks : Marks) (b : List Frame) → b ≡ []
     → p ≡ nothing_passed p.marks → FindsNext bytes 0 at marks → StandsAt bytes p.all at (record p { marks = marks }) b
 begins_at bytes at p marks b none nothing next =
     let start = sym (ap (λ (q : Passing). q.all) nothing) in
     next_at bytes p.all at p marks b
-    (subst (λ (q : Passed). HasComeTo bytes q q.len q.line_ends (stack_of b)) start (subst (HasComeTo bytes _ 0 0) (sym none) (line_begins bytes _ (none_passed bytes))))
+    (record {
+      stack = [];
+      frames = none;
+      come = subst (λ (q : Passed). HasComeTo bytes q q.len q.line_ends []) start (line_begins bytes _ (none_passed bytes));
+    })
     (subst (λ (q : Passed). FindsNext bytes q.len at marks) start next)
 
-module _ (bytes : List ℕ) (lines : Passed) (at : ℕ) (p : Passing) (b : Brackets) (on : StandsAt bytes lines at p b) where
+module _ (bytes : List ℕ) (lines : Passed) (at : ℕ) (p : Passing) (b : List Frame) (on : StandsAt bytes lines at p b) where
+  abbrev stack : List Bracket
+  stack = on.come.stack
+
   pub own_few : p.all.line_ends ≤ at
-  own_few = few_ends bytes lines at p.all.line_ends (stack_of b) on.come
+  own_few = few_ends bytes lines at p.all.line_ends stack on.come.come
 
   -- over what was passed there
-  pub goes_on : (q : Passing) (c : Brackets) → PassesSo bytes at (at - lines.len) p.all p.closed b q c → HasComeFurther bytes lines at q c
+  pub goes_on : (q : Passing) (c : List Frame) → PassesSo bytes at (at - lines.len) p.all p.closed b q c → HasComeFurther bytes lines at q c
   goes_on q c so =
       let far = passed_further bytes at (at - lines.len) p.all p.closed b q c so in
+      let (later, frames, over) = so.over stack on.come.frames in
       record {
         further = far.0;
-        come = subst (λ (x : Passing). HasComeTo bytes lines x.all.len x.all.line_ends (stack_of c)) (sym so.is)
-            (passed_on bytes lines at p.all.line_ends so.len so.more so.closes (stack_of b) (stack_of c) on.come so.over);
+        come = record {
+          stack = later;
+          frames = frames;
+          come = subst (λ (x : Passing). HasComeTo bytes lines x.all.len x.all.line_ends later) (sym so.is)
+              (passed_on bytes lines at p.all.line_ends so.len so.more so.closes stack later on.come.come over);
+        };
         marked = far.1;
       }
 
-  pub ends_line : (len : ℕ) (q : Passing) (c : Brackets) → at < length bytes → EndsLineSo bytes at p.all b len q c
+  pub ends_line : (len : ℕ) (q : Passing) (c : List Frame) → at < length bytes → EndsLineSo bytes at p.all b len q c
       → HasComeFurther bytes q.all at q c
   ends_line len q c within so =
       let size : q.all.len ≡ at + len = ap (λ (x : Passed). x.len) so.is in
       record {
         further = omega (arith, so.ends.some, size);
-        come = subst (λ (x : Passed). HasComeTo bytes x x.len x.line_ends (stack_of c)) (sym so.is)
-            (subst (λ (k : Brackets). HasComeTo bytes (up_to p.all (at + len) 1) (at + len) (p.all.line_ends + 1) (stack_of k))
-            (sym so.kept)
-            (line_end_ends_line bytes lines at p.all.line_ends len (stack_of b) on.come within so.ends so.none));
+        come = record {
+          stack = stack;
+          frames = so.kept ∙ on.come.frames;
+          come = subst (λ (x : Passed). HasComeTo bytes x x.len x.line_ends stack) (sym so.is)
+              (line_end_ends_line bytes lines at p.all.line_ends len stack on.come.come within so.ends (none_framed b stack on.come.frames so.none));
+        };
         marked = subst (λ (k : ℕ). HasMarks bytes k q.marks) (sym size) so.marked;
       }

@@ -1,15 +1,13 @@
 -- Characters of every kind are passed over in a comment or a string, where they leave it as it is.
-use Rattle.std.proofs.Common.{◌≡◌, ℕ, ◌+◌, ◌<◌, ◌≤◌, true, List, [], ◌∷◌, ◌++◌, length, take, slice_index, sym, ap, ◌∙◌, subst, append-nil, arith}
-use Rattle.std.specs.Prelude.{encode_utf8_all}
+use Rattle.std.proofs.Common.{◌≡◌, ℕ, ◌+◌, true, List, [], ◌∷◌, ◌++◌, sym, ap, ◌∙◌, subst, append-nil}
 use Rattle.std.specs.Str.{all_scalars}
 use Rattle.std.specs.List.{count_by, list_all}
-use Rattle.std.proofs.lemmas.List.{get_or-take, length-take-le}
 use Rattle.py_lines.specs.Character.{is_quote}
 use Rattle.py_lines.specs.declared.mode.Mode.{Mode}
 use Rattle.py_lines.specs.Private.Machine.{Bracket}
-use Rattle.py_lines.specs.Private.Run.{HasAsciiQuote, is_feed, is_long_byte, stays}
+use Rattle.py_lines.specs.Private.Run.{is_feed, is_long_byte, stays}
 use Rattle.py_lines.specs.Private.Outline.{BeforePiece, IsInLong, IsInPieceAfter}
-use Rattle.py_lines.proofs.LineScan.Runs.{all_no_break, characters_stay, ends-run, held_run, long_characters, long_counts, long_held}
+use Rattle.py_lines.proofs.LineScan.Runs.{all_no_break, ends-run, held_run, long_characters, long_counts, long_held}
 use Rattle.py_lines.proofs.Text.Utf8Prefixes.{all_scalars-append}
 use Rattle.py_lines.proofs.SimpleLines.Code.{holds_more, come_over}
 
@@ -35,11 +33,3 @@ lines_go_on q quote initial read run n st all on =
       });
       unreturned = counts.1;
     }
-
--- the characters of bytes that stay
-pub stay_spelled : (m : Mode) (bytes : List ℕ) (k : ℕ) → HasAsciiQuote m → k ≤ length bytes → ((i : ℕ) → i < k → stays m (slice_index bytes i) ≡ true) → (run : List ℕ) → encode_utf8_all run ≡ take k bytes → list_all (stays m) run ≡ true
-stay_spelled m bytes k quote within each run spell =
-    let size : length (encode_utf8_all run) ≡ k = ap length spell ∙ length-take-le k bytes within in
-    characters_stay m run quote (λ i less.
-    let short : i < k = omega (arith, less, size) in
-    ap (λ (t : List ℕ). stays m (slice_index t i)) spell ∙ ap (stays m) (get_or-take k bytes i 0 short) ∙ each i short)

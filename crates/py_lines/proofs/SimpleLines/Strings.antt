@@ -7,7 +7,7 @@ use Rattle.std.proofs.lemmas.Bool.{and_from, and_parts, both_ways, eqb-true, fal
 use Rattle.std.proofs.lemmas.List.{drop_more, length-take-le}
 use Rattle.std.proofs.lemmas.Str.{encodes-append, length-le-encodes}
 use Rattle.std.proofs.Math.Seq.{take-add}
-use Rattle.py_lines.specs.Character.{is_one_of, is_quote, is_backslash, is_break, is_return, is_line_feed}
+use Rattle.py_lines.specs.Character.{is_one_of, is_quote, is_backslash, is_return, is_line_feed}
 use Rattle.py_lines.specs.LogicalLine.{byte_len}
 use Rattle.py_lines.specs.Piece.{Piece, ends, string}
 use Rattle.py_lines.specs.declared.mode.Mode.{Mode}
@@ -26,17 +26,17 @@ use Rattle.py_lines.proofs.Machine.PieceSteps.{scanned}
 use Rattle.py_lines.proofs.Machine.LiveTexts.{keeps}
 use Rattle.py_lines.proofs.FieldScans.TextLengths.{rest_is, rest_of}
 use Rattle.py_lines.proofs.LineScan.LineCount.{EndsNoLine-push, ends-last}
-use Rattle.py_lines.proofs.LineScan.Runs.{body_parts, quote_ascii, stays-no_break, long_characters}
+use Rattle.py_lines.proofs.LineScan.Runs.{body_parts, quote_ascii, stays-no_break, long_characters, stay_spelled}
 use Rattle.py_lines.proofs.LogicalLines.Cuts.{break-return}
-use Rattle.py_lines.proofs.LineScan.AsciiRuns.{all_pass, is_low, is_low_from, low_encodes, low_is, quote-no_break}
+use Rattle.py_lines.proofs.LineScan.AsciiRuns.{all_pass, is_low, is_low_from, low_encodes, low_is, quote-no_break, quote-no_word}
 use Rattle.py_lines.proofs.LineScan.PlainStrings.{inside_closes}
 use Rattle.py_lines.proofs.Text.CharacterTests.{none_of, quote-not-word}
 use Rattle.py_lines.proofs.SimpleLines.Code.{WordOrEnds, come_on, grown, holds_return, holds_returned, holds_line_end, holds_more, holds_one, one_unreturned, opens, pieces, quote-not-space, word_or_ends}
 use Rattle.py_lines.proofs.Lexings.LineEnds.{feed_unreturned}
-use Rattle.py_lines.proofs.SimpleLines.Tails.{no_tail, quote-no-word}
+use Rattle.py_lines.proofs.SimpleLines.Tails.{no_tail}
 use Rattle.py_lines.proofs.SimpleLines.Joins.{slash-not-break}
 use Rattle.py_lines.proofs.SimpleLines.FirstBytes.{first_then, line_end_low, taken_one, taken_two, first_later}
-use Rattle.py_lines.proofs.SimpleLines.Runs.{goes_on, lines_go_on, stay_spelled}
+use Rattle.py_lines.proofs.SimpleLines.Runs.{goes_on, lines_go_on}
 
 -- a character makes the open piece grow
 grows : {m : Mode} {k : ℕ} {initial : BeforePiece} {read : List ℕ} {n : ℕ} {st : List Bracket} → IsInPieceAfter m initial read n st → (next : Mode) (c : ℕ) → meet_of m c ≡ moves.Grows next → is_return c ≡ false → HoldsLineEnds (read ++ c ∷ []) k → IsInPieceAfter next initial (read ++ c ∷ []) k st
@@ -96,15 +96,6 @@ prefix_quote s q quote plain = rw (quote-not-word q quote, quote) (by (moves.Gro
     by other false false h = absurd (both_ways _ refl h)
 
 -- what the bytes begin with that a backslash escapes
-pub escapes_byte : (bytes : List ℕ) → 1 < length bytes → slice_index bytes 0 ≡ 92 → slice_index bytes 1 < 128 → is_break (slice_index bytes 1) ≡ false → HasEscape bytes (Some (record { len = 2; line_ends = 0 }))
-escapes_byte bytes within first low none = record {
-  some = omega arith;
-  within = within;
-  few = omega arith;
-  text = slice_index bytes 1 ∷ [];
-  spell = taken_two bytes within ∙ ap (λ c. c ∷ slice_index bytes 1 ∷ []) first;
-  escaped = inr (slice_index bytes 1, refl, low, none, refl);
-}
 
 pub escapes_line_end : (bytes : List ℕ) (len : ℕ) → 1 < length bytes → slice_index bytes 0 ≡ 92 → HasLineEnd (take (length bytes - 1) (drop 1 bytes)) (Some len) → HasEscape bytes (Some (record { len = 1 + len; line_ends = 1 }))
 escapes_line_end bytes len within first found =
@@ -163,7 +154,7 @@ after_rest {comes = comes} {goes} bytes len feeds more further all same first se
 
 -- a word is open before a quote, or the piece ends there
 pub quote_stands : (q : ℕ) → is_quote q ≡ true → (rest : List ℕ) (initial : Mode) (read : List ℕ) (n : ℕ) (st : List Bracket) → StandsBefore (q ∷ rest) initial read n st → WordOrEnds q initial read n st
-quote_stands q quote rest initial read n st = word_or_ends rest initial read n st q (rw (quote-no-word q quote) quote) (quote-not-space q quote)
+quote_stands q quote rest initial read n st = word_or_ends rest initial read n st q (rw (quote-no_word q quote) quote) (quote-not-space q quote)
 
 module _ (q : ℕ) (quote : is_quote q ≡ true) where
   self : q == q ≡ true
@@ -228,7 +219,7 @@ module _ (q : ℕ) (quote : is_quote q ≡ true) where
         breaks = rw (false_from_ne_true (c == q) (λ h. unlike (eqb-true c q h))) refl;
         parted = λ feeds. two.unreturned;
         inside = λ returns. absurd (cc);
-        tail = λ is. no_tail (read ++ q ∷ []) q (quote-no-word q quote);
+        tail = λ is. no_tail (read ++ q ∷ []) q (quote-no_word q quote);
       }))
 
   -- the characters of its text

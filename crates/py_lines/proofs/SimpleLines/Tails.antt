@@ -49,10 +49,6 @@ no_tail_with (Some s) c none = rw none refl
 pub no_tail : (read : List ℕ) (c : ℕ) → is_ascii_word c ≡ false → tail_of (read ++ c ∷ []) ≡ None
 no_tail read c none = tail_push read c ∙ no_tail_with (tail_of read) c none
 
-pub quote-no-word : (c : ℕ) → is_quote c ≡ true → is_ascii_word c ≡ false
-unfolding is_quote is_ascii_word
-quote-no-word c h = none_of is_ascii_word (codes "'\"") c refl h
-
 -- no letter, digit or underscore, and not CR
 abbrev is_other : ℕ → Bool
 is_other c = not (is_ascii_word c || is_return c)

@@ -1,75 +1,112 @@
--- A scan under way in a line stands as the lines that are passed over do, where no piece is open.
+-- A scan under way in a line stands as the lines that are passed over do, where no piece is open and no field.
 use Rattle.std.proofs.Common.{◌≡◌, ℕ, ◌+◌, inl, inr, subst, true, false, Some, List, [], ◌∷◌, ◌++◌, refl, sym, ap, ◌∙◌, append-nil}
 use Rattle.std.specs.Prelude.{encode_utf8_all}
+use Rattle.std.proofs.lemmas.Bool.{both_ways}
 use Rattle.std.proofs.lemmas.Str.{encodes_same}
 use Rattle.std.specs.Str.{all_scalars}
 use Rattle.py_lines.specs.Character.{is_line_feed, is_return}
 use Rattle.py_lines.specs.LogicalLine.{byte_len, line_ends}
 use Rattle.py_lines.specs.Piece.{line_end, Piece, begins, ends, spelled}
+use Rattle.py_lines.specs.declared.field_mode.FieldMode.TheVariants as field_modes
+use Rattle.py_lines.specs.declared.frames.Frame.{Frame}
+use Rattle.py_lines.specs.declared.frames.Frame.TheVariants as frame
+use Rattle.py_lines.specs.declared.frames.OpenField.{OpenField}
 use Rattle.py_lines.specs.declared.mode.Mode.{Mode}
 use Rattle.py_lines.specs.declared.mode.Mode.TheVariants as modes
 use Rattle.py_lines.specs.declared.scan.Scan.{Scan}
-use Rattle.py_lines.specs.Private.Machine.{Bracket, Scanned, fresh}
+use Rattle.py_lines.specs.Private.Machine.{Bracket, Scanned, brackets_of, fresh}
+use Rattle.py_lines.specs.Private.FieldMachine.{FieldScanned, Level, field_state, plain}
+use Rattle.py_lines.specs.Private.FieldScan.{FramesFollow, bracket_frames, bracket_openers, frames_of, is_free_mode, mode_from}
+use Rattle.py_lines.specs.Private.Frames.{has_field}
+use Rattle.py_lines.specs.Private.Run.{is_free}
 use Rattle.py_lines.specs.Private.ScanMachine.{IsScanSound, StringsFit, HoldsOpen}
 use Rattle.py_lines.specs.Fields.{AreReadBefore}
-use Rattle.py_lines.specs.Private.Scan.{IsLineBefore, IsUnderWay, line_start, stack_of}
+use Rattle.py_lines.specs.Private.Scan.{IsLineBefore, IsUnderWay, line_start}
 use Rattle.py_lines.specs.Private.Outline.{IsEndedBy, IsFreeAfter, IsLine}
 use Rattle.py_lines.proofs.Machine.PieceSteps.{scanned}
 use Rattle.py_lines.proofs.Pieces.PieceLists.{piece, spelled-push}
-use Rattle.py_lines.proofs.LineScan.LineSteps.{returned_fit, sound_steps}
+use Rattle.py_lines.proofs.ScanMachine.Follows.{some_is}
+use Rattle.py_lines.proofs.ScanMachine.Soundness.{stands_sound}
+use Rattle.py_lines.proofs.LineScan.LineSteps.{returned_fit, sound_steps, way_sound}
 use Rattle.py_lines.proofs.LineScan.LineCount.{ends-last}
 use Rattle.py_lines.proofs.Lexings.LineEnds.{line_string, return_returns}
-use Rattle.py_lines.proofs.SimpleLines.Tails.{come_sound, ended_stack, free_tail}
+use Rattle.py_lines.proofs.SimpleLines.Tails.{ended_stack, free_tail}
+use Rattle.py_lines.proofs.LineScan.OpenPieces.{free_outside}
 
 -- a machine that stands in no piece holds nothing
-free_at : (m : Mode) (done : List Piece) (held : List ℕ) → m ≡ modes.Free → HoldsOpen m done held → scanned done m held ≡ fresh done
+free_at : (m : Mode) (done : List Piece) (held : List ℕ) → is_free m ≡ true → HoldsOpen m done held → scanned done m held ≡ fresh done
 free_at modes.Free done held is holds = ap (scanned done modes.Free) holds.0
-free_at m done held is holds = absurd (cc)
+free_at m done held is holds = absurd (both_ways _ refl is)
 
--- a scan under way in no piece
-pub way_free : (m : Mode) (scan : Scan) (read : List ℕ) → IsScanSound (line_start m) [] → all_scalars read ≡ true → IsUnderWay m scan read → scan.piece.mode ≡ modes.Free → IsFreeAfter m read (line_ends read) (stack_of scan.brackets)
-way_free m scan read start scalars way free =
+-- where no field is open, the frames are those of the line's brackets
+framed : (start : ℕ) (bs : List Bracket) (field : OpenField) (others : List Frame) → has_field (bracket_frames start bs ++ frame.Field field ∷ others) ≡ true
+framed start [] field others = refl
+framed start (b ∷ bs) field others = framed start bs field others
+
+no_field : (outer : List Level) (done : List Piece) (openers : List ℕ) (fs : List Frame) → FramesFollow outer done openers fs → has_field fs ≡ false
+    → (outer ≡ []) × (bs : List Bracket) × (brackets_of done ≡ Some bs) × (fs ≡ frames_of bs)
+no_field [] done openers fs (bs, stack, openers_are, frames_are) none = (refl, bs, stack, frames_are)
+no_field (l ∷ ls) done openers fs (bs, field, others, stack, openers_are, frames_are, at) none =
+    absurd (both_ways _ none (ap has_field frames_are ∙ framed _ bs field others))
+
+-- a scan under way in no piece and no field
+pub way_free : (m : Mode) (scan : Scan) (read : List ℕ) → IsScanSound (line_start m) [] → all_scalars read ≡ true → (way : IsUnderWay m scan read)
+    → is_free_mode scan.inside.mode ≡ true → has_field scan.inside.frames ≡ false
+    → IsFreeAfter m read (line_ends read) way.brackets × (scan.inside.frames ≡ frames_of way.brackets)
+way_free m scan read start scalars way free none =
     let s = way.state in
-    record {
-      done = s.done;
-      come = record {
-        start = start;
-        steps = way.steps ∙ ap Some (free_at s.mode s.done s.held (sym way.tallies.counts.mode ∙ free) (sound_steps m read s start way.steps way.stacked).holds);
-        stacked = way.stacked;
-        one_line = way.one_line;
-        holds = record { scalars = scalars; count = refl };
-      };
-    }
+    let t = way.field in
+    let (outside, bs, stack, frames) = no_field t.outer t.done t.openers scan.inside.frames way.follows.frames none in
+    let (is, closed) = free_outside way start outside free in
+    let same : bs ≡ way.brackets = some_is bs way.brackets (sym stack ∙ ap (λ (x : FieldScanned). brackets_of x.done) is ∙ way.stacked) in (
+      record {
+        done = s.done;
+        come = record {
+          start = start;
+          steps = way.steps ∙ ap Some (free_at s.mode s.done s.held closed (way_sound way start).holds);
+          stacked = way.stacked;
+          one_line = way.one_line;
+          holds = record { scalars = scalars; count = refl };
+        };
+      },
+      frames ∙ ap frames_of same,
+    )
 
 -- where a scan is set in no piece after closed ones, it is under way, and keeps count of them
-pub free_way : (m : Mode) (scan : Scan) (read : List ℕ) (n : ℕ) (st : List Bracket) → IsFreeAfter m read n st → scan.piece.mode ≡ modes.Free → scan.piece.start ≡ byte_len read → scan.stop ≡ byte_len read → scan.count.line ≡ scan.line + n
-    → scan.count.after_return ≡ false → stack_of scan.brackets ≡ st → IsUnderWay m scan read
-free_way m scan read n st free mode start stop line after stack =
-    let spell = (come_sound m read n st (fresh free.done) free.come).spell in
+pub free_way : (m : Mode) (scan : Scan) (read : List ℕ) (n : ℕ) (st : List Bracket) → IsFreeAfter m read n st
+    → scan.inside.mode ≡ field_modes.Code modes.Free → scan.inside.start ≡ byte_len read → scan.inside.frames ≡ frames_of st
+    → scan.stop ≡ byte_len read → scan.count.line ≡ scan.line + n → scan.count.after_return ≡ false → IsUnderWay m scan read
+free_way m scan read n st free mode start frames stop line after =
+    let stands = stands_sound m read (fresh free.done) st free.come.start (record { run = free.come.steps; stack = free.come.stacked }) in
+    let spell : spelled free.done ≡ read = sym (append-nil (spelled free.done)) ∙ stands.scan.spell in
     record {
       state = fresh free.done;
       steps = free.come.steps;
-      tallies = record {
-        counts = record {
-          mode = mode;
-          start = start ∙ ap byte_len (sym spell ∙ append-nil (spelled free.done));
-          stop = stop ∙ ap byte_len (sym spell);
-          here = line ∙ ap (λ (k : ℕ). scan.line + k) (sym free.come.holds.count ∙ ap line_ends (sym spell));
-          after = after ∙ sym (free_tail m read n st free).1 ∙ ap (ends is_return) (sym spell);
-        };
-        fields = tt;
-      };
-      stacked = free.come.stacked ∙ ap Some (sym stack);
+      brackets = st;
+      stacked = free.come.stacked;
       one_line = free.come.one_line;
+      field = field_state [] free.done (bracket_openers st) (plain modes.Free) [];
+      field_steps = stands.steps ∙ sym stands.tied.flat_is;
+      follows = record {
+        mode = ap mode_from mode;
+        holds = refl;
+        no_list = tt;
+        waits = tt;
+        start = start ∙ ap byte_len (sym spell);
+        frames = (st, free.come.stacked, refl, frames);
+      };
+      counts = record {
+        stop = stop;
+        here = line ∙ ap (λ (k : ℕ). scan.line + k) (sym free.come.holds.count);
+        after = after ∙ sym (free_tail m read n st free).1;
+      };
     }
 
 -- a line that has ended is one for the scan too, where it is set after it
 pub line_before : (m : Mode) (read : List ℕ) (n : ℕ) (after : List ℕ) (scan : Scan) → IsScanSound (line_start m) []
-    → (line : IsLine m read n after) → scan.piece.mode ≡ modes.Free → scan.piece.start ≡ byte_len read → scan.stop ≡ byte_len read
-    → scan.count.line ≡ scan.line + n → scan.count.after_return ≡ ends is_return read → IsLineBefore m scan read line.len
-line_before m read n after scan begun line mode start stop here returned more apart =
+    → (line : IsLine m read n after) → scan.stop ≡ byte_len read → scan.count.line ≡ scan.line + n → scan.count.after_return ≡ ends is_return read → IsLineBefore m scan read line.len
+line_before m read n after scan begun line stop here returned more apart =
     let (spell, fit, strings) = by line.state line.last (sound_steps m read line.state begun line.steps (ended_stack line.state line.body line.last line.are line.ended)) line.ended in
-    let closed : read ≡ spelled (line.body ++ line.last ∷ []) ++ [] = sym (append-nil (spelled (line.body ++ line.last ∷ [])) ∙ spell) in
     record {
       body = line.body;
       last = line.last;
@@ -79,16 +116,7 @@ line_before m read n after scan begun line mode start stop here returned more ap
       spell = spell;
       fit = fit;
       strings = strings;
-      tallies = record {
-        counts = record {
-          mode = mode;
-          start = start ∙ ap byte_len (sym spell);
-          stop = stop ∙ ap byte_len closed;
-          here = here ∙ ap (λ (k : ℕ). scan.line + k) (sym line.holds.count ∙ ap line_ends closed);
-          after = returned ∙ ap (ends is_return) closed;
-        };
-        fields = tt;
-      };
+      counts = record { stop = stop; here = here ∙ ap (λ (k : ℕ). scan.line + k) (sym line.holds.count); after = returned };
     }
   where
     by : (s : Scanned) (last : Piece) → IsScanSound s read → IsEndedBy s line.body last → (spelled (line.body ++ last ∷ []) ≡ read)

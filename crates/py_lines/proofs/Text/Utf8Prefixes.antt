@@ -2,8 +2,7 @@
 use Rattle.std.specs.Bool.{MatchBool}
 use Rattle.std.proofs.Common.{◌≡◌, ℕ, ◌+◌, ◌-◌, ◌<◌, ◌≤◌, length, take, drop, arith, length-append, true, List, [], ◌∷◌, ◌++◌, refl, sym, ap, ◌∙◌, subst, append_assoc, append-nil, Bool, false}
 use Rattle.std.specs.Prelude.{encode_utf8_all, encode_utf8}
-use Rattle.std.specs.Str.{all_scalars, IsAscii, IsNotAscii}
-use Rattle.std.specs.Str.{StartsWithNoChar, IsValidUpTo, IsUtf8}
+use Rattle.std.specs.Str.{all_scalars, IsAscii, IsNotAscii, StartsWithNoChar, IsValidUpTo, IsUtf8}
 use Rattle.std.specs.Char.{IsScalar}
 use Rattle.std.proofs.lemmas.Str.{cons_from_encodes, encode_same, length-encode, len_utf8_bounds, IsUtf8-append, IsUtf8-encode, encodes-append, IsUtf8-from_ascii}
 use Rattle.std.proofs.lemmas.List.{drop_all, drop-drop, length-drop, take-append-drop, take_rest}

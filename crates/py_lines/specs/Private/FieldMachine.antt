@@ -1,5 +1,6 @@
 -- The machine of Machine.antt with fields: it goes through a text whose strings hold fields, one character at a time,
--- with code in the fields of strings. Proofs tie it to Fields. What the scan of a string with fields keeps is told in its words.
+-- with code in the fields of strings. Proofs tie it to Fields. The scan of a line goes by it: what the scan keeps of what is open
+-- is told in its words.
 use Rattle.std.specs.Prelude.{◌≡◌, ℕ, ◌+◌, Bool, true, false, not, ◌==◌, ◌||◌, ◌&&◌, Option, None, Some, List, [], ◌∷◌, ◌++◌, length, nat_lt, if◌then◌else◌}
 use Rattle.std.specs.Str.{byte}
 use Rattle.std.specs.List.{list_any}
@@ -267,6 +268,15 @@ has_room_at depth c other = true
 
 abbrev pub has_room : FieldScanned → ℕ → Bool
 has_room s c = has_room_at (frames s) c (field_move s.mode s.held c)
+
+-- a state, if there is room for what leads to it
+abbrev pub roomy : Bool → Option FieldScanned → Option FieldScanned
+roomy true next = next
+roomy false next = None
+
+-- one character, which opens no bracket and no field at depth 200
+abbrev pub room_step : FieldScanned → ℕ → Option FieldScanned
+room_step s c = roomy (has_room s c) (field_step s c)
 
 -- whether each character of a text does so
 abbrev pub have_room : Option FieldScanned → List ℕ → Bool

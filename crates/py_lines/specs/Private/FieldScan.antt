@@ -1,13 +1,12 @@
--- What the scan of a string with fields keeps, in the words of the machine with fields. It serves the contracts of private
+-- What the scan of a line keeps of what is open, in the words of the machine with fields. It serves the contracts of private
 -- functions.
 use Rattle.std.specs.Prelude.{◌≡◌, ℕ, ◌+◌, ◌-◌, ◌<◌, ◌≤◌, ◌==◌, ◌&&◌, not, nat_lt, Bool, true, false, Option, None, Some, List, [], ◌∷◌, ◌++◌, length, drop, map, encode_utf8_all, if◌then◌else◌}
 use Rattle.std.specs.Str.{all_scalars}
-use Rattle.py_lines.specs.Character.{is_backslash, is_brace, is_break, is_quote, is_space, is_word_character}
+use Rattle.py_lines.specs.Character.{is_backslash, is_brace, is_break, is_line_feed, is_quote}
 use Rattle.py_lines.specs.LogicalLine.{byte_len}
 use Rattle.py_lines.specs.Faults.{kind_of_cause, Unfinished, open_bracket, kind_of_unfinished}
 use Rattle.py_lines.specs.Piece.{Piece, spelled}
 use Rattle.py_lines.specs.FieldStrings.{Place, literal, specification}
-use Rattle.py_lines.specs.declared.mode.Spelling.TheVariants as spellings
 use Rattle.py_lines.specs.declared.mode.Mode.{Mode}
 use Rattle.py_lines.specs.declared.mode.Move.{Move}
 use Rattle.py_lines.specs.declared.mode.Mode.TheVariants as modes
@@ -26,14 +25,14 @@ use Rattle.py_lines.specs.declared.frames.OpenField.{OpenField}
 use Rattle.py_lines.specs.declared.frames.Frame.{Frame}
 use Rattle.py_lines.specs.declared.frames.Frame.TheVariants as frame
 use Rattle.py_lines.specs.declared.field_scan.FieldScan.{FieldScan}
-use Rattle.py_lines.specs.declared.field_scan.FieldProgress.{FieldProgress}
-use Rattle.py_lines.specs.declared.field_scan.FieldProgress.TheVariants as progress
+use Rattle.py_lines.specs.declared.field_scan.Progress.{Progress}
+use Rattle.py_lines.specs.declared.field_scan.Progress.TheVariants as progress
 use Rattle.py_lines.specs.Private.Frames.{InField}
 use Rattle.py_lines.specs.Private.Machine.{Bracket, brackets_of, Holds}
 use Rattle.py_lines.specs.Private.FieldMachine as spots
-use Rattle.py_lines.specs.Private.FieldMachine.{between, after_one, after_two, after_slash, after_return, after_name, after_brace, plain, opened, empty, body, grows, closes, breaks, begins_code, opens_field, ends_field, refused, long_host, between_move, body_move, Level, FieldScanned, field_state, field_move, field_step, before, levels_open, frames, is_after_brace}
-use Rattle.py_lines.specs.Private.FieldFaults.{is_waiting, here, piece_start, cause_in, cause_place, unfinished_literal, unfinished_in, unfinished_place}
-use Rattle.py_lines.specs.Private.ScanMachine.{host_in, meet_of, string_state, fielded_move, IsInString}
+use Rattle.py_lines.specs.Private.FieldMachine.{between, after_one, after_two, after_slash, after_return, after_name, after_brace, plain, opened, empty, body, grows, closes, breaks, begins_code, opens_field, ends_field, refused, long_host, between_move, body_move, Level, FieldScanned, field_move, field_step, field_steps_from, room_step, before, frames, is_after_brace}
+use Rattle.py_lines.specs.Private.FieldFaults.{here, piece_start, cause_in, cause_place, unfinished_at, unfinished_place}
+use Rattle.py_lines.specs.Private.ScanMachine.{host_in, meet_of, fielded_move, IsScanSound, line_begun, line_start}
 
 -- what the code's words are in the machine's
 abbrev pub region_in : Region → Place
@@ -85,18 +84,8 @@ abbrev pub meets_field : FieldMode → ℕ → spots.FieldMove
 meets_field (field_modes.Code m) c = code_move m c
 meets_field (field_modes.Body h region named at) c = body_move (host_in h) (region_in region) named (at_in at) c
 
--- whether it leaves the piece that is open as it is, where it ends no line
-abbrev pub stays_code : Mode → ℕ → Bool
-stays_code (modes.Inside q) c = not (c == q) && not (is_backslash c)
-stays_code (modes.Long q) c = not (c == q) && not (is_backslash c)
-stays_code (modes.Word spellings.Number) c = is_word_character c
-stays_code (modes.Word spellings.Name) c = is_word_character c
-stays_code modes.Space c = is_space c
-stays_code modes.Comment c = true
-stays_code other c = false
-
+-- whether it leaves the string's text that is open as it is, where it ends no line
 abbrev pub stays_field : FieldMode → ℕ → Bool
-stays_field (field_modes.Code m) c = stays_code m c
 stays_field (field_modes.Body h region named ats.Between) c = not (c == h.quote) && (not (is_backslash c) && not (is_brace c))
 stays_field other c = false
 
@@ -104,7 +93,32 @@ stays_field other c = false
 abbrev pub keeps_byte : FieldMode → ℕ → Bool
 keeps_byte m b = nat_lt b 128 && (not (is_break b) && stays_field m b)
 
--- the frames of brackets, where their list starts at this byte
+-- whether no piece is open, after the text's start
+abbrev pub is_free_mode : FieldMode → Bool
+is_free_mode (field_modes.Code modes.Free) = true
+is_free_mode other = false
+
+-- whether the open piece is the CR of a line end
+abbrev pub is_returned_mode : FieldMode → Bool
+is_returned_mode (field_modes.Code modes.Return) = true
+is_returned_mode other = false
+
+-- no piece is open, no bracket and no field
+abbrev pub is_settled : FieldScan → Bool
+is_settled scan = is_free_mode scan.mode && (length scan.frames == 0)
+
+-- the open piece ends before this character, where no bracket and no field is open
+abbrev pub is_break_move : spots.FieldMove → Bool
+is_break_move breaks = true
+is_break_move other = false
+
+abbrev pub ends_piece_before : FieldScan → ℕ → Bool
+ends_piece_before scan c = not (is_free_mode scan.mode) && ((length scan.frames == 0) && is_break_move (meets_field scan.mode c))
+
+-- the frames of brackets, of the line's own list, and of one that starts at this byte
+abbrev pub frames_of : List Bracket → List Frame
+frames_of bs = map (λ b. frame.Bracket b.opener b.place) bs
+
 abbrev pub bracket_frames : ℕ → List Bracket → List Frame
 bracket_frames start bs = map (λ b. frame.Bracket b.opener (start + b.place)) bs
 
@@ -120,24 +134,24 @@ abbrev pub HasNoList : spots.FieldMode → List Piece → List ℕ → Type 0
 HasNoList (body host place named at) done openers = NoListAt place done openers
 HasNoList other done openers = Unit {0}
 
--- the scan keeps a field of this level within these, where the outermost string starts at byte `base` and this is known of the frames
--- round the field's string
-pub record FieldFollows (base : ℕ) (l : Level) (ls : List Level) (field : OpenField) (Others : Type 0) : Type 0 where
-  pub place : field.place ≡ base + (byte_len (before literal (l ∷ ls)) - 1)
+-- the scan keeps a field of this level within these, where this is known of the frames round the field's string
+pub record FieldFollows (l : Level) (ls : List Level) (field : OpenField) (Others : Type 0) : Type 0 where
+  pub place : field.place ≡ byte_len (before literal (l ∷ ls)) - 1
   pub host : host_in field.host ≡ l.host
   pub region : region_in field.region ≡ l.place
-  pub start : field.start ≡ base + byte_len (before l.place ls ++ spelled l.done)
+  pub start : field.start ≡ byte_len (before l.place ls ++ spelled l.done)
   pub bare : NoListAt l.place l.done l.openers
   pub round : Others
 
--- The frames of a state, the innermost first: the brackets of its innermost list, the field in which that stands, and the frames
--- round that field's string.
-abbrev pub FramesFollow : ℕ → List Level → List Piece → List ℕ → List Frame → Type 0
-FramesFollow base [] done openers fs = (openers ≡ []) × (fs ≡ [])
-FramesFollow base (l ∷ ls) done openers fs =
+-- The frames of a state, the innermost first: the brackets of its innermost list, the field in which that stands, if it stands in one,
+-- and the frames round that field's string.
+abbrev pub FramesFollow : List Level → List Piece → List ℕ → List Frame → Type 0
+FramesFollow [] done openers fs =
+    (bs : List Bracket) × (brackets_of done ≡ Some bs) × (openers ≡ bracket_openers bs) × (fs ≡ frames_of bs)
+FramesFollow (l ∷ ls) done openers fs =
     (bs : List Bracket) × (field : OpenField) × (others : List Frame) × (brackets_of done ≡ Some bs) × (openers ≡ bracket_openers bs)
-    × (fs ≡ bracket_frames (base + byte_len (before literal (l ∷ ls))) bs ++ frame.Field field ∷ others)
-    × FieldFollows base l ls field (FramesFollow base ls l.done l.openers others)
+    × (fs ≡ bracket_frames (byte_len (before literal (l ∷ ls))) bs ++ frame.Field field ∷ others)
+    × FieldFollows l ls field (FramesFollow ls l.done l.openers others)
 
 -- what the open piece of code spells, where it isn't a string with fields
 abbrev pub HoldsCode : spots.FieldMode → List ℕ → Type 0
@@ -149,41 +163,61 @@ abbrev pub WaitsInLiteral : spots.FieldMode → Type 0
 WaitsInLiteral (body host specification named at) = is_after_brace at ≡ false
 WaitsInLiteral other = Unit {0}
 
--- the scan of a string that starts at this byte keeps count of the machine
-pub record Follows (scan : FieldScan) (base : ℕ) (t : FieldScanned) : Type 0 where
+-- the scan keeps count of the machine
+pub record Follows (scan : FieldScan) (t : FieldScanned) : Type 0 where
   pub mode : mode_from scan.mode ≡ t.mode
   pub holds : HoldsCode t.mode t.held
   pub no_list : HasNoList t.mode t.done t.openers
   pub waits : WaitsInLiteral t.mode
-  pub full : is_waiting t.mode ≡ true → t.held ≡ [] → ⊥
-  pub start : scan.start ≡ base + piece_start t
-  pub frames : FramesFollow base t.outer t.done t.openers scan.frames
+  pub start : scan.start ≡ piece_start t
+  pub frames : FramesFollow t.outer t.done t.openers scan.frames
 
--- code stands in a field, and the text of a specification in its own
+-- the text of a specification stands in its field
 abbrev pub IsPlaced : spots.FieldMode → List Frame → Type 0
-IsPlaced (body host literal named at) fs = Unit {0}
 IsPlaced (body host specification named at) fs = InField fs
-IsPlaced other fs = fs ≡ [] → ⊥
+IsPlaced other fs = Unit {0}
 
 abbrev pub IsInPlace : FieldScan → Type 0
 IsInPlace scan = IsPlaced (mode_from scan.mode) scan.frames
 
--- it begins in the body of a string, of which nothing is read
-abbrev pub FollowsBody : FieldScan → StringWithFields → ℕ → Type 0
-FollowsBody scan host base = (held : List ℕ) → Follows scan base (field_state [] [] [] (body (host_in host) literal false between) held)
+-- it begins a line in this mode
+abbrev pub opened_at : Mode → FieldScan
+opened_at m = record { mode = field_modes.Code m; start = 0; frames = [] }
 
--- what one more character comes to where the machine stands so, and so many brackets are open round the string
-abbrev pub ComesTo : ℕ → ℕ → FieldScanned → ℕ → FieldScan → FieldProgress → FieldScan → Type 0
-ComesTo base depth t c old progress.Going new =
-    (next : FieldScanned) × (field_step t c ≡ Some next) × (fielded_move depth (Some t) c ≡ moves.Grows modes.Fielded)
-    × IsInString next × Follows new base next
-ComesTo base depth t c old progress.Closed new = fielded_move depth (Some t) c ≡ moves.Closes
-ComesTo base depth t c old progress.Refused new = (fielded_move depth (Some t) c ≡ moves.Refused) × (new ≡ old)
+-- what a line end comes to, where nothing is open or something is
+abbrev pub line_end_progress : Bool → ℕ → Progress
+line_end_progress true len = progress.LineEnded len
+line_end_progress false len = progress.Going
+
+-- whether a character ends a line, if no bracket and no field is open: LF that CR waits for, or with which a line end begins
+abbrev pub is_line_ending : spots.FieldMode → spots.FieldMove → ℕ → Bool
+is_line_ending (plain modes.Return) closes c = true
+is_line_ending m breaks c = is_line_feed c
+is_line_ending m move c = false
+
+abbrev pub ends_line : FieldScanned → ℕ → Bool
+ends_line t c = (frames t == 0) && is_line_ending t.mode (field_move t.mode t.held c) c
+
+-- how many bytes its line end has: with CR before it one more
+abbrev pub line_end_size : spots.FieldMode → ℕ
+line_end_size (plain modes.Return) = 2
+line_end_size other = 1
+
+-- the machine goes on, for which there is room, and the scan follows
+pub record StepsTo (t : FieldScanned) (c : ℕ) (new : FieldScan) : Type 0 where
+  pub next : FieldScanned
+  pub goes : room_step t c ≡ Some next
+  pub follows : Follows new next
+
+-- what one more character comes to where the machine stands so
+abbrev pub ComesTo : FieldScanned → ℕ → FieldScan → Progress → FieldScan → Type 0
+ComesTo t c old progress.Going new = StepsTo t c new × (ends_line t c ≡ false)
+ComesTo t c old (progress.LineEnded len) new = StepsTo t c new × (ends_line t c ≡ true) × (len ≡ line_end_size t.mode)
+ComesTo t c old progress.Refused new = (room_step t c ≡ None) × (new ≡ old)
 
 -- so wherever the machine stands that the scan keeps count of, if the character stands at this byte
-abbrev pub PushesField : FieldScan → ℕ → ℕ → ℕ → FieldProgress → FieldScan → Type 0
-PushesField old c place depth result new =
-    (base : ℕ) (t : FieldScanned) → Follows old base t → IsInString t → place ≡ base + here t → ComesTo base depth t c old result new
+abbrev pub PushesField : FieldScan → ℕ → ℕ → Progress → FieldScan → Type 0
+PushesField old c place result new = (t : FieldScanned) → Follows old t → place ≡ here t → ComesTo t c old result new
 
 -- The machine goes from one state to another through these characters, where so many brackets are open round the string: they are
 -- ASCII, none of them ends a line, and the string goes on over each.
@@ -193,66 +227,69 @@ GoesThrough depth t (c ∷ cs) u =
     (c < 128) × (is_break c ≡ false) × (fielded_move depth (Some t) c ≡ moves.Grows modes.Fielded)
     × (next : FieldScanned) × (field_step t c ≡ Some next) × GoesThrough depth next cs u
 
--- the machine goes through the first bytes of these, so many of them, wherever it stands in a string before the byte `place`, and the
--- scan follows
-pub record HoldsField (old : FieldScan) (depth place : ℕ) (bytes : List ℕ) (len : ℕ) (new : FieldScan) : Type 0 where
+-- it goes from one to another through characters that end no line, for each of which there is room
+abbrev pub GoesOn : FieldScanned → List ℕ → FieldScanned → Type 0
+GoesOn t [] u = t ≡ u
+GoesOn t (c ∷ cs) u = (is_break c ≡ false) × (next : FieldScanned) × (room_step t c ≡ Some next) × GoesOn next cs u
+
+-- it has come there from a line's start through these characters
+pub record HasReached (read : List ℕ) (t : FieldScanned) : Type 0 where
+  pub first : Mode
+  pub start : IsScanSound (line_start first) []
+  pub steps : field_steps_from (Some (line_begun first)) read ≡ Some t
+
+-- the finished pieces of the line's own list
+abbrev pub line_pieces : List Level → List Piece → List Piece
+line_pieces [] done = done
+line_pieces (l ∷ ls) done = line_pieces ls l.done
+
+-- the machine goes on through the first bytes of these, so many of them, wherever it has come to the byte `place` of a line, and the scan
+-- follows: no piece of the line's own list is finished by them
+pub record HoldsField (old : FieldScan) (place : ℕ) (bytes : List ℕ) (len : ℕ) (new : FieldScan) : Type 0 where
   pub run : List ℕ
   pub spell : encode_utf8_all run ++ drop len bytes ≡ bytes
   pub scalars : all_scalars run ≡ true
   pub size : byte_len run ≡ len
   pub none : len ≡ 0 → new ≡ old
-  pub stay : (base : ℕ) (held : List ℕ) (t : FieldScanned) → string_state held ≡ Some t → place ≡ base + byte_len held → Follows old base t
-      → IsInString t → (u : FieldScanned) × GoesThrough depth t run u × Follows new base u
+  pub stay : (read : List ℕ) (t : FieldScanned) → HasReached read t → place ≡ byte_len read → Follows old t
+      → (u : FieldScanned) × GoesOn t run u × Follows new u × (line_pieces u.outer u.done ≡ line_pieces t.outer t.done)
 
 -- wherever the scan follows, the machine stands between two parts of the literal part of a string of this quote, and at most a
 -- hundred brackets and fields are open
-abbrev pub StandsInText : FieldScan → ℕ → Option ℕ → Type 0
-StandsInText scan depth None = Unit {0}
-StandsInText scan depth (Some quote) =
+abbrev pub StandsInText : FieldScan → Option ℕ → Type 0
+StandsInText scan None = Unit {0}
+StandsInText scan (Some quote) =
     (h : StringWithFields) × (scan.mode ≡ field_modes.Body h regions.Literal false ats.Between) × (h.quote ≡ quote) × (is_quote quote ≡ true)
-    × (depth + length scan.frames ≤ 100)
+    × (length scan.frames ≤ 100)
 
--- what is wrong where such a string refuses a character
-abbrev pub IsFieldFault : ℕ → ℕ → FieldScanned → ℕ → LineFault → Type 0
-IsFieldFault base depth t c line_fault =
-    let cause = cause_in (depth + frames t) t.mode c in
-    (line_fault.kind ≡ kind_of_cause cause) × (line_fault.place ≡ base + cause_place t cause)
+-- what is wrong where a character is refused
+abbrev pub IsFieldFault : FieldScanned → ℕ → LineFault → Type 0
+IsFieldFault t c line_fault =
+    let cause = cause_in (frames t) t.mode c in
+    (line_fault.kind ≡ kind_of_cause cause) × (line_fault.place ≡ cause_place t cause)
 
-abbrev pub RefusesField : FieldScan → ℕ → ℕ → ℕ → LineFault → Type 0
-RefusesField scan c place depth line_fault =
-    IsInPlace scan → (base : ℕ) (t : FieldScanned) → Follows scan base t → IsInString t → place ≡ base + here t
-    → fielded_move depth (Some t) c ≡ moves.Refused → IsFieldFault base depth t c line_fault
-
--- what is open at the end of such a string, where so many brackets are open round it
-abbrev pub unfinished_with : ℕ → List Level → List ℕ → spots.FieldMode → Option Unfinished
-unfinished_with depth outer openers (body host literal named at) = Some (unfinished_literal host at (depth + (length openers + levels_open outer)))
-unfinished_with depth outer openers other = unfinished_in outer openers other
-
-abbrev pub unfinished_round : ℕ → FieldScanned → Option Unfinished
-unfinished_round depth t = unfinished_with depth t.outer t.openers t.mode
+abbrev pub RefusesField : FieldScan → ℕ → ℕ → LineFault → Type 0
+RefusesField scan c place line_fault =
+    IsInPlace scan → (t : FieldScanned) → Follows scan t → place ≡ here t → room_step t c ≡ None → IsFieldFault t c line_fault
 
 -- the byte of the fault of a text that ends there
-abbrev pub IsUnfinishedAt : ℕ → FieldScanned → Unfinished → ℕ → Type 0
-IsUnfinishedAt base t open_bracket place =
-    (b : Bracket) × (others : List Bracket) × (brackets_of t.done ≡ Some (b ∷ others))
-    × (place ≡ base + (byte_len (before literal t.outer) + b.place))
-IsUnfinishedAt base t what place = place ≡ base + unfinished_place t what
+abbrev pub IsUnfinishedAt : FieldScanned → Unfinished → ℕ → Type 0
+IsUnfinishedAt t open_bracket place =
+    (b : Bracket) × (others : List Bracket) × (brackets_of t.done ≡ Some (b ∷ others)) × (place ≡ byte_len (before literal t.outer) + b.place)
+IsUnfinishedAt t what place = place ≡ unfinished_place t what
 
--- what is wrong where the text ends in such a string
-abbrev pub IsFieldEnd : ℕ → ℕ → FieldScanned → LineFault → Type 0
-IsFieldEnd base depth t line_fault =
-    (what : Unfinished) × (unfinished_round depth t ≡ Some what) × (line_fault.kind ≡ kind_of_unfinished what)
-    × IsUnfinishedAt base t what line_fault.place
+-- what is wrong where the text ends, if it may not
+abbrev pub IsFieldEnd : FieldScanned → Option LineFault → Type 0
+IsFieldEnd t None = unfinished_at t ≡ None
+IsFieldEnd t (Some line_fault) =
+    (what : Unfinished) × (unfinished_at t ≡ Some what) × (line_fault.kind ≡ kind_of_unfinished what) × IsUnfinishedAt t what line_fault.place
 
-abbrev pub EndsField : FieldScan → ℕ → ℕ → LineFault → Type 0
-EndsField scan place depth line_fault =
-    IsInPlace scan → (base : ℕ) (t : FieldScanned) → Follows scan base t → IsInString t → place ≡ base + here t
-    → IsFieldEnd base depth t line_fault
+abbrev pub EndsField : FieldScan → ℕ → Option LineFault → Type 0
+EndsField scan place line_fault = IsInPlace scan → (t : FieldScanned) → Follows scan t → place ≡ here t → IsFieldEnd t line_fault
 
--- what is wrong where the text ends in this piece of a field's code
-abbrev pub EndsCode : FieldScan → Mode → LineFault → Type 0
-EndsCode scan m line_fault =
-    (base depth : ℕ) (t : FieldScanned) → Follows scan base t → code_mode m ≡ t.mode → IsInString t → IsFieldEnd base depth t line_fault
+-- what is wrong where the text ends in this piece of code
+abbrev pub EndsCode : FieldScan → Mode → Option LineFault → Type 0
+EndsCode scan m line_fault = (t : FieldScanned) → Follows scan t → code_mode m ≡ t.mode → IsFieldEnd t line_fault
 
 -- the scan with no piece open at this byte of the code
 abbrev pub freed_at : FieldScan → ℕ → FieldScan
@@ -264,10 +301,9 @@ ended_in field others =
     record { mode = field_modes.Body field.host field.region false ats.Between; start = field.start; frames = others }
 
 -- what a character comes to that does this
-abbrev pub TakesMove : FieldScan → ℕ → ℕ → ℕ → spots.FieldMove → FieldProgress → FieldScan → Type 0
-TakesMove old c place depth move result new =
-    (base : ℕ) (t : FieldScanned) → Follows old base t → IsInString t → place ≡ base + here t → field_move t.mode t.held c ≡ move
-    → ComesTo base depth t c old result new
+abbrev pub TakesMove : FieldScan → ℕ → ℕ → spots.FieldMove → Progress → FieldScan → Type 0
+TakesMove old c place move result new =
+    (t : FieldScanned) → Follows old t → place ≡ here t → field_move t.mode t.held c ≡ move → ComesTo t c old result new
 
 -- the scan in the code of a field of the string that is open, whose `{` stands at one byte; the code goes on at another
 abbrev pub entered : FieldScan → StringWithFields → Region → ℕ → ℕ → FieldScan

@@ -2,7 +2,8 @@
 -- scan knows of that line, and the text's fault.
 use Rattle.std.specs.Prelude.{◌≡◌, ℕ, zero, suc, ◌+◌, ◌<◌, ◌⊎◌, Option, None, Some, List, encode_utf8_all}
 use Rattle.py_lines.specs.LogicalLine.{LogicalLine, line_ends}
-use Rattle.py_lines.specs.Private.Scan.{IsUnfinished, Tallies, IsStacked, line_start}
+use Rattle.py_lines.specs.Private.FieldScan.{EndsField}
+use Rattle.py_lines.specs.Private.Scan.{HasBegun}
 use Rattle.py_lines.specs.declared.fault.Fault.{Fault}
 use Rattle.py_lines.specs.declared.fault.FaultKind.{FaultKind}
 use Rattle.py_lines.specs.declared.fault.FaultKind.TheVariants.{BadUtf8}
@@ -25,7 +26,7 @@ passed s len line = record s { place = s.place + len; line = line }
 
 -- the scan after it was lent: where it stopped in its line is as it was
 abbrev pub lent : Scan → Scan → Scan
-lent old new = record old { brackets = new.brackets; fields = new.fields }
+lent old new = record old { inside = new.inside }
 
 -- with the tokens of another state, for which the scan was lent
 abbrev pub with_tokens : LineState → LineState → LineState
@@ -46,8 +47,7 @@ read_line s text offset end_len = record {
 -- the scan of the next line is begun anew; the tokens may be those of no line
 pub record BeginsAnew (old new : LineState) : Type 0 where
   pub same : new ≡ record old { scan = new.scan; tokens = new.tokens }
-  pub tallies : Tallies new.scan (line_start (first_mode old.place))
-  pub stacked : IsStacked new.scan (line_start (first_mode old.place))
+  pub begun : HasBegun (first_mode old.place) new.scan
   pub number : new.scan.line ≡ old.line
 
 -- the next line begins at this byte, on this line, and nothing of it is read
@@ -55,8 +55,7 @@ pub record BeginsAt (place line : ℕ) (s : LineState) : Type 0 where
   pub place_is : s.place ≡ place
   pub line_is : s.line ≡ line
   pub no_fault : s.fault ≡ None
-  pub tallies : Tallies s.scan (line_start (first_mode place))
-  pub stacked : IsStacked s.scan (line_start (first_mode place))
+  pub begun : HasBegun (first_mode place) s.scan
   pub number : s.scan.line ≡ line
 
 -- a fault so many bytes after the lines that were read: it stands after these bytes
@@ -76,6 +75,6 @@ pub record KeepsFault (old : LineState) (kind : FaultKind) (offset : ℕ) (bytes
 -- what is wrong where the text ends so many bytes after the characters that were scanned: they begin no character, or else
 -- something is open
 abbrev pub IsEndLineFault : Scan → ℕ → Option LineFault → Type 0
-IsEndLineFault scan rest None = (rest ≡ 0) × IsUnfinished scan None
+IsEndLineFault scan rest None = (rest ≡ 0) × EndsField scan.inside scan.stop None
 IsEndLineFault scan rest (Some line_fault) =
-    ((0 < rest) × (line_fault.kind ≡ BadUtf8) × (line_fault.place ≡ scan.stop)) ⊎ ((rest ≡ 0) × IsUnfinished scan (Some line_fault))
+    ((0 < rest) × (line_fault.kind ≡ BadUtf8) × (line_fault.place ≡ scan.stop)) ⊎ ((rest ≡ 0) × EndsField scan.inside scan.stop (Some line_fault))

@@ -1,15 +1,13 @@
--- The machine that knows no fields in strings: it goes through a text, one character at a time. Those of ScanMachine, which
--- reads for `Lines` and `Scanner`, and of FieldMachine are made from it. It serves the contracts of private functions; what a
+-- The machine that knows no fields in strings: it goes through a text, one character at a time. Those of FieldMachine and
+-- ScanMachine, which read for `Lines` and `Scanner`, are made from it. It serves the contracts of private functions; what a
 -- text reads to is said by Piece, Balance, LogicalLine and Lexed, and proofs tie the two.
-use Rattle.std.specs.Prelude.{◌≡◌, ℕ, Bool, true, false, ◌==◌, ◌||◌, ◌&&◌, Option, None, Some, List, [], ◌∷◌, ◌++◌, length, nat_lt, if◌then◌else◌}
+use Rattle.std.specs.Prelude.{◌≡◌, ℕ, Bool, true, false, ◌==◌, ◌&&◌, Option, None, Some, List, [], ◌∷◌, ◌++◌, length, nat_lt, if◌then◌else◌}
 use Rattle.py_lines.specs.Character.{is_mark, is_space, is_word_character, is_word_start, is_digit, is_quote, is_operator, is_line_feed, is_return, is_break, is_hash, is_backslash, is_r, is_b, is_f, is_t, is_u}
 use Rattle.std.specs.List.{list_all}
 use Rattle.py_lines.specs.Piece.{Class, mark, space, word, string, operator, comment, join, line_end, Piece, spelled}
 use Rattle.py_lines.specs.PieceGrammar.{IsRun, IsComment, IsPrefix, is_item, is_short_item, joined, has_triple, AreReadPlain}
-use Rattle.py_lines.specs.Balance.{is_opening, is_closing, is_opener, is_closer, closing_of}
+use Rattle.py_lines.specs.Balance.{is_opener, is_closer, closing_of}
 use Rattle.py_lines.specs.LogicalLine.{first_or_zero, byte_len}
-use Rattle.py_lines.specs.declared.fault.FaultKind.{FaultKind}
-use Rattle.py_lines.specs.declared.fault.FaultKind.TheVariants as faults
 pub use Rattle.py_lines.specs.declared.mode.Spelling.{Spelling}
 pub use Rattle.py_lines.specs.declared.mode.Mode.{Mode}
 pub use Rattle.py_lines.specs.declared.mode.Move.{Move}
@@ -203,27 +201,6 @@ in_long other = false
 abbrev pub is_after_backslash : Mode → Bool
 is_after_backslash Mode.Backslash = true
 is_after_backslash other = false
-
--- the fault of a character that the machine refuses in this mode
-abbrev pub character_kind : Mode → ℕ → FaultKind
-character_kind m c =
-    if in_short m then faults.OpenString
-    else (if is_after_backslash m then faults.BadJoin
-    else (if is_closing c then faults.WrongClose
-    else (if is_opening c then faults.TooDeep
-    else faults.BadChar)))
-
--- its place, where the machine has read these characters before
-abbrev pub character_place : Scanned → List ℕ → ℕ
-character_place s before = if in_short s.mode || is_after_backslash s.mode then byte_len (spelled s.done) else byte_len before
-
--- the fault of a text that ends where it may not
-abbrev pub end_kind : Mode → FaultKind
-end_kind m =
-    if in_short m then faults.OpenString
-    else (if in_long m then faults.OpenTriple
-    else (if is_after_backslash m then faults.BadJoin
-    else faults.OpenBracket))
 
 -- an open bracket, and the byte where it stands
 pub record Bracket : Type 0 where

@@ -1,17 +1,17 @@
 -- Bytes of a line that are passed over at one that isn't plain: what that comes to, wherever in a line they stand.
-use Rattle.std.specs.Prelude.{◌≡◌, ℕ, ◌+◌, ◌-◌, ◌<◌, ◌≤◌, ◌==◌, Bool, true, false, if◌then◌else◌, List, ◌++◌, length, take, drop, slice_index, encode_utf8_all}
+use Rattle.std.specs.Prelude.{◌≡◌, ℕ, ◌+◌, ◌-◌, ◌<◌, ◌≤◌, ◌==◌, Bool, true, false, if◌then◌else◌, List, [], ◌++◌, length, take, drop, slice_index, encode_utf8_all}
 use Rattle.py_lines.specs.LogicalLine.{byte_len}
-use Rattle.py_lines.specs.declared.brackets.Brackets.{Brackets}
+use Rattle.py_lines.specs.declared.frames.Frame.{Frame}
 use Rattle.py_lines.specs.declared.marks.Marks.{Marks}
 use Rattle.py_lines.specs.declared.mode.Mode.{Mode}
 use Rattle.py_lines.specs.declared.passing.Passing.{Passing}
 use Rattle.py_lines.specs.declared.passing.Special.{Special}
 use Rattle.py_lines.specs.declared.passing.Special.TheVariants as special
 use Rattle.py_lines.specs.declared.plain_strings.Passed.{Passed}
+use Rattle.py_lines.specs.Private.FieldScan.{frames_of}
 use Rattle.py_lines.specs.Private.Machine.{Bracket}
 use Rattle.py_lines.specs.Private.Marks.{HasMarks}
 use Rattle.py_lines.specs.Private.Outline.{BeginsOuterEnd, StandsBefore, StandsClosed, tail_of}
-use Rattle.py_lines.specs.Private.Scan.{depth_of, none_open, stack_of}
 
 -- nothing was passed
 abbrev pub nothing_passed : Marks → Passing
@@ -39,12 +39,21 @@ pub record PassesOver (bytes : List ℕ) (at place len more : ℕ) (closes : Boo
   pub leads : (m : Mode) (read : List ℕ) (n : ℕ) → tail_of read ≡ tail_of (take at bytes) → byte_len read ≡ place
       → StandsBefore (drop at bytes) m read n st → StandsClosed closes (drop (at + len) bytes) m (read ++ run) (n + more) after
 
+-- so where these frames are open, which are those brackets, and others after them
+abbrev pub PassesFrames : List ℕ → ℕ → ℕ → ℕ → ℕ → Bool → List Frame → List Frame → Type 0
+PassesFrames bytes at place len more closes before after =
+    (st : List Bracket) → before ≡ frames_of st
+    → (later : List Bracket) × (after ≡ frames_of later) × PassesOver bytes at place len more closes st later
+
 -- they were passed, after others: the open brackets change only where no piece is open after them
-pub record PassesSo (bytes : List ℕ) (at place : ℕ) (all closed : Passed) (b : Brackets) (new : Passing) (c : Brackets) : Type 0 where
+pub record PassesSo (bytes : List ℕ) (at place : ℕ) (all closed : Passed) (b : List Frame) (new : Passing) (c : List Frame) : Type 0 where
   pub len : ℕ
   pub more : ℕ
   pub closes : Bool
-  pub over : PassesOver bytes at place len more closes (stack_of b) (stack_of c)
+  pub some : 0 < len
+  pub within : at + len ≤ length bytes
+  pub few : more ≤ len
+  pub over : PassesFrames bytes at place len more closes b c
   pub kept : closes ≡ false → c ≡ b
   pub is : new ≡ passed_to (record { all = all; closed = closed; marks = new.marks }) (at + len) more closes
   pub marked : HasMarks bytes (at + len) new.marks
@@ -56,15 +65,15 @@ pub record IsLineEndAt (bytes : List ℕ) (at len : ℕ) (by_feed : Bool) : Type
   pub feed : by_feed ≡ (slice_index bytes (at + len - 1) == 10)
 
 -- a line end of so many bytes was passed, which ends the line
-pub record EndsLineSo (bytes : List ℕ) (at : ℕ) (all : Passed) (b : Brackets) (len : ℕ) (new : Passing) (c : Brackets) : Type 0 where
+pub record EndsLineSo (bytes : List ℕ) (at : ℕ) (all : Passed) (b : List Frame) (len : ℕ) (new : Passing) (c : List Frame) : Type 0 where
   pub ends : BeginsOuterEnd (drop at bytes) len
-  pub none : none_open (stack_of b) ≡ true
+  pub none : b ≡ []
   pub kept : c ≡ b
   pub is : new.all ≡ up_to all (at + len) 1
   pub marked : HasMarks bytes (at + len) new.marks
 
 -- what a byte that isn't plain comes to
-abbrev pub PassesSpecial : List ℕ → ℕ → ℕ → Passing → Brackets → Special → Passing → Brackets → Type 0
+abbrev pub PassesSpecial : List ℕ → ℕ → ℕ → Passing → List Frame → Special → Passing → List Frame → Type 0
 PassesSpecial bytes at place old b special.Unpassed new c = (new ≡ old) × (c ≡ b)
 PassesSpecial bytes at place old b special.Passed new c = PassesSo bytes at place old.all old.closed b new c
 PassesSpecial bytes at place old b (special.LineEnd len) new c = EndsLineSo bytes at old.all b len new c
@@ -76,4 +85,4 @@ IsMet false at old result new = (result ≡ special.Unpassed) × (new ≡ old)
 
 -- it, or the piece that it begins, was passed, where few brackets are open, which stay as they are
 abbrev pub PassesMarked : List ℕ → ℕ → Passing → Passing → Type 0
-PassesMarked bytes at old new = (place : ℕ) (b : Brackets) → depth_of b ≤ 100 → PassesSo bytes at place old.all old.closed b new b
+PassesMarked bytes at old new = (place : ℕ) (b : List Frame) → length b ≤ 100 → PassesSo bytes at place old.all old.closed b new b

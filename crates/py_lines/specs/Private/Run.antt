@@ -4,12 +4,12 @@ use Rattle.std.specs.Str.{all_scalars, byte, IsUtf8}
 use Rattle.std.specs.Char.{is_ascii_alphanumeric, len_utf8, IsScalar}
 use Rattle.std.specs.List.{count_by, list_all, prefix_len}
 use Rattle.py_lines.specs.Character.{is_one_of, is_brace, is_space, is_break, is_hash, is_backslash, is_quote}
-use Rattle.py_lines.specs.LogicalLine.{byte_len}
 use Rattle.py_lines.specs.Private.Machine.{IsFull, first_spelling, spelling_on}
-use Rattle.py_lines.specs.Private.ScanMachine.{string_state, IsInString, IsScanSound}
-use Rattle.py_lines.specs.Private.FieldMachine.{FieldScanned}
-use Rattle.py_lines.specs.Private.FieldScan.{Follows, GoesThrough}
-use Rattle.py_lines.specs.Private.Scan.{depth_of, with_field_scan, IsUnderWay, line_start}
+use Rattle.py_lines.specs.Private.ScanMachine.{IsScanSound, line_start}
+use Rattle.py_lines.specs.Private.FieldScan.{HoldsField}
+use Rattle.py_lines.specs.Private.Scan.{IsUnderWay}
+use Rattle.py_lines.specs.declared.field_mode.FieldMode.{FieldMode}
+use Rattle.py_lines.specs.declared.field_mode.FieldMode.TheVariants as field_modes
 use Rattle.py_lines.specs.declared.field_scan.FieldScan.{FieldScan}
 use Rattle.py_lines.specs.declared.mode.Spelling.{Spelling}
 use Rattle.py_lines.specs.declared.mode.Spelling.TheVariants as spellings
@@ -129,6 +129,11 @@ HasAsciiQuote (modes.Inside q) = q < 128
 HasAsciiQuote (modes.Long q) = q < 128
 HasAsciiQuote other = Unit {0}
 
+-- so for what is open
+abbrev pub HasAsciiQuoteOpen : FieldMode → Type 0
+HasAsciiQuoteOpen (field_modes.Code m) = HasAsciiQuote m
+HasAsciiQuoteOpen other = Unit {0}
+
 -- the scan with so many bytes more read, none of which ends a line
 abbrev pub with_bytes : Scan → ℕ → Scan
 with_bytes old len = record old { stop = old.stop + len; count = record { line = old.count.line; after_return = false } }
@@ -137,40 +142,20 @@ with_bytes old len = record old { stop = old.stop + len; count = record { line =
 abbrev pub with_lines : Scan → List ℕ → Scan
 with_lines old run = record old { stop = old.stop + length run; count = record old.count { line = old.count.line + count_by is_feed run } }
 
--- These characters leave the open piece as it is, and end no line. In a string with fields its scan comes so far.
-abbrev pub Stay : Mode → Scan → FieldScan → List ℕ → Type 0
-Stay modes.Fielded old fields run =
-    (held : List ℕ) (t : FieldScanned) → string_state held ≡ Some t → old.stop ≡ old.piece.start + byte_len held
-    → Follows old.fields old.piece.start t → IsInString t
-    → (u : FieldScanned) × GoesThrough (depth_of old.brackets) t run u × Follows fields old.piece.start u
-Stay m old fields run = list_all (stays m) run ≡ true
-
--- the first bytes are such characters, so many of them
-pub record HeldIn (old : Scan) (text : List ℕ) (n : ℕ) (new : Scan) : Type 0 where
-  pub run : List ℕ
-  pub spell : encode_utf8_all run ++ drop n text ≡ text
-  pub scalars : all_scalars run ≡ true
-  pub size : byte_len run ≡ n
-  pub none : n ≡ 0 → new ≡ old
-  pub fields : FieldScan
-  pub stay : Stay old.piece.mode old fields run
-  pub same : new ≡ with_field_scan old fields
-
--- some characters that the text begins with, and that leave the open piece as it is, were read; or none
+-- so many bytes that the text begins with were read, or none: they end no line, and leave what is open as it is or as this
 pub record HoldsRun (old : Scan) (text rest : List ℕ) (new : Scan) : Type 0 where
-  pub run : List ℕ
-  pub spell : encode_utf8_all run ++ rest ≡ text
-  pub scalars : all_scalars run ≡ true
-  pub fields : FieldScan
-  pub stay : Stay old.piece.mode old fields run
-  pub reads : ((run ≡ []) × (new ≡ old)) ⊎ (IsFull run × (new ≡ with_bytes (with_field_scan old fields) (byte_len run)))
+  pub len : ℕ
+  pub inside : FieldScan
+  pub holds : HoldsField old.inside old.stop text len inside
+  pub rest_is : rest ≡ drop len text
+  pub reads : ((len ≡ 0) × (new ≡ old)) ⊎ ((0 < len) × (new ≡ with_bytes (record old { inside = inside }) len))
 
 -- bytes of an open string of three quotes were read, with which the text begins
 pub record ReadsLongText (old : Scan) (text rest : List ℕ) (new : Scan) : Type 0 where
   pub quote : ℕ
   pub run : List ℕ
   pub spell : run ++ rest ≡ text
-  pub here : old.piece.mode ≡ modes.Long quote
+  pub here : old.inside.mode ≡ field_modes.Code (modes.Long quote)
   pub parted : old.count.after_return ≡ false
   pub all : list_all (is_long_byte quote) run ≡ true
   pub reads : new ≡ with_lines old run

@@ -1,6 +1,6 @@
--- The machine that reads for `Lines` and `Scanner`, one character at a time. It is that of Machine.antt, except that a string with
+-- The machine that finds the pieces of a line, one character at a time. It is that of Machine.antt, except that a string with
 -- fields is one open piece, however much code stands in it: how far it has come, the machine of FieldMachine.antt says, which
--- goes through the string's text alone.
+-- goes through the string's text alone. Proofs tie it to that machine where both go through the line.
 use Rattle.std.specs.Prelude.{◌≡◌, ℕ, ◌+◌, Bool, true, false, ◌==◌, ◌&&◌, Option, None, Some, List, [], ◌∷◌, ◌++◌, if◌then◌else◌}
 use Rattle.std.specs.List.{list_any}
 use Rattle.py_lines.specs.Character.{is_word_character, is_quote, is_break}
@@ -11,7 +11,7 @@ use Rattle.py_lines.specs.Fields.{fielded, ShallowFields}
 use Rattle.py_lines.specs.FieldStrings.{is_field_prefix, Host, Place, with_fields}
 use Rattle.py_lines.specs.declared.host.StringWithFields.{StringWithFields}
 use Rattle.py_lines.specs.Private.Machine.{Spelling, Mode, Move, Scanned, moved, steps_by, class_of, move_of, spelling_with, Holds}
-use Rattle.py_lines.specs.Private.FieldMachine.{At, opened, empty, body, FieldMove, closes, Level, FieldScanned, field_state, field_text_start, field_move, field_step, field_steps_from, frames, has_room_at}
+use Rattle.py_lines.specs.Private.FieldMachine.{At, opened, empty, plain, body, FieldMove, closes, Level, FieldScanned, field_state, field_text_start, field_move, field_step, field_steps_from, frames, has_room_at}
 
 -- whether the word is the prefix of a string with fields
 abbrev pub is_field_spelling : Spelling → Bool
@@ -147,3 +147,10 @@ pub record IsScanSound (s : Scanned) (read : List ℕ) : Type 0 where
   pub holds : HoldsOpen s.mode s.done s.held
   pub fit : (more : List ℕ) → AreReadIn fielded s.done (s.held ++ more)
   pub strings : StringsFit 0 s.done
+
+-- nothing of a line is read, and this mode is open: so in this machine, and in the one with fields
+abbrev pub line_start : Mode → Scanned
+line_start m = record { done = []; mode = m; held = [] }
+
+abbrev pub line_begun : Mode → FieldScanned
+line_begun m = field_state [] [] [] (plain m) []

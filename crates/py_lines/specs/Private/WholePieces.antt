@@ -1,15 +1,15 @@
 -- Whole pieces, which the scan of a line passes over: what they leave.
 use Rattle.std.specs.Prelude.{◌≡◌, ℕ, ◌+◌, ◌-◌, ◌≤◌, ◌⊎◌, Bool, true, List, length, nat_lt, take, drop, slice_index}
 use Rattle.py_lines.specs.declared.class.Class.TheVariants as class
-use Rattle.py_lines.specs.declared.marks.Marks.{Marks}
 use Rattle.py_lines.specs.declared.mode.Mode.{Mode}
-use Rattle.py_lines.specs.declared.mode.Mode.TheVariants as modes
+use Rattle.py_lines.specs.declared.marks.Marks.{Marks}
 use Rattle.py_lines.specs.declared.passing.Passing.{Passing}
 use Rattle.py_lines.specs.declared.plain_strings.Passed.{Passed}
 use Rattle.py_lines.specs.declared.scan.Scan.{Scan}
 use Rattle.py_lines.specs.declared.scan.Stop.TheVariants as stops
 use Rattle.py_lines.specs.declared.whole_pieces.Left.{Left}
 use Rattle.py_lines.specs.declared.whole_pieces.Left.TheVariants as left
+use Rattle.py_lines.specs.Private.FieldScan.{freed_at}
 use Rattle.py_lines.specs.Private.Marks.{FindsNext, is_of_class}
 use Rattle.py_lines.specs.Private.Passing.{passed_to}
 use Rattle.py_lines.specs.Private.Run.{Reached}
@@ -44,7 +44,7 @@ FindsSpecial bytes old at new =
 -- the scan where no piece is open after these bytes; CR may stand last
 abbrev pub closed_after : Scan → Passed → Bool → Scan
 closed_after old passed after_return = record old {
-  piece = record { mode = modes.Free; start = old.stop + passed.len };
+  inside = freed_at old.inside (old.stop + passed.len);
   stop = old.stop + passed.len;
   count = record { line = old.count.line + passed.line_ends; after_return = after_return };
 }

@@ -10,18 +10,18 @@ specials-init c =
 
 pub pass-requires-clause-few : goal.pass-requires-clause-few
 pass-requires-clause-few c =
-    own_few c.args.bytes.now c.specials.lines c.specials.at c.specials.passing c.specials.brackets c.specials.invariant
+    own_few c.args.bytes.now c.specials.lines c.specials.at c.specials.passing c.specials.frames c.specials.invariant
 
 -- after the byte
 came : (c : After-next-at-in-specials)
-    → HasComeFurther c.args.bytes.now c.match-pass.lines c.specials.at c.pass.new.self c.pass.new.brackets
+    → HasComeFurther c.args.bytes.now c.match-pass.lines c.specials.at c.pass.new.self c.pass.new.frames
 came c = elim c.match-pass.branch [
   | in-Passed w ↦
-      rw w.lines-is (goes_on c.args.bytes.now c.specials.lines c.specials.at c.specials.passing c.specials.brackets c.specials.invariant c.pass.new.self
-      c.pass.new.brackets w.in-Passed.ensures)
+      rw w.lines-is (goes_on c.args.bytes.now c.specials.lines c.specials.at c.specials.passing c.specials.frames c.specials.invariant c.pass.new.self
+      c.pass.new.frames w.in-Passed.ensures)
   | in-LineEnd w ↦
-      rw w.lines-is (ends_line c.args.bytes.now c.specials.lines c.specials.at c.specials.passing c.specials.brackets c.specials.invariant _
-      c.pass.new.self c.pass.new.brackets c.specials-test.true w.in-LineEnd.ensures)
+      rw w.lines-is (ends_line c.args.bytes.now c.specials.lines c.specials.at c.specials.passing c.specials.frames c.specials.invariant _
+      c.pass.new.self c.pass.new.frames c.specials-test.true w.in-LineEnd.ensures)
 ]
 
 pub specials-smaller : goal.specials-smaller
@@ -34,4 +34,4 @@ pub specials-preserved : goal.specials-preserved
 specials-preserved c =
     let far = came (goal.at.specials-preserved c).After-next-at-in-specials in
     next_at c.args.bytes.now c.match-pass.lines c.next-at-in-specials.result c.pass.new.self c.next-at-in-specials.new.self
-    c.pass.new.brackets far.come (c.next-at-in-specials.ensures c.pass.new.self.all.len far.marked)
+    c.pass.new.frames far.come (c.next-at-in-specials.ensures c.pass.new.self.all.len far.marked)

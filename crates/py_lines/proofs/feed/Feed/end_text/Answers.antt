@@ -3,8 +3,7 @@ use Rattle.std.specs.Vec.{vec_len}
 use Rattle.std.proofs.lemmas.Bool.{eqb-false}
 use Rattle.std.proofs.lemmas.Result.{err_from_is_err_and}
 use Rattle.py_lines.specs.Private.Feed.{IsScanned}
-use Rattle.py_lines.proofs.Feeds.EndedHeld.{IsLeftOpen, all_scanned, end_fault_fails, end_fault_within, ends_plain, ends_returned}
-use Rattle.py_lines.proofs.Feeds.EndedHeld.{text_fault, text_left, text_empty}
+use Rattle.py_lines.proofs.Feeds.EndedHeld.{IsLeftOpen, all_scanned, end_fault_fails, end_fault_within, ends_plain, ends_returned, text_fault, text_left, text_empty}
 use Rattle.py_lines.proofs.Feeds.OpenLine.{scans_on, none_held, open_size, open_stop, reached_by, within_held}
 use Rattle.py_lines.proofs.Feeds.ReadyLines.{none_is}
 use Rattle.py_lines.proofs.feed.Feed.end_text.Goals.{Else-is_some}

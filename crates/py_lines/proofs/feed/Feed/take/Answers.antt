@@ -1,9 +1,9 @@
-use Rattle.std.proofs.Common.{Ok, length, take, ap, subst, length-append, arith}
+use Rattle.std.proofs.Common.{◌≤◌, Ok, length, take, ap, subst, length-append, arith}
 use Rattle.std.proofs.lemmas.List.{length-take-le}
 use Rattle.std.proofs.lemmas.Result.{err_from_is_err_and}
 use Rattle.py_lines.specs.Private.Feed.{StandsSo}
 use Rattle.py_lines.proofs.Feeds.OpenLine.{room_more, runs_out, scans_on}
-use Rattle.py_lines.proofs.Feeds.Taken.{fails, taken_back}
+use Rattle.py_lines.proofs.Feeds.Taken.{back_kept, fails, taken_back}
 use Rattle.py_lines.proofs.feed.Feed.take.Goals as goal
 
 pub hold-requires : goal.hold-requires
@@ -46,6 +46,13 @@ give_back-requires c =
       within = omega (arith, c.len-before.ensures, ap length text.held, ap length held.text.held, size);
       fits = omega (arith, c.requires.fits, ap length text.held, ap length held.text.held, size, length-take-le n c.args.piece.now within, within);
     }
+
+pub overflow_sub-result : goal.overflow_sub-result
+overflow_sub-result c =
+    let (n, within, some, held) = c.in_ok-stop.ensures in
+    let size = length-append c.args.self.now.held.items (take n c.args.piece.now) in
+    let before : c.len-before.result ≤ length c.meet.new.self.held.items = omega (arith, c.len-before.ensures, ap length c.in_ok-meet.ensures.0.held, ap length held.text.held, size) in
+    omega (arith, c.len.ensures, back_kept before c.give_back.ensures)
 
 pub returns : goal.returns
 returns c =

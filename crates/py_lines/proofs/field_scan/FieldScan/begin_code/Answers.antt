@@ -1,26 +1,22 @@
-use Rattle.std.proofs.Common.{List, drop, refl, sym, ap, ◌∙◌, subst}
-use Rattle.py_lines.specs.declared.field_scan.FieldProgress.TheVariants as progress
+use Rattle.std.proofs.Common.{List, drop, refl, sym, ap, ◌∙◌}
+use Rattle.py_lines.specs.declared.field_scan.Progress.TheVariants as progress
 use Rattle.py_lines.specs.declared.field_scan.FieldScan.{FieldScan}
 use Rattle.py_lines.specs.declared.frames.Frame.{Frame}
-use Rattle.py_lines.specs.Private.FieldScan.{IsInPlace}
 use Rattle.py_lines.proofs.FieldScans.Openings.{begins_there, no_room_there}
 use Rattle.py_lines.proofs.field_scan.FieldScan.begin_code.Goals as goal
 
 pub returns-then-not-has_room-clause-takes : goal.returns-then-not-has_room-clause-takes
-returns-then-not-has_room-clause-takes c = λ base t f inside at is.
-    no_room_there c.args.self.now base c.args.depth c.args.c c.args.place c.args.host t f at is (sym c.has_room.ensures ∙ c.if-not-has_room.true)
+returns-then-not-has_room-clause-takes c = λ t f at is.
+    no_room_there c.args.self.now c.args.c c.args.place c.args.host t f at is (sym c.has_room.ensures ∙ c.if-not-has_room.true)
 
 pub returns-in-Refused-clause-takes : goal.returns-in-Refused-clause-takes
-returns-in-Refused-clause-takes c = λ base t f inside at is.
-    begins_there c.args.self.now base c.args.depth c.args.c c.args.place c.args.host t f at is (sym c.has_room.ensures ∙ c.if-not-has_room.false) c.saturating_sub.result c.saturating_sub.ensures c.enter.new.self c.begin_piece.new.self _ progress.Refused
+returns-in-Refused-clause-takes c = λ t f at is.
+    begins_there c.args.self.now c.args.c c.args.place c.args.host t f at is (sym c.has_room.ensures ∙ c.if-not-has_room.false) c.saturating_sub.result c.saturating_sub.ensures c.enter.new.self c.begin_piece.new.self _ progress.Refused
     c.enter.ensures c.in-Refused.ensures.takes
     (λ stuck. ap (λ (fs : List Frame). record c.args.self.now { frames = fs }) (c.pop.ensures.rest ∙ ap (λ (s : FieldScan). drop 1 s.frames) (c.in-Refused.ensures.same refl ∙ c.enter.ensures)))
     (λ taken. absurd (taken refl))
 
 pub returns-in_default-clause-takes : goal.returns-in_default-clause-takes
-returns-in_default-clause-takes c = λ base t f inside at is.
-    begins_there c.args.self.now base c.args.depth c.args.c c.args.place c.args.host t f at is (sym c.has_room.ensures ∙ c.if-not-has_room.false) c.saturating_sub.result c.saturating_sub.ensures c.enter.new.self c.begin_piece.new.self _ c.begin_piece.result
+returns-in_default-clause-takes c = λ t f at is.
+    begins_there c.args.self.now c.args.c c.args.place c.args.host t f at is (sym c.has_room.ensures ∙ c.if-not-has_room.false) c.saturating_sub.result c.saturating_sub.ensures c.enter.new.self c.begin_piece.new.self _ c.begin_piece.result
     c.enter.ensures c.begin_piece.ensures.takes (λ stuck. absurd (c.in_default.not-Refused stuck)) (λ taken. refl)
-
-pub returns-in_default-clause-placed : goal.returns-in_default-clause-placed
-returns-in_default-clause-placed c = λ old. c.begin_piece.ensures.placed (subst IsInPlace (sym c.enter.ensures) (λ none. absurd (cc)))

@@ -7,33 +7,30 @@ use Rattle.py_lines.proofs.FieldScans.Places.{moved_placed}
 use Rattle.py_lines.proofs.field_scan.FieldScan.push.Goals as goal
 
 pub returns-in-Grows-clause-takes : goal.returns-in-Grows-clause-takes
-returns-in-Grows-clause-takes c = λ base t f inside at.
-    grown c.args.self.now base c.args.depth t c.args.c c.args.place f inside at c.in-Grows.mode (mode_from c.in-Grows.mode)
-    (moves_so c.args.self.now base t c.args.c (grows (mode_from c.in-Grows.mode)) f c.in-Grows.ensures) refl
+returns-in-Grows-clause-takes c = λ t f at.
+    grown c.args.self.now t c.args.c c.args.place f at c.in-Grows.mode (mode_from c.in-Grows.mode)
+    (moves_so c.args.self.now t c.args.c (grows (mode_from c.in-Grows.mode)) f c.in-Grows.ensures) refl
 
 pub returns-in-Closes-clause-takes : goal.returns-in-Closes-clause-takes
-returns-in-Closes-clause-takes c = λ base t f inside at. c.close.ensures.takes c.args.depth base t f inside at (moves_so c.args.self.now base t c.args.c closes f c.in-Closes.ensures)
+returns-in-Closes-clause-takes c = λ t f at. c.close.ensures.takes t f at (moves_so c.args.self.now t c.args.c closes f c.in-Closes.ensures)
 
 pub returns-in-Breaks-clause-takes : goal.returns-in-Breaks-clause-takes
-returns-in-Breaks-clause-takes c = λ base t f inside at. c.begin_piece.ensures.takes base t f inside at (moves_so c.args.self.now base t c.args.c breaks f c.in-Breaks.ensures)
+returns-in-Breaks-clause-takes c = λ t f at. c.begin_piece.ensures.takes t f at (moves_so c.args.self.now t c.args.c breaks f c.in-Breaks.ensures)
 
 pub returns-in-BeginsCode-clause-takes : goal.returns-in-BeginsCode-clause-takes
-returns-in-BeginsCode-clause-takes c = λ base t f inside at. c.begin_code.ensures.takes base t f inside at (moves_so c.args.self.now base t c.args.c (begins_code (host_in c.in-BeginsCode.host)) f c.in-BeginsCode.ensures)
+returns-in-BeginsCode-clause-takes c = λ t f at. c.begin_code.ensures.takes t f at (moves_so c.args.self.now t c.args.c (begins_code (host_in c.in-BeginsCode.host)) f c.in-BeginsCode.ensures)
 
 pub returns-in-OpensField-clause-takes : goal.returns-in-OpensField-clause-takes
-returns-in-OpensField-clause-takes c = λ base t f inside at. c.open_field.ensures.takes base t f inside at (moves_so c.args.self.now base t c.args.c (opens_field (host_in c.in-OpensField.host)) f c.in-OpensField.ensures)
+returns-in-OpensField-clause-takes c = λ t f at. c.open_field.ensures.takes t f at (moves_so c.args.self.now t c.args.c (opens_field (host_in c.in-OpensField.host)) f c.in-OpensField.ensures)
 
 pub returns-in-EndsField-clause-takes : goal.returns-in-EndsField-clause-takes
-returns-in-EndsField-clause-takes c = λ base t f inside at. c.end_field.ensures.takes c.args.c c.args.place c.args.depth base t f inside at (moves_so c.args.self.now base t c.args.c ends_field f c.in-EndsField.ensures)
+returns-in-EndsField-clause-takes c = λ t f at. c.end_field.ensures.takes c.args.c c.args.place t f at (moves_so c.args.self.now t c.args.c ends_field f c.in-EndsField.ensures)
 
 pub returns-in-Refused-clause-takes : goal.returns-in-Refused-clause-takes
-returns-in-Refused-clause-takes c = λ base t f inside at. no_step base c.args.depth t c.args.c refused (moves_so c.args.self.now base t c.args.c refused f c.in-Refused.ensures) c.args.self.now refl
+returns-in-Refused-clause-takes c = λ t f at. no_step t c.args.c refused (moves_so c.args.self.now t c.args.c refused f c.in-Refused.ensures) c.args.self.now refl
 
 pub returns-in-Grows-clause-placed : goal.returns-in-Grows-clause-placed
 returns-in-Grows-clause-placed c = moved_placed c.args.self.now c.args.c (grows (mode_from c.in-Grows.mode)) c.in-Grows.ensures c.requires.placed
-
-pub begin_piece-requires-clause-inside : goal.begin_piece-requires-clause-inside
-begin_piece-requires-clause-inside c = moved_placed c.args.self.now c.args.c breaks c.in-Breaks.ensures c.requires.placed
 
 pub open_field-requires-clause-field : goal.open_field-requires-clause-field
 open_field-requires-clause-field c = moved_placed c.args.self.now c.args.c (opens_field (host_in c.in-OpensField.host)) c.in-OpensField.ensures c.requires.placed

@@ -1,4 +1,4 @@
-use Rattle.std.proofs.Common.{◌≡◌, ◌+◌, ◌-◌, false, refl, subst, ap, sym, ◌∙◌, Bool, Some}
+use Rattle.std.proofs.Common.{◌≡◌, ◌-◌, false, refl, subst, ap, sym, ◌∙◌, Bool, Some}
 use Rattle.std.specs.Prelude.{if◌then◌else◌}
 use Rattle.py_lines.specs.Faults.{open_inside, open_brace}
 use Rattle.py_lines.specs.FieldStrings.{literal, specification}
@@ -7,9 +7,9 @@ use Rattle.py_lines.specs.declared.host.Region.TheVariants as regions
 use Rattle.py_lines.specs.declared.field_mode.At.{At}
 use Rattle.py_lines.specs.declared.field_mode.At.TheVariants as ats
 use Rattle.py_lines.specs.Private.FieldMachine.{FieldMode, body, after_brace}
-use Rattle.py_lines.specs.Private.FieldFaults.{field_start, here, is_waiting}
+use Rattle.py_lines.specs.Private.FieldFaults.{field_start, here, is_waiting, unfinished_in}
 use Rattle.py_lines.specs.Private.Frames.{InField}
-use Rattle.py_lines.specs.Private.FieldScan.{IsPlaced, mode_from, region_in, at_in, unfinished_with}
+use Rattle.py_lines.specs.Private.FieldScan.{IsPlaced, mode_from, region_in, at_in}
 use Rattle.py_lines.specs.Private.ScanMachine.{host_in}
 use Rattle.py_lines.proofs.FieldScans.FieldFaults.{brace_end, brace_end_place, specification_place}
 use Rattle.py_lines.proofs.field_scan.FieldScan.unfinished.Goals as goal
@@ -17,7 +17,7 @@ use Rattle.py_lines.proofs.field_scan.FieldScan.unfinished.Goals.{then-has_room,
 
 -- A `{` stands directly before: it would open a field, if there is room.
 pub returns-after-has_room : goal.returns-after-has_room
-returns-after-has_room c = λ placed base t f inside at.
+returns-after-has_room c = λ placed t f at.
     let w = c.in-Body-default-Literal-default-AfterBrace in
     let region : w.field-1 ≡ regions.Literal = cc (w.is, w.field-1-is) in
     let spot : w.field-3 ≡ ats.AfterBrace = cc (w.is, w.field-3-is) in
@@ -25,18 +25,17 @@ returns-after-has_room c = λ placed base t f inside at.
     sym f.mode ∙ ap mode_from w.is
     ∙ ap (λ (r : Region). body (host_in w.field-0) (region_in r) w.field-2 (at_in w.field-3)) region
     ∙ ap (λ (a : At). body (host_in w.field-0) literal w.field-2 (at_in a)) spot in
-    let end = brace_end c.args.self.now base c.args.depth t (host_in w.field-0) w.field-2 c.has_room.result f mode c.has_room.ensures in
-    let places = brace_end_place c.args.self.now base t (host_in w.field-0) w.field-2 c.args.place f mode at in
+    let end = brace_end c.args.self.now t (host_in w.field-0) w.field-2 c.has_room.result f mode c.has_room.ensures in
     elim c.if-has_room.branch [
       | then-has_room v ↦
-          (open_inside, end ∙ ap (λ (b : Bool). Some (if b then open_inside else open_brace)) v.if-has_room.true, v.kind-is, c.saturating_sub.ensures ∙ places.0)
+          (open_inside, end ∙ ap (λ (b : Bool). Some (if b then open_inside else open_brace)) v.if-has_room.true, v.kind-is, c.saturating_sub.ensures ∙ brace_end_place t (host_in w.field-0) w.field-2 c.args.place mode at)
       | else-has_room v ↦
-          (open_brace, end ∙ ap (λ (b : Bool). Some (if b then open_inside else open_brace)) v.if-has_room.false, v.kind-is, c.saturating_sub.ensures ∙ places.1)
+          (open_brace, end ∙ ap (λ (b : Bool). Some (if b then open_inside else open_brace)) v.if-has_room.false, v.kind-is, c.saturating_sub.ensures ∙ ap (λ n. n - 1) at)
     ]
 
 -- The specification of a field is open.
 pub returns-in-Body-default-Specification-default-default : goal.returns-in-Body-default-Specification-default-default
-returns-in-Body-default-Specification-default-default c = λ placed base t f inside at.
+returns-in-Body-default-Specification-default-default c = λ placed t f at.
     let w = c.in-Body-default-Specification-default-default in
     let region : w.field-1 ≡ regions.Specification = cc (w.is, w.field-1-is) in
     let mode : t.mode ≡ body (host_in w.field-0) specification w.field-2 (at_in w.field-3) =
@@ -44,7 +43,7 @@ returns-in-Body-default-Specification-default-default c = λ placed base t f ins
     let field : InField c.args.self.now.frames = subst (λ (m : FieldMode). IsPlaced m c.args.self.now.frames) (f.mode ∙ mode) placed in
     let waits : is_waiting t.mode ≡ false = ap is_waiting mode in (
       open_inside,
-      ap (λ (m : FieldMode). unfinished_with c.args.depth t.outer t.openers m) mode,
+      ap (unfinished_in t.outer t.openers) mode,
       refl,
-      specification_place c.args.self.now base t c.last_place.result f field c.last_place.ensures ∙ ap (λ (b : Bool). base + (if b then here t - 1 else field_start t)) (sym waits),
+      specification_place c.args.self.now t c.last_place.result f field c.last_place.ensures ∙ ap (λ (b : Bool). if b then here t - 1 else field_start t) (sym waits),
     )

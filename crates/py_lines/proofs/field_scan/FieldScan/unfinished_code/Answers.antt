@@ -1,28 +1,34 @@
-use Rattle.std.proofs.Common.{Bool, refl, sym, ap, ◌∙◌}
-use Rattle.std.specs.Prelude.{if◌then◌else◌}
+use Rattle.std.proofs.Common.{◌∷◌, ap, length, refl, sym, ◌∙◌}
+use Rattle.py_lines.specs.declared.frames.Frame.{Frame}
 use Rattle.py_lines.specs.Faults.{open_short, open_long, open_join}
-use Rattle.py_lines.specs.declared.fault.FaultKind.TheVariants.{OpenBracket, OpenField}
-use Rattle.py_lines.proofs.FieldScans.FieldFaults.{code_end, what_round}
-use Rattle.py_lines.proofs.field_scan.FieldScan.unfinished_code.Goals.{then-in_bracket, else-in_bracket}
+use Rattle.py_lines.proofs.FieldScans.FieldFaults.{bracket_open, code_ends, code_unfinished, field_open}
 use Rattle.py_lines.proofs.field_scan.FieldScan.unfinished_code.Goals as goal
 
-pub returns : goal.returns
-returns c = λ base depth t f is inside.
-    code_end c.args.self.now base depth t c.args.mode _ c.last_place.result f is inside (sym c.if-in_short.ensures) (sym c.if-in_long.ensures) (sym c.if-is_after_backslash.ensures)
-    (λ bracket same. elim c.if-in_bracket.branch [
-      | then-in_bracket w ↦ w.kind-is ∙ ap (λ (b : Bool). if b then OpenBracket else OpenField) (sym w.if-in_bracket.true ∙ c.in_bracket.ensures ∙ same)
-      | else-in_bracket w ↦ w.kind-is ∙ ap (λ (b : Bool). if b then OpenBracket else OpenField) (sym w.if-in_bracket.false ∙ c.in_bracket.ensures ∙ same)
-    ]) c.last_place.ensures
-
 pub returns-then-in_short : goal.returns-then-in_short
-returns-then-in_short c = λ base depth t f is inside. (open_short, what_round c.args.mode depth t is ∙ rw (sym c.in_short.ensures ∙ c.if-in_short.true), refl, f.start)
+returns-then-in_short c = λ t f is. (open_short, code_unfinished c.args.mode t is ∙ rw (sym c.in_short.ensures ∙ c.if-in_short.true), refl, f.start)
 
 pub returns-then-in_long : goal.returns-then-in_long
-returns-then-in_long c = λ base depth t f is inside.
-    (open_long, what_round c.args.mode depth t is ∙ rw (sym c.in_short.ensures ∙ c.if-in_short.false, sym c.in_long.ensures ∙ c.if-in_long.true), refl, f.start)
+returns-then-in_long c = λ t f is.
+    (open_long, code_unfinished c.args.mode t is ∙ rw (sym c.in_short.ensures ∙ c.if-in_short.false, sym c.in_long.ensures ∙ c.if-in_long.true), refl, f.start)
 
 pub returns-then-is_after_backslash : goal.returns-then-is_after_backslash
-returns-then-is_after_backslash c = λ base depth t f is inside.
+returns-then-is_after_backslash c = λ t f is.
     let no_short = sym c.in_short.ensures ∙ c.if-in_short.false in
     let no_long = sym c.in_long.ensures ∙ c.if-in_long.false in
-    (open_join, what_round c.args.mode depth t is ∙ rw (no_short, no_long, sym c.is_after_backslash.ensures ∙ c.if-is_after_backslash.true), refl, f.start)
+    (open_join, code_unfinished c.args.mode t is ∙ rw (no_short, no_long, sym c.is_after_backslash.ensures ∙ c.if-is_after_backslash.true), refl, f.start)
+
+pub returns-in-Bracket : goal.returns-in-Bracket
+returns-in-Bracket c = λ t f is.
+    let (others, top) = c.in_ok-place.ensures in
+    bracket_open c.args.self.now t c.args.mode f is (sym c.if-in_short.ensures) (sym c.if-in_long.ensures) (sym c.if-is_after_backslash.ensures) c.in-Bracket.field-0 c.in-Bracket.place others
+    (top ∙ ap (λ (g : Frame). g ∷ others) c.in-Bracket.is)
+
+pub returns-in-Field : goal.returns-in-Field
+returns-in-Field c = λ t f is.
+    let (others, top) = c.in_ok-place.ensures in
+    field_open c.args.self.now t c.args.mode f is (sym c.if-in_short.ensures) (sym c.if-in_long.ensures) (sym c.if-is_after_backslash.ensures) c.in-Field.field others
+    (top ∙ ap (λ (g : Frame). g ∷ others) c.in-Field.is)
+
+pub returns-in_err-place : goal.returns-in_err-place
+returns-in_err-place c = λ t f is.
+    rw (c.from_residual.ensures) (code_ends c.args.self.now t c.args.mode f is (sym c.if-in_short.ensures) (sym c.if-in_long.ensures) (sym c.if-is_after_backslash.ensures) (ap length c.in_err-place.ensures))

@@ -1,16 +1,25 @@
-use Rattle.std.proofs.Common.{drop, ap, ◌∙◌, arith}
-use Rattle.py_lines.proofs.FieldScans.FrameArrays.{first_frames, first_frames-pop, nested_rest}
+use Rattle.std.proofs.Common.{◌-◌, ap, sym, ◌∙◌, arith}
+use Rattle.py_lines.proofs.FieldScans.FrameArrays.{counted, popped, popped_rest}
 use Rattle.py_lines.proofs.frames.Frames.pop.Goals as goal
 
-pub returns-clause-rest : goal.returns-clause-rest
-returns-clause-rest c =
+pub returns-in-Bracket-clause-rest : goal.returns-in-Bracket-clause-rest
+returns-in-Bracket-clause-rest c =
     let q = c.self.inside in
-    ap (first_frames q.slots) c.saturating_sub-self-inside.ensures ∙ first_frames-pop q.slots q.depth c.self.invariant.0 c.self.invariant.1 ∙ ap (drop 1) c.self.view_is
+    popped_rest q.slots q.depth _ _ c.self.invariant.0 c.self.invariant.1 c.self.view_is c.saturating_sub-self-inside.ensures
 
-pub returns-clause-nested : goal.returns-clause-nested
-returns-clause-nested c = λ frame others is. (rw (c.self.view_is ∙ is) at c.self.invariant.2).0
+pub returns-in-Field-clause-rest : goal.returns-in-Field-clause-rest
+returns-in-Field-clause-rest c =
+    let q = c.self.inside in
+    popped_rest q.slots q.depth _ _ c.self.invariant.0 c.self.invariant.1 c.self.view_is c.saturating_sub-self-inside.ensures
 
 pub invariant_of-self : goal.invariant_of-self
 invariant_of-self c =
     let q = c.self.inside in
-    (c.self.invariant.0, omega (arith, c.self.invariant.1, c.saturating_sub-self-inside.ensures), rw (c.saturating_sub-self-inside.ensures, first_frames-pop q.slots q.depth c.self.invariant.0 c.self.invariant.1) (nested_rest (first_frames q.slots q.depth) c.self.invariant.2))
+    popped q.slots q.depth _ q.fields _ c.args.self.now _ c.in-Some.frame c.self.invariant c.self.view_is c.saturating_sub-self-inside.ensures c.in-Some.ensures.1
+    (omega arith ∙ ap (λ f. q.fields - counted f) (sym c.in-Bracket.is))
+
+pub invariant_of-self-in-Field : goal.invariant_of-self-in-Field
+invariant_of-self-in-Field c =
+    let q = c.self.inside in
+    popped q.slots q.depth _ q.fields _ c.args.self.now _ c.in-Some.frame c.self.invariant c.self.view_is c.saturating_sub-self-inside.ensures c.in-Some.ensures.1
+    (c.saturating_sub-self-inside-in-Field.ensures ∙ ap (λ f. q.fields - counted f) (sym c.in-Field.is))

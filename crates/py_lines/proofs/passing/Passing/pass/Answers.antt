@@ -1,9 +1,7 @@
 use Rattle.std.proofs.Common.{◌≡◌, ◌+◌, ◌-◌, arith, refl}
 use Rattle.py_lines.proofs.Text.CharacterTests.{feed_is}
 use Rattle.py_lines.proofs.SimpleLines.Lines.{feed_ends}
-use Rattle.py_lines.proofs.SimpleLines.Passing.{bracket_passed}
-use Rattle.py_lines.proofs.Machine.LiveTexts.{closing-operator}
-use Rattle.py_lines.proofs.FieldMachine.PieceRuns.{opening_operator}
+use Rattle.py_lines.proofs.SimpleLines.Passing.{closing_passed, opening_passed}
 use Rattle.py_lines.proofs.passing.Passing.pass.Goals as goal
 
 pub returns-in-LineFeed : goal.returns-in-LineFeed
@@ -17,14 +15,14 @@ returns-in-LineFeed c =
 
 pub returns-in-Opening : goal.returns-in-Opening
 returns-in-Opening c =
-    bracket_passed c.args.bytes.now c.args.at c.args.self.now c.requires.within c.requires.marked c.args.place c.args.brackets.now c.open-met.result
-    c.open-met.new.self c.pass_bracket.result c.pass_bracket.new.self (opening_operator _ c.in-Opening.ensures) c.open-met.ensures c.pass_bracket.ensures
+    opening_passed c.args.bytes.now c.args.at c.args.self.now c.requires.within c.requires.marked c.args.place c.args.frames.now c.open-met.result
+    c.open-met.new.self c.pass_bracket.result c.pass_bracket.new.self c.in-Opening.ensures c.open-met.ensures c.pass_bracket.ensures
 
 pub returns-in-Closing : goal.returns-in-Closing
 returns-in-Closing c =
-    bracket_passed c.args.bytes.now c.args.at c.args.self.now c.requires.within c.requires.marked c.args.place c.args.brackets.now c.close-met.result
-    c.close-met.new.self c.pass_bracket-in-Closing.result c.pass_bracket-in-Closing.new.self (closing-operator _ c.in-Closing.ensures)
-    (c.close-met.ensures c.args.place) c.pass_bracket-in-Closing.ensures
+    closing_passed c.args.bytes.now c.args.at c.args.self.now c.requires.within c.requires.marked c.args.place c.args.frames.now c.close-met.result
+    c.close-met.new.self c.pass_bracket-in-Closing.result c.pass_bracket-in-Closing.new.self c.in-Closing.ensures c.close-met.ensures
+    c.pass_bracket-in-Closing.ensures
 
 pub returns-in-Return : goal.returns-in-Return
 returns-in-Return c = c.pass_return.ensures c.args.place

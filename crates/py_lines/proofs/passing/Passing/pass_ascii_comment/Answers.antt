@@ -26,7 +26,7 @@ specials-preserved c =
     comment_further bytes c.args.at end c.next-end-in-specials.result c.specials.marks c.next-end-in-specials.new.self c.specials.invariant remark next
 
 pub returns-clause-passed : goal.returns-clause-passed
-returns-clause-passed c = λ _ place brackets shallow.
+returns-clause-passed c = λ _ place frames shallow.
     let bytes = c.args.bytes.now in
     let at = c.args.at in
     let end = c.specials.end in
@@ -39,5 +39,5 @@ returns-clause-passed c = λ _ place brackets shallow.
     ] in
     let passes = marked_comment bytes at end read.further within c.requires.hash read.each breaks in
     let there = c.keep.ensures bytes (within, read.next.special within) (read.next.rest within) in
-    piece_passed bytes at c.args.self.now c.requires.within c.requires.marked place brackets (record { len = end - at; line_ends = 0 }) false end c.keep.new.self c.pass_to.new.self shallow passes
+    piece_passed bytes at c.args.self.now c.requires.within c.requires.marked place frames (record { len = end - at; line_ends = 0 }) false end c.keep.new.self c.pass_to.new.self shallow passes
     (omega (arith, read.further)) there c.pass_to.ensures

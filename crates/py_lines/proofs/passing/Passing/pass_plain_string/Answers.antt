@@ -6,7 +6,7 @@ use Rattle.py_lines.proofs.SimpleLines.Passing.{piece_passed}
 use Rattle.py_lines.proofs.passing.Passing.pass_plain_string.Goals as goal
 
 pub returns-clause-passed : goal.returns-clause-passed
-returns-clause-passed c = λ _ place brackets shallow.
+returns-clause-passed c = λ _ place frames shallow.
     let bytes = c.args.bytes.now in
     let at = c.args.at in
     let end = c.next-end.result in
@@ -17,5 +17,5 @@ returns-clause-passed c = λ _ place brackets shallow.
     let some : at + 1 < end = omega (arith, after, c.if-end-at.false) in
     let prefix = subst (λ (p : Prefix). IsPrefix p (tail_of (take at bytes))) c.in-Plain.is c.before-2.ensures in
     let passes = marked_string bytes at end further within c.requires.quote (λ i more less. next.plain i (omega (arith, more)) less) c.if-bytes-end.false some prefix in
-    piece_passed bytes at c.args.self.now c.requires.within c.requires.marked place brackets (record { len = end + 1 - at; line_ends = 0 }) true (end + 1) c.next-end.new.self c.pass_to.new.self shallow passes
+    piece_passed bytes at c.args.self.now c.requires.within c.requires.marked place frames (record { len = end + 1 - at; line_ends = 0 }) true (end + 1) c.next-end.new.self c.pass_to.new.self shallow passes
     (omega (arith, further)) (next.rest within) c.pass_to.ensures

@@ -1,8 +1,9 @@
-use Rattle.std.proofs.Common.{◌-◌, length, take, drop, sym, arith, ◌∙◌}
+use Rattle.std.proofs.Common.{◌<◌, ◌-◌, ◌≤◌, length, take, drop, sym, ap, arith, ◌∙◌, ⊎_elim, length-append, length-drop}
+use Rattle.std.proofs.lemmas.List.{take_rest}
 use Rattle.py_lines.proofs.LineScan.LineStops.{GoesTo, gone, goes_long, left_goes, goes_run, goes_character, stops_line, stops_returned, stops_refused, stops_text}
 use Rattle.py_lines.proofs.Text.FirstCharacters.{first_size}
 use Rattle.py_lines.proofs.scan.Scan.extend.Goals as goal
-use Rattle.py_lines.proofs.scan.Scan.extend.Goals.{In-Bytes, In-Going}
+use Rattle.py_lines.proofs.scan.Scan.extend.Goals.{After-hold-rest, In-Bytes, In-Going}
 
 -- where the pieces have left the scan
 left_to : (c : In-Bytes) → GoesTo c.args.self.now c.args.bytes.now c.take_pieces.new.self c.in-Bytes.left.now
@@ -45,24 +46,47 @@ hold_lines-more-requires c =
     let at = gone c.requires.way (goes to.In-Going (left_to to.In-Bytes)) in
     record { bytes = omega (arith, c.requires.bytes, at.room); lines = omega (arith, c.requires.lines, at.room, at.lines); quote = at.quote }
 
-pub hold-held-requires : goal.hold-held-requires
-hold-held-requires c =
-    let to = goal.at.hold-held-requires c in
+pub hold-rest-requires : goal.hold-rest-requires
+hold-rest-requires c =
+    let to = goal.at.hold-rest-requires c in
     let at = gone c.requires.way (goes_long (goes to.In-Going (left_to to.In-Bytes)) c.hold_lines-more.ensures) in
     record { bytes = omega (arith, c.requires.bytes, at.room); quote = at.quote }
 
-pub take_in_string-rest-requires : goal.take_in_string-rest-requires
-take_in_string-rest-requires c =
-    let to = goal.at.take_in_string-rest-requires c in
-    let held = goes_run (goes_long (goes to.In-Going (left_to to.In-Bytes)) c.hold_lines-more.ensures) c.hold-held.ensures in
+pub take_in_fields-rest-requires : goal.take_in_fields-rest-requires
+take_in_fields-rest-requires c =
+    let to = goal.at.take_in_fields-rest-requires c in
+    let held = goes_run (goes_long (goes to.In-Going (left_to to.In-Bytes)) c.hold_lines-more.ensures) c.hold-rest.ensures in
     let at = gone c.requires.way held in
     record { way = at.way; bytes = omega (arith, c.requires.bytes, at.room); lines = omega (arith, c.requires.lines, at.room, at.line) }
 
 pub characters-preserved : goal.characters-preserved
 characters-preserved c =
     let to = goal.at.characters-preserved c in
-    let held = goes_run (goes_long (goes to.In-Going (left_to to.In-Bytes)) c.hold_lines-more.ensures) c.hold-held.ensures in
-    record { goes = λ m line whole start r. c.take_in_string-rest.ensures.reached m line whole start (held m line whole start r) }
+    record { goes = goes_run (goes_long (goes to.In-Going (left_to to.In-Bytes)) c.hold_lines-more.ensures) c.hold-rest.ensures }
+
+pub characters-preserved-then-has_field : goal.characters-preserved-then-has_field
+characters-preserved-then-has_field c =
+    let to = goal.at.characters-preserved-then-has_field c in
+    let held = goes_run (goes_long (goes to.In-Going (left_to to.In-Bytes)) c.hold_lines-more.ensures) c.hold-rest.ensures in
+    record { goes = λ m line whole start r. c.take_in_fields-rest.ensures.reached m line whole start (held m line whole start r) }
+
+held_smaller : (c : After-hold-rest) → length c.hold-rest.result.now < length c.characters.rest.now
+held_smaller c =
+    let left = c.in-Bytes.left.now in
+    let len = c.len_utf8-len.result in
+    let more = c.hold_lines-more.result.now in
+    let held = c.hold-rest.ensures in
+    let shorter : length more ≤ length (take (length left - len) (drop len left)) =
+    ⊎_elim (λ same. omega (arith, ap length same.0)) (λ reads. omega (arith, ap length reads.spell, length-append reads.run more)) c.hold_lines-more.ensures in
+    omega (arith, ap length held.rest_is, length-drop held.len more, shorter, ap length (take_rest left len), length-drop len left, c.len_utf8-len.ensures.lower_bound, first_size c.in-Some.ensures, c.len_utf8-len.ensures.value, c.in-Bytes.ensures.shorter)
+
+pub characters-smaller : goal.characters-smaller
+characters-smaller c = held_smaller (goal.at.characters-smaller c).After-hold-rest
+
+pub characters-smaller-then-has_field : goal.characters-smaller-then-has_field
+characters-smaller-then-has_field c =
+    let held = held_smaller (goal.at.characters-smaller-then-has_field c).After-hold-rest in
+    omega (arith, c.take_in_fields-rest.ensures.shorter, held)
 
 pub returns-in-LineEnded : goal.returns-in-LineEnded
 returns-in-LineEnded c = record {

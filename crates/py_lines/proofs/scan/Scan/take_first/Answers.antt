@@ -1,29 +1,28 @@
-use Rattle.std.proofs.Common.{◌≡◌, ◌-◌, length, take, drop, sym, ap, ◌∙◌, arith, List, ℕ, length-append}
+use Rattle.std.proofs.Common.{◌≡◌, ◌-◌, ◌++◌, length, take, drop, sym, ap, ◌∙◌, arith, List, ℕ, length-append}
 use Rattle.std.specs.Prelude.{encode_utf8_all}
 use Rattle.std.specs.Char.{len_utf8}
 use Rattle.std.proofs.lemmas.List.{take_rest}
 use Rattle.std.proofs.lemmas.Str.{len_utf8_bounds}
-use Rattle.py_lines.proofs.LineTokens.Strings.{InFirst, at_start, begins_string, first_run, first_stands, passed_all, passed_before, passed_with, still_first}
+use Rattle.py_lines.proofs.LineTokens.Strings.{InFirst, at_start, begins_string, first_placed, first_run, first_stands, passed_all, passed_before, passed_with, still_first}
 use Rattle.py_lines.proofs.Text.FirstCharacters.{first_size}
 use Rattle.py_lines.proofs.scan.Scan.take_first.Goals as goal
-use Rattle.py_lines.proofs.scan.Scan.take_first.Goals.{Else-is_free}
+use Rattle.py_lines.proofs.scan.Scan.take_first.Goals.{Else-is_settled}
 
 -- the bytes after the character
 after_is : (before : List ℕ) (c len : ℕ) → len ≡ len_utf8 c → take (length before - len) (drop len before) ≡ drop (len_utf8 c) before
 after_is before c len is = take_rest before len ∙ ap (λ (n : ℕ). drop n before) is
 
 pub characters-init : goal.characters-init
-characters-init c = record { first = at_start c.args.bytes.now c.requires.start c.requires.stacked c.requires.line }
+characters-init c = record { first = at_start c.args.bytes.now c.requires.start c.requires.line }
 
 pub returns-in_default : goal.returns-in_default
 returns-in_default c p is begin =
     passed_all c.characters.invariant.first (begins_string c.args.bytes.now p is begin) c.in_default.ensures
 
-pub returns-then-ends_piece_before : goal.returns-then-ends_piece_before
-returns-then-ends_piece_before c p is begin =
+pub returns-then-ends_before : goal.returns-then-ends_before
+returns-then-ends_before c p is begin =
     let text = begins_string c.args.bytes.now p is begin in
-    let ends = c.ends_piece_before.ensures.ends c.if-ends_piece_before.true in
-    passed_before c.characters.invariant.first text c.in-Some.ensures ends.0 ends.1
+    passed_before c.characters.invariant.first text c.in-Some.ensures (sym c.ends_before.ensures ∙ c.if-ends_before.true)
 
 pub push-requires : goal.push-requires
 push-requires c =
@@ -31,39 +30,43 @@ push-requires c =
     record {
       bytes = omega (arith, c.requires.bytes, stands.room, first_size c.in-Some.ensures);
       lines = omega (arith, c.requires.bytes, stands.room, stands.lines, stands.line);
-      placed = stands.placed;
+      placed = first_placed c.characters.invariant.first;
     }
 
-pub returns-then-is_free : goal.returns-then-is_free
-returns-then-is_free c p is begin =
+pub returns-then-is_settled : goal.returns-then-is_settled
+returns-then-is_settled c p is begin =
     let text = begins_string c.args.bytes.now p is begin in
-    let on = c.ends_piece_before.ensures.goes c.if-ends_piece_before.false in
-    let free = sym c.is_free.ensures ∙ c.if-is_free.true in
-    passed_with c.characters.invariant.first c.push.result c.push.new.self c.in-Some.ensures on c.push.ensures text free
+    let on = sym c.ends_before.ensures ∙ c.if-ends_before.false in
+    let settled = sym c.is_settled.ensures ∙ c.if-is_settled.true in
+    passed_with c.characters.invariant.first c.push.result c.push.new.self c.in-Some.ensures on c.push.ensures text settled
 
 -- the string that goes on
-goes : (c : Else-is_free) → InFirst c.args.bytes.now c.push.new.self (drop (len_utf8 c.in-Some.c) c.characters.rest.now)
+goes : (c : Else-is_settled) → InFirst c.args.bytes.now c.push.new.self (drop (len_utf8 c.in-Some.c) c.characters.rest.now)
 goes c =
     let (p, is, begin) = c.requires.string in
     let text = begins_string c.args.bytes.now p is begin in
-    let on = c.ends_piece_before.ensures.goes c.if-ends_piece_before.false in
-    still_first c.characters.invariant.first c.push.result c.push.new.self c.in-Some.ensures on c.push.ensures text (sym c.is_free.ensures ∙ c.if-is_free.false)
+    let on = sym c.ends_before.ensures ∙ c.if-ends_before.false in
+    still_first c.characters.invariant.first c.push.result c.push.new.self c.in-Some.ensures on c.push.ensures text
+    (sym c.is_settled.ensures ∙ c.if-is_settled.false)
 
 pub hold-rest-requires : goal.hold-rest-requires
 hold-rest-requires c =
-    let stands = first_stands (goes (goal.at.hold-rest-requires c).Else-is_free) in
+    let stands = first_stands (goes (goal.at.hold-rest-requires c).Else-is_settled) in
     let after = after_is c.characters.rest.now c.in-Some.c c.len_utf8.result c.len_utf8.ensures.value in
     record { bytes = omega (arith, c.requires.bytes, stands.room, ap length after); quote = stands.quote }
 
 pub characters-preserved : goal.characters-preserved
 characters-preserved c =
     let after = after_is c.characters.rest.now c.in-Some.c c.len_utf8.result c.len_utf8.ensures.value in
-    record { first = first_run (goes (goal.at.characters-preserved c).Else-is_free) (rw after at c.hold-rest.ensures) }
+    record { first = first_run (goes (goal.at.characters-preserved c).Else-is_settled) (rw after at c.hold-rest.ensures) }
 
 pub slice_bounds-hold-count : goal.slice_bounds-hold-count
 slice_bounds-hold-count c = omega (arith, c.len_utf8.ensures.value, first_size c.in-Some.ensures)
 
 pub characters-smaller : goal.characters-smaller
 characters-smaller c =
-    let held = ap length (c.hold-rest.ensures.spell ∙ after_is c.characters.rest.now c.in-Some.c c.len_utf8.result c.len_utf8.ensures.value) in
-    omega (arith, held, length-append (encode_utf8_all c.hold-rest.ensures.run) c.hold-rest.result.now, first_size c.in-Some.ensures, len_utf8_bounds c.in-Some.c)
+    let held = c.hold-rest.ensures in
+    let run = encode_utf8_all held.holds.run in
+    let after = after_is c.characters.rest.now c.in-Some.c c.len_utf8.result c.len_utf8.ensures.value in
+    let spell = ap length (ap (λ t. run ++ t) held.rest_is ∙ held.holds.spell ∙ after) in
+    omega (arith, spell, length-append run c.hold-rest.result.now, first_size c.in-Some.ensures, len_utf8_bounds c.in-Some.c)

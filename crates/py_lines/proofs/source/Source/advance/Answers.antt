@@ -1,14 +1,17 @@
-use Rattle.std.proofs.Common.{◌≡◌, ◌≢◌, ◌<◌, ℕ, None, List, length, drop, ap, arith, length-take, refl, subst, sym, ◌∙◌}
+use Rattle.std.proofs.Common.{◌≡◌, ◌≢◌, ◌<◌, ℕ, None, List, [], length, drop, ap, arith, length-take, refl, subst, sym, ◌∙◌}
 use Rattle.py_lines.specs.Private.Source.{LineState, Stop, Source, HasScanned}
 use Rattle.py_lines.specs.Private.LineState.{BeginsAnew, first_mode}
-use Rattle.py_lines.specs.Private.Scan.{Scans}
+use Rattle.py_lines.specs.Private.Scan.{HasBegun, Scans, line_start}
+use Rattle.py_lines.specs.Private.ScanMachine.{IsScanSound}
+use Rattle.py_lines.specs.declared.mode.Mode.{Mode}
 use Rattle.py_lines.proofs.Lexings.FirstLines.{all_first}
+use Rattle.py_lines.proofs.LineScan.TextSteps.{begun_sound}
 use Rattle.py_lines.proofs.source.Source.advance.Goals as goal
 
 -- the next line was begun, and its scan has stopped
 has_scanned : (s : Source) (old begun : LineState) (text : List ℕ) (stopped stop : Stop) → s.state ≡ record begun { scan = s.state.scan } → BeginsAnew old begun
     → old.place < length s.bytes.now → old.fault ≡ None → s.state.scan.line ≡ begun.scan.line → text ≡ drop begun.place s.characters.now
-    → Scans begun.scan.piece.mode text s.state.scan stopped → stopped ≡ stop → HasScanned s stop
+    → ((m : Mode) → HasBegun m begun.scan → IsScanSound (line_start m) [] → Scans m text s.state.scan stopped) → stopped ≡ stop → HasScanned s stop
 has_scanned s old begun text stopped stop is begins more none line next scans stops =
     let same : s.state ≡ record old { scan = s.state.scan; tokens = begun.tokens } = is ∙ ap (λ (l : LineState). record l { scan = s.state.scan }) begins.same in
     let place : s.state.place ≡ old.place = ap (λ (l : LineState). l.place) same in
@@ -17,13 +20,17 @@ has_scanned s old begun text stopped stop is begins more none line next scans st
       more = subst (λ n. n < length s.bytes.now) (sym place) more;
       no_fault = ap (λ (l : LineState). l.fault) same ∙ none;
       line = line ∙ begins.number ∙ sym (ap (λ (l : LineState). l.line) same);
-      scans = subst (λ m. Scans m (drop s.state.place s.characters.now) s.state.scan stop) (begins.tallies.counts.mode ∙ ap first_mode (sym place))
-          (subst (λ t. Scans begun.scan.piece.mode t s.state.scan stop) from (subst (Scans begun.scan.piece.mode text s.state.scan) stops scans));
+      scans = subst (λ n. Scans (first_mode n) (drop s.state.place s.characters.now) s.state.scan stop) (sym place)
+          (subst (λ t. Scans (first_mode old.place) t s.state.scan stop) from
+          (subst (Scans (first_mode old.place) text s.state.scan) stops (scans (first_mode old.place) begins.begun (begun_sound old.place))));
     }
 
 -- not at the end of the text, so before it
 is_before_end : (s : Source) → s.state.place ≢ length s.bytes.now → s.state.place < length s.bytes.now
 is_before_end s other = omega (arith, other, s.within, ap length s.prefix, length-take (length s.characters.now) s.bytes.now)
+
+pub scan_text-requires-clause-start : goal.scan_text-requires-clause-start
+scan_text-requires-clause-start c = (first_mode c.args.self.now.state.place, c.restart.ensures.begun, begun_sound c.args.self.now.state.place)
 
 pub returns-then-self : goal.returns-then-self
 returns-then-self c = record {

@@ -1,8 +1,10 @@
-use Rattle.std.proofs.Common.{◌≡◌, ℕ, ◌-◌, ◌≤◌, Some, Err, inl, inr, true, length, sym, ap, ◌∙◌, subst, arith}
+use Rattle.std.proofs.Common.{◌≡◌, ℕ, ◌-◌, ◌≤◌, None, Some, [], Err, inl, inr, true, length, sym, subst, arith}
 use Rattle.std.proofs.lemmas.Result.{err_from_is_err_and}
-use Rattle.py_lines.specs.Private.Source.{Source, Advances, FailsAfter, HasScanned, FaultKind, LexError, Stop, LineFault, Mode}
+use Rattle.py_lines.specs.Private.Source.{Source, Advances, FailsAfter, HasScanned, FaultKind, LexError, Stop, LineFault}
+use Rattle.py_lines.specs.Private.FieldScan.{EndsField}
 use Rattle.py_lines.specs.Private.LineState.{IsEndLineFault}
 use Rattle.py_lines.specs.Private.Machine.{is_final}
+use Rattle.py_lines.proofs.LineScan.TextSteps.{begun_sound}
 use Rattle.py_lines.proofs.Machine.PieceSteps.{pieces_at}
 use Rattle.py_lines.proofs.Readers.LineAnswers.{all_within, place_boundary, is_line_text, stop_size, fails_at_bytes, fails_at_end, end_within, last_line, continues_text, few_lines_text}
 use Rattle.py_lines.proofs.Readers.LineFaults.{Within, finished}
@@ -27,19 +29,20 @@ fail-requires c =
 pub returns-in-Some : goal.returns-in-Some
 returns-in-Some c = line_fault_fails c.args.self.now c.requires c.in-Some.line_fault c.in-Some.ensures c.fail.result c.fail.new.self c.fail.ensures
 
-final_mode : (s : Source) (has : HasScanned s Stop.TextEnd) → is_final s.state.scan.piece.mode ≡ true → is_final has.scans.stops.0.state.mode ≡ true
-final_mode s has final = ap (λ (m : Mode). is_final m) (sym has.scans.stops.0.tallies.counts.mode) ∙ final
+-- the text may end there
+ends : (s : Source) (has : HasScanned s Stop.TextEnd) → EndsField s.state.scan.inside s.state.scan.stop None → (is_final has.scans.stops.0.state.mode ≡ true) × (has.scans.stops.0.brackets ≡ [])
+ends s has is = finished has.scans.stops.0 (begun_sound s.state.place) is
 
 pub give-requires : goal.give-requires
 give-requires c =
     let s = c.args.self.now in
     let all = all_within c.requires.scans.read s.state.scan.stop (stop_size s c.requires) in
-    let done = finished s.state.scan c.in_default.ensures.1 in
+    let done = ends s c.requires c.in_default.ensures.1 in
     let pieces = pieces_at c.requires.scans.stops.0.state in
     record {
       boundary = place_boundary s Stop.TextEnd c.requires s.state.scan.stop (all_within c.requires.scans.read s.state.scan.stop (stop_size s c.requires));
       lines = few_lines_text s c.requires;
-      text = (pieces, is_line_text s Stop.TextEnd c.requires 0 pieces (last_line s c.requires (final_mode s c.requires done.0) done.1 (omega (arith, c.in_default.ensures.0))));
+      text = (pieces, is_line_text s Stop.TextEnd c.requires 0 pieces (last_line s c.requires done.0 done.1 (omega (arith, c.in_default.ensures.0))));
     }
 
 pub returns-in_err-give : goal.returns-in_err-give
@@ -50,5 +53,5 @@ returns-in_err-give c =
 pub returns : goal.returns
 returns c =
     let s = c.args.self.now in
-    let done = finished s.state.scan c.in_default.ensures.1 in
-    continues_text s c.requires c.give.new.self (final_mode s c.requires done.0) done.1 (omega (arith, c.in_default.ensures.0)) c.in_ok-give.ensures
+    let done = ends s c.requires c.in_default.ensures.1 in
+    continues_text s c.requires c.give.new.self done.0 done.1 (omega (arith, c.in_default.ensures.0)) c.in_ok-give.ensures

@@ -1,6 +1,6 @@
 use Rattle.std.proofs.Common.{◌≤◌, length}
 use Rattle.py_lines.proofs.LineScan.LineStops.{GoesTo}
-use Rattle.py_lines.proofs.scan.Scan.take_in_string.Given as goal
+use Rattle.py_lines.proofs.scan.Scan.take_in_fields.Given as goal
 
 abbrev pub invariant-characters : goal.invariant-characters
 invariant-characters l = record {
