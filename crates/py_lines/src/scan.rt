@@ -167,8 +167,8 @@ impl Scan {
         }
     }
 
-    /// Takes characters of ASCII in a string with fields, as long as a field of it is open. Answers the bytes after them. It is apart from
-    /// the loop over pieces, so that this one stays small.
+    /// Goes on in the line, and answers the bytes after what was taken: it is for where a field is open. It is apart from the loop over
+    /// pieces, so that this one stays small.
     #[inline(never)]
     fn take_in_fields<'s>(&mut self, bytes: &'s [u8]) -> &'s [u8]
         requires way { ReachedInSomeLine self.old bytes.now }
