@@ -1,4 +1,5 @@
 -- What the scan of a line keeps of what is open: it follows the machine with fields.
+pub mod Bytes
 pub mod FrameArrays
 pub mod Frames
 pub mod Moves

@@ -18,7 +18,7 @@
 -- each field that is open, is stated for any limit on what may stand at a depth, so one proof gives two theorems: where it may
 -- end, its pieces read the text; and they are shallow if each character had room. What it holds says which lists of pieces and
 -- which strings are open, and what is open can be closed, so a text is live exactly if the machine goes through it with room. The code
--- goes by this machine, in mode.rt, field_mode.rt and field_scan.rt.
+-- goes by this machine, in mode.rt, field_mode.rt and scan.rt.
 --
 -- That of specs/Private/ScanMachine.antt finds the pieces of a line. To it a string with fields is one open piece, and the machine with
 -- fields says how far that has come. Where one of the two has come, so has the other, and their states belong together (`IsTied`,
@@ -41,13 +41,13 @@
 -- start has given none, so every text has some lexing. Settled pieces begin all pieces that read more, so their lines are final.
 --
 -- What is open in a line (proofs/FieldScans): the scan keeps the mode, the place and the frames of the state of the machine with fields
--- (`Follows`, specs/Private/FieldScan), and each character keeps it so (Taking, Openings). What the scan says of a fault is what that
+-- (`Follows`, specs/Private/Scan), and each character keeps it so (Taking, Openings). What the scan says of a fault is what that
 -- state says (FieldFaults). Characters of one piece, code of a field up to a sign, and simple text of a string, with whole fields, are
 -- taken at once (Runs). Simple text leads the machine from one place of a string to another, whatever was open before (`Leads`,
 -- specs/Private/FieldText; Texts and TextLengths).
 --
 -- The scan of one logical line (proofs/LineScan): where it has come from the line's start, both machines have (`IsUnderWay`,
--- specs/Private/Scan). A character that ends the line in one of them does so in the other, since their states belong together
+-- specs/Private/LineScan). A character that ends the line in one of them does so in the other, since their states belong together
 -- (LineSteps). So the scan, which follows the machine with fields, knows where the line ends, and the other machine has its pieces. What
 -- is taken at once finishes none of these (Runs). Where no piece and no field is open the scan passes over whole pieces as over simple
 -- lines (SimpleLines/Passing), in whatever mode the line began, and stands again where all of them are closed: after an operator, a

@@ -10,6 +10,7 @@ pub mod LineCount
 pub mod Runs
 pub mod Spans
 pub mod AsciiRuns
+pub mod ClassStarts
 pub mod PlainStrings
 pub mod WholeStrings
 pub mod LineStops

@@ -11,4 +11,6 @@ pub mod Joins
 pub mod Lines
 pub mod UnderWay
 pub mod Passing
+pub mod PieceEnds
 pub mod MarkedPieces
+pub mod PassedEnds

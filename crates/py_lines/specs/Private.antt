@@ -5,9 +5,10 @@ pub mod FieldMachine
 pub mod ScanMachine
 pub mod FieldFaults
 pub mod Frames
-pub mod FieldScan
-pub mod FieldText
 pub mod Scan
+pub mod FieldText
+pub mod LineScan
+pub mod LineEnds
 pub mod LineState
 pub mod LineTokens
 pub mod Source

@@ -1,8 +1,8 @@
 //! Which characters the pieces of a text are made of (Python Language Reference, 2.1 to 2.6).
 
 ghost use Rattle.std.specs.Prelude.{◌≡◌};
-ghost use Rattle.py_lines.specs.Character.{is_mark, is_space, is_word_character, is_word_start, is_quote};
-ghost use Rattle.py_lines.specs.Character.{is_operator, is_line_feed, is_return, is_break, is_hash, is_backslash};
+ghost use Rattle.py_lines.specs.Character.{is_mark, is_space, is_word_character, is_quote};
+ghost use Rattle.py_lines.specs.Character.{is_line_feed, is_return, is_break, is_backslash};
 ghost use Rattle.py_lines.specs.Character.{is_brace};
 ghost use Rattle.py_lines.specs.Balance.{is_opening, is_closing};
 
@@ -25,7 +25,7 @@ pub fn is_space(c: char) -> bool
 }
 
 /// The characters that may continue an identifier.
-#[tactic(auto, using(crate::proofs::LineScan::Runs::word_byte_continues), unfolding(crate::specs::Character::is_word_character))]
+#[tactic(auto, using(crate::proofs::LineScan::AsciiRuns::word_byte_continues), unfolding(crate::specs::Character::is_word_character))]
 pub fn is_word_character(c: char) -> bool
     ensures { result ≡ is_word_character c }
 {
@@ -36,57 +36,12 @@ pub fn is_word_character(c: char) -> bool
     }
 }
 
-/// The characters that may begin an identifier, the underscore and the digits.
-#[tactic(auto, using(crate::proofs::LineScan::Runs::word_byte_starts), unfolding(crate::specs::Character::is_word_start, crate::specs::Character::is_digit))]
-pub fn is_word_start(c: char) -> bool
-    ensures { result ≡ is_word_start c }
-{
-    if c.is_ascii() {
-        is_ascii_word(c as u8)
-    } else {
-        unicode_ident::is_xid_start(c) || c == '_' || c.is_ascii_digit()
-    }
-}
-
 /// The quotes of strings.
 #[tactic(auto, unfolding(crate::specs::Character::is_quote))]
 pub fn is_quote(c: char) -> bool
     ensures { result ≡ is_quote c }
 {
     matches!(c, '\'' | '"')
-}
-
-/// The characters of operators and delimiters, brackets among them.
-#[tactic(auto, unfolding(crate::specs::Character::is_operator))]
-pub fn is_operator(c: char) -> bool
-    ensures { result ≡ is_operator c }
-{
-    matches!(
-        c,
-        '+' | '-'
-            | '*'
-            | '/'
-            | '%'
-            | '@'
-            | '&'
-            | '|'
-            | '^'
-            | '~'
-            | '<'
-            | '>'
-            | '='
-            | '!'
-            | '('
-            | ')'
-            | '['
-            | ']'
-            | '{'
-            | '}'
-            | ','
-            | ':'
-            | '.'
-            | ';'
-    )
 }
 
 /// Line feed.
@@ -111,14 +66,6 @@ pub fn is_break(c: char) -> bool
     ensures { result ≡ is_break c }
 {
     matches!(c, '\n' | '\r')
-}
-
-/// What opens a comment.
-#[tactic(auto, unfolding(crate::specs::Character::is_hash))]
-pub fn is_hash(c: char) -> bool
-    ensures { result ≡ is_hash c }
-{
-    c == '#'
 }
 
 /// What joins lines, and escapes in strings.

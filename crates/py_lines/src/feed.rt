@@ -9,33 +9,13 @@ ghost use Rattle.py_lines.specs.Private.Outline.{BeginWithLines};
 ghost use Rattle.py_lines.specs.ScannerState.{HoldsAfterLines, LacksBoth};
 
 use crate::fault::{Fault, FaultKind, LexError};
+use crate::line_ends::line_ends;
 use crate::line_state::LineState;
 use crate::outline::simple_lines;
-use crate::plain_strings::Passed;
 use crate::scan::Stop;
 use crate::unit::Unit;
 use memchr::memmem;
 use std::alloc::{AllocError, Global};
-
-/// How many bytes are taken at once to follow those that are held, if no more are held. Most lines have fewer.
-const STEP: usize = 128;
-
-/// Puts the first `len` of these bytes after those that are held. If there is no memory for them, none is.
-#[inline(always)]
-fn hold_first(held: &mut Vec<u8>, bytes: &[u8], len: usize) -> Result<(), AllocError>
-    requires { len ≤ length bytes.now }
-    ensures ok { OnOk result (held.new.items ≡ held.old.items ++ take len bytes.now) }
-    ensures err { OnErr result (held.new.items ≡ held.old.items) }
-{
-    if len > STEP || bytes.len() < STEP {
-        return held.extend_from_slice(&bytes[..len]);
-    }
-    // A copy whose size is known takes fewer steps.
-    let end = held.len() + len;
-    held.extend_from_slice(&bytes[..STEP])?;
-    held.truncate(end);
-    Ok(())
-}
 
 /// Whether no bytes after these, which begin no character, complete them.
 fn is_hopeless(bytes: &[u8]) -> bool
@@ -48,40 +28,26 @@ fn is_hopeless(bytes: &[u8]) -> bool
     }
 }
 
-/// Drops so many bytes. It is seldom called: most lines are let go with all that is held. After CR one byte is left.
-#[cold]
-fn drop_first(held: &mut Vec<u8>, len: usize)
-    requires { len ≤ length held.old.items }
-    ensures { held.new.items ≡ drop len held.old.items }
-{
-    if held.len() - len == 1 {
-        held[0] = held[len];
-        held.truncate(1);
-        return;
-    }
-    held.drain(..len);
-}
-
-/// Holds the byte after these lines where CR alone ends the last one, and else none. The result is whether there are lines, and memory
-/// for the byte.
-fn hold_after_lines(held: &mut Vec<u8>, bytes: &[u8], lines: Passed) -> bool
-    requires { BeginWithLines bytes.now lines }
-    ensures some { IsTrue result → 0 < lines.len }
-    ensures held { IsTrue result → HoldsAfterLines bytes.now lines.len held.new.items }
+/// Holds the byte after lines of so many bytes where CR alone ends the last one, and else none. The result is whether there are lines,
+/// and memory for the byte.
+fn hold_after_lines(held: &mut Vec<u8>, bytes: &[u8], len: usize) -> bool
+    requires { BeginWithLines bytes.now len }
+    ensures some { IsTrue result → 0 < len }
+    ensures held { IsTrue result → HoldsAfterLines bytes.now len held.new.items }
     ensures kept { result ≡ false → held.new.items ≡ held.old.items }
 {
-    if lines.len == 0 {
+    if len == 0 {
         return false;
     }
-    if bytes[lines.len - 1] != b'\r' {
+    if bytes[len - 1] != b'\r' {
         held.clear();
         return true;
     }
     let before = held.len();
-    if held.push(bytes[lines.len]).is_err() {
+    if held.push(bytes[len]).is_err() {
         return false;
     }
-    drop_first(held, before);
+    held.drain(..before);
     true
 }
 
@@ -103,6 +69,8 @@ pub struct Feed {
     pub state: LineState,
     /// Where a line is ready, the bytes of its line end. The line reaches to where the scan stopped.
     pub ready: Option<usize>,
+    /// Where a line is ready and its tokens were read, the line after it.
+    pub next_line: u64,
     /// Whether the text has ended.
     pub ended: bool,
 }
@@ -115,8 +83,8 @@ impl Feed {
     ghost use Rattle.py_lines.specs.UnitLine.{line_in};
     ghost use Rattle.py_lines.specs.Private.Feed.{HasRoom, IsOpen, IsHeldOpen, IsCutAt, FailsAt};
     ghost use Rattle.py_lines.specs.Private.Feed.{ReadsTokens, ScansHeld, StopsHeld, StopsWith, IsScanned};
-    ghost use Rattle.py_lines.specs.Private.Feed.{whole_end, GivesBack, HoldsPiece, HoldsSo, TakesSo};
-    ghost use Rattle.py_lines.specs.Private.Feed.{WaitsSo, HoldsLine, IsSoundFeed, EndsText, LetsGo};
+    ghost use Rattle.py_lines.specs.Private.Feed.{GivesBack, HoldsPiece, HoldsSo, TakesSo};
+    ghost use Rattle.py_lines.specs.Private.Feed.{WaitsSo, HoldsLine, IsLineAfterHeld, IsReady, IsSoundFeed, EndsText, LetsGo};
 
     /// At this byte of a text, which is on this line. Nothing was fed.
     pub fn at(alloc: Global, place: u64, line: u64) -> Feed
@@ -127,6 +95,7 @@ impl Feed {
             held: Vec::new(alloc),
             state: LineState::at(alloc, place, line),
             ready: None,
+            next_line: 0,
             ended: false,
         }
     }
@@ -153,13 +122,18 @@ impl Feed {
             return Ok(());
         }
         let stop = self.state.scan.stop;
-        if let Err(error) = self.state.read_tokens(&self.held[..stop]) {
-            self.held.truncate(before);
-            self.ready = None;
-            self.state.restart();
-            return Err(error.into());
+        match self.state.read_tokens(&self.held[..stop]) {
+            Ok(line) => {
+                self.next_line = line;
+                Ok(())
+            }
+            Err(error) => {
+                self.held.truncate(before);
+                self.ready = None;
+                self.state.restart();
+                Err(error.into())
+            }
         }
-        Ok(())
     }
 
     /// Judges what is left after the characters: a part of a character, or nothing. After CR it shows that the line has
@@ -217,15 +191,6 @@ impl Feed {
         self.state.scan.extend(&self.held[scanned..])
     }
 
-    /// Where what is held of a line that is ready ends: after CR one byte shows that the line is whole.
-    #[inline(always)]
-    fn whole_end(&self) -> usize
-        requires { self.now.state.scan.stop + 1 < 2 ^ 64 }
-        ensures { result ≡ whole_end self.now.state.scan }
-    {
-        self.state.scan.stop + self.state.scan.count.after_return as usize
-    }
-
     /// Where a line is ready, lets go what was taken after it. More than `before` bytes stay held, if more are.
     #[inline(always)]
     fn give_back(&mut self, before: usize)
@@ -235,26 +200,14 @@ impl Feed {
         ensures { GivesBack self.old before self.new }
     {
         if self.ready.is_some() {
-            let end = self.whole_end().max(before + 1);
-            self.held.truncate(end);
+            let stop = self.state.scan.stop;
+            // After CR one byte shows that the line is whole.
+            let end = stop + (self.held[stop - 1] == b'\r') as usize;
+            self.held.truncate(end.max(before + 1));
         }
     }
 
-    /// How many of these bytes are taken next to follow those that are held: after CR one byte more shows that the line is whole.
-    #[inline(always)]
-    fn step_len(&self, bytes: &[u8]) -> usize
-        ensures some { result ≡ 0 → length bytes.now ≡ 0 }
-        ensures within { result ≤ length bytes.now }
-    {
-        let most = match self.held.as_slice() {
-            [b'\r'] => 1,
-            held => held.len().max(STEP),
-        };
-        bytes.len().min(most)
-    }
-
-    /// Holds bytes of these, up to a line's end, and scans them: where the scan stops. If none was held they are scanned where they stand.
-    /// If there is no memory for them, none is taken.
+    /// Holds bytes of these, up to a line's end, and scans them: where the scan stops. If there is no memory for them, none is taken.
     #[inline(always)]
     fn hold(&mut self, piece: &[u8]) -> Result<Stop, AllocError>
         requires opens { IsHeldOpen self.old }
@@ -262,17 +215,19 @@ impl Feed {
         requires room { HasRoom self.old (length piece.now) }
         ensures { HoldsPiece self.old piece.now result self.new }
     {
-        if !self.held.is_empty() {
-            let len = self.step_len(piece);
-            self.held.extend_from_slice(&piece[..len])?;
+        let before = self.held.len();
+        // A part of a character is held, or the scan was begun anew.
+        if self.state.scan.stop < before {
+            self.held.extend_from_slice(&piece[..piece.len().min(1)])?;
             return Ok(self.scan_held());
         }
+        // Bytes are scanned where they stand.
         let stop = self.state.scan.extend(piece);
         let len = match stop {
-            Stop::LineEnd(_) => self.whole_end(),
+            Stop::LineEnd(_) => piece.len().min(self.state.scan.stop + 1),
             _ => piece.len(),
         };
-        if let Err(error) = hold_first(&mut self.held, piece, len) {
+        if let Err(error) = self.held.extend_from_slice(&piece[..len]) {
             self.state.restart();
             return Err(error);
         }
@@ -367,29 +322,40 @@ impl Feed {
             return Ok(taken);
         }
         if lacks_both(&self.held[..self.state.scan.stop], word, other) {
-            self.release();
+            let stop = self.state.scan.stop;
+            let line = self.state.line + line_ends(&self.held[..stop]);
+            self.let_go(line);
             return Ok(taken);
         }
         self.read_tokens(before)?;
         Ok(taken)
     }
 
-    /// Releases the line that is ready. Its tokens need not be read.
-    pub fn release(&mut self)
-        requires ready { (end_len : ℕ) × HoldsLine self.old end_len }
-        requires fits { self.old.state.place + length self.old.held.items ≤ 2 ^ 62 }
+    /// Lets go the line that stands in what is held. The next one begins on this line.
+    fn let_go(&mut self, line: u64)
+        requires holds { (end_len : ℕ) × HoldsLine self.old end_len }
+        requires room { HasRoom self.old 0 }
+        requires after { IsLineAfterHeld self.old line }
         ensures { LetsGo self.old self.new }
     {
         let stop = self.state.scan.stop;
-        let line = self.state.scan.count.line;
         self.state.pass(stop, line);
         self.ready = None;
         if stop == self.held.len() {
             self.held.clear();
         } else {
-            drop_first(&mut self.held, stop);
+            self.held.drain(..stop);
         }
         self.state.restart();
+    }
+
+    /// Releases the line that is ready. Its tokens were read.
+    pub fn release(&mut self)
+        requires ready { (end_len : ℕ) × IsReady self.old end_len }
+        requires room { HasRoom self.old 0 }
+        ensures { LetsGo self.old self.new }
+    {
+        self.let_go(self.next_line);
     }
 
     /// Whether a line begins with these bytes, of which one at most is held.
@@ -419,8 +385,8 @@ impl Feed {
             return 0;
         }
         let clear = &bytes[..before.min(bytes.len())];
-        let lines = simple_lines(&mut self.state.scan.inside.frames, clear);
-        if !hold_after_lines(&mut self.held, clear, lines) {
+        let lines = simple_lines(&mut self.state.scan.frames, clear);
+        if !hold_after_lines(&mut self.held, clear, lines.len) {
             self.state.restart();
             return 0;
         }
@@ -485,6 +451,9 @@ impl Feed {
         let end_len = self.ready?;
         // The scan read it as characters.
         let text = unsafe { std::str::from_utf8_unchecked(&self.held[..self.state.scan.stop]) };
-        Some(self.state.unit(text, self.state.place, end_len))
+        Some(
+            self.state
+                .unit(text, self.state.place, self.state.line, end_len),
+        )
     }
 }

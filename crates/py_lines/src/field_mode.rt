@@ -3,7 +3,7 @@
 ghost use Rattle.std.specs.Prelude.{◌≡◌};
 ghost use Rattle.py_lines.specs.Private.FieldMachine.{between_move, body_move, after_open_backslash};
 ghost use Rattle.py_lines.specs.Private.FieldFaults.{is_waiting, quotes_specification};
-ghost use Rattle.py_lines.specs.Private.FieldScan.{at_in, region_in, mode_from, field_move_from, is_free_mode, is_returned_mode, keeps_byte, meets_field};
+ghost use Rattle.py_lines.specs.Private.Scan.{at_in, region_in, mode_from, field_move_from, is_free_mode, is_returned_mode, keeps_byte, meets_field};
 ghost use Rattle.py_lines.specs.Private.ScanMachine.{host_in};
 
 use crate::character::{is_backslash, is_brace, is_break, is_line_feed, is_return};
@@ -180,7 +180,7 @@ impl FieldMode {
 
     /// What a character does to the piece that is open.
     #[inline(always)]
-    #[tactic(auto, unfolding(crate::specs::Private::FieldScan::code_move))]
+    #[tactic(auto, unfolding(crate::specs::Private::Scan::code_move))]
     pub fn meet(self, c: char) -> FieldMove
         ensures { field_move_from result ≡ meets_field self c }
     {

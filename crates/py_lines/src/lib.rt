@@ -3,14 +3,14 @@
 
 mod character;
 mod class;
-mod count;
 mod fault;
 mod feed;
 mod field_mode;
-mod field_scan;
 mod frames;
 mod host;
 pub mod laws;
+mod line_ends;
+mod line_scan;
 mod line_state;
 mod line_tokens;
 mod lines;

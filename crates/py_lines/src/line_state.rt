@@ -1,10 +1,10 @@
 //! Where a reader of logical lines stands. `Lines` and `Scanner` have it in common.
 
 ghost use Rattle.py_lines.specs.Private.LineState.{first_mode};
-ghost use Rattle.std.specs.Prelude.{◌≡◌, ℕ, ◌+◌, ◌<◌, ◌^◌, length, OnOk};
+ghost use Rattle.std.specs.Prelude.{◌≡◌, ℕ, ◌+◌, ◌<◌, ◌^◌, length, IfOk, OnOk};
 
-use crate::count::line_after;
 use crate::fault::{Fault, FaultKind, LexError};
+use crate::line_ends::line_ends;
 use crate::line_tokens::LineTokens;
 use crate::mode::Mode;
 use crate::scan::{LineFault, Scan};
@@ -38,7 +38,7 @@ impl LineState {
     ghost use Rattle.py_lines.specs.UnitLine.{line_in};
     ghost use Rattle.py_lines.specs.Private.LineState.{BeginsAnew, BeginsAt, IsEndLineFault, KeepsFault};
     ghost use Rattle.py_lines.specs.Private.LineState.{first_mode, passed, read_line, with_tokens};
-    ghost use Rattle.py_lines.specs.Private.LineTokens.{HoldsTokens, IsLineText};
+    ghost use Rattle.py_lines.specs.Private.LineTokens.{HoldsTokens, IsLineAfter, IsLineText};
 
     /// At this byte of a text, which is on this line. Nothing of the next line is read.
     pub fn at(alloc: Global, place: u64, line: u64) -> LineState
@@ -48,18 +48,9 @@ impl LineState {
             place,
             line,
             fault: None,
-            scan: Scan::new(first_mode(place), line),
+            scan: Scan::new(first_mode(place)),
             tokens: LineTokens::new(alloc),
         }
-    }
-
-    /// The byte up to which lines were read, and its line.
-    #[inline(always)]
-    pub fn reached(&self) -> (u64, u64)
-        ensures place { result.0 ≡ self.now.place }
-        ensures line { result.1 ≡ self.now.line }
-    {
-        (self.place, self.line)
     }
 
     /// Lines of so many bytes were read: the next one begins on this line.
@@ -76,21 +67,21 @@ impl LineState {
     pub fn restart(&mut self)
         ensures { BeginsAnew self.old self.new }
     {
-        self.scan.restart(first_mode(self.place), self.line);
+        self.scan.restart(first_mode(self.place));
     }
 
-    /// Reads the tokens of the next line, which is this text. The scan is lent for its strings: where it stopped is as it was.
-    pub fn read_tokens(&mut self, text: &[u8]) -> Result<(), AllocError>
+    /// Reads the tokens of the next line, which is this text, and answers the line after it. The scan is lent for its strings: where it
+    /// stopped is as it was.
+    pub fn read_tokens(&mut self, text: &[u8]) -> Result<u64, AllocError>
         requires text { IsLineText text.now }
         requires lines { self.old.line + length text.now < 2 ^ 64 }
         ensures same { self.new ≡ with_tokens self.old self.new }
         ensures tokens { OnOk result (HoldsTokens text.now self.old.line self.new.tokens) }
+        ensures after { IfOk result (IsLineAfter self.old.line text.now) }
     {
-        let (stop, line, count) = (self.scan.stop, self.scan.line, self.scan.count);
+        let stop = self.scan.stop;
         let read = self.tokens.read(&mut self.scan, text, self.line);
         self.scan.stop = stop;
-        self.scan.line = line;
-        self.scan.count = count;
         read
     }
 
@@ -103,7 +94,7 @@ impl LineState {
         let fault = Fault {
             kind,
             offset: self.place + prefix.len() as u64,
-            line: line_after(self.line, prefix),
+            line: self.line + line_ends(prefix.as_bytes()),
         };
         self.fault = Some(fault);
         LexError::Fault(fault)
@@ -123,12 +114,12 @@ impl LineState {
         self.scan.unfinished()
     }
 
-    /// The line whose tokens were read: this text at this byte, with so many bytes of line end.
+    /// The line whose tokens were read: this text at this byte and on this line, with so many bytes of line end.
     #[inline(always)]
-    pub fn unit<'s>(&'s self, text: &'s str, offset: u64, end_len: usize) -> Unit<'s>
+    pub fn unit<'s>(&'s self, text: &'s str, offset: u64, line: u64, end_len: usize) -> Unit<'s>
         requires tokens { EachLiesIn text.now self.now.tokens.tokens.items }
         requires fits { offset + length text.now < 2 ^ 64 }
-        ensures line { line_in result ≡ read_line self.now text.now offset end_len }
+        ensures line { line_in result ≡ read_line self.now text.now offset line end_len }
         ensures text { result.text.now ≡ text.now }
     {
         Unit {
@@ -136,7 +127,7 @@ impl LineState {
             text,
             tokens: self.tokens.tokens.as_slice(),
             offset,
-            line: self.scan.line,
+            line,
             indent: self.tokens.indent,
             end_len,
         }

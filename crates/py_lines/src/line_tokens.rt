@@ -1,17 +1,18 @@
 //! The tokens of a whole logical line, which are read from its text alone.
 
-ghost use Rattle.std.specs.Prelude.{◌≡◌, ℕ, ◌+◌, ◌<◌, ◌^◌, true, [], drop, length, take, OnOk};
+ghost use Rattle.std.specs.Prelude.{◌≡◌, ℕ, ◌+◌, ◌<◌, ◌^◌, true, [], drop, length, take, IfOk, OnOk};
 ghost use Rattle.std.specs.Char.{is_ascii_digit};
 ghost use Rattle.py_lines.specs.Character.{is_quote, is_space};
 ghost use Rattle.py_lines.specs.Piece.{Piece, begins};
 ghost use Rattle.py_lines.specs.Private.Run.{IsRunOf, is_wide_word, word_spelling};
 ghost use Rattle.py_lines.specs.Private.ScanMachine.{is_field_spelling};
 ghost use Rattle.py_lines.specs.Private.LineTokens.{AddsPiece, BeginWithPiece, BeginWithString, HaveRead};
-ghost use Rattle.py_lines.specs.Private.LineTokens.{HoldsTokens, IsFirstPiece, IsFirstString, IsLineText};
+ghost use Rattle.py_lines.specs.Private.LineTokens.{HoldsTokens, IsFirstPiece, IsFirstString, IsLineAfter, IsLineText};
 ghost use Rattle.py_lines.specs.Private.LineTokens.{ends_prefix, is_prefix_word, kind_with, line_end_len, mark_len, token_piece, word_kind};
 
 use crate::character::{is_line_feed, is_quote, is_return, is_space};
 use crate::class::Class;
+use crate::line_ends::line_ends;
 use crate::mode::{Mode, Spelling};
 use crate::plain_strings::plain_string;
 use crate::run::{ByteRun, comment_run};
@@ -67,22 +68,8 @@ fn whole_line_end(bytes: &[u8]) -> usize
     }
 }
 
-/// The string that the bytes begin with, by characters, which this scan goes through.
-fn scanned_string(scan: &mut Scan, bytes: &[u8]) -> LinePiece
-    requires { BeginWithString bytes.now }
-    ensures { IsFirstString bytes.now result }
-{
-    scan.restart(Mode::Free, 1);
-    scan.take_first(bytes);
-    LinePiece {
-        role: Role::Token(TokKind::Str),
-        len: scan.stop,
-        line_ends: scan.count.line - 1,
-    }
-}
-
 /// The string that the bytes begin with, with fields or without, whose prefix has so many of them, or none. Where it is simple, it is
-/// passed at once.
+/// passed at once, and else this scan goes through it.
 fn string(scan: &mut Scan, bytes: &[u8], prefix: usize, has_fields: bool) -> LinePiece
     requires quote { begins is_quote (drop prefix bytes.now) ≡ true }
     requires prefix { is_prefix_word (take prefix bytes.now) ≡ true }
@@ -91,20 +78,24 @@ fn string(scan: &mut Scan, bytes: &[u8], prefix: usize, has_fields: bool) -> Lin
     ensures { IsFirstString bytes.now result }
 {
     let quoted = &bytes[prefix..];
-    if has_fields {
-        if let Some(len) = quoted_text_len(quoted) {
-            return LinePiece::token(TokKind::Str, prefix + len);
+    let simple = if has_fields {
+        quoted_text_len(quoted)
+    } else {
+        plain_string(quoted)
+    };
+    let len = match simple {
+        Some(len) if len > 2 => prefix + len,
+        _ => {
+            scan.restart(Mode::Free);
+            scan.take_first(bytes);
+            scan.stop
         }
-    } else if let Some(passed) = plain_string(quoted) {
-        if passed.len > 2 {
-            return LinePiece {
-                role: Role::Token(TokKind::Str),
-                len: prefix + passed.len,
-                line_ends: passed.line_ends,
-            };
-        }
+    };
+    LinePiece {
+        role: Role::Token(TokKind::Str),
+        len,
+        line_ends: line_ends(&bytes[..len]),
     }
-    scanned_string(scan, bytes)
 }
 
 /// Whether the first bytes, so many of them, are the prefix of a string, whose quote follows.
@@ -265,12 +256,13 @@ impl LineTokens {
         mark
     }
 
-    /// Reads the tokens of a whole logical line without fault, which begins on this line. The scan goes through the
-    /// strings that aren't simple. If there is no memory for the tokens, nothing is said of those that it holds.
-    pub fn read(&mut self, scan: &mut Scan, text: &[u8], line: u64) -> Result<(), AllocError>
+    /// Reads the tokens of a whole logical line without fault, which begins on this line, and answers the line after it. The scan goes
+    /// through the strings that aren't simple. If there is no memory for the tokens, nothing is said of those that it holds.
+    pub fn read(&mut self, scan: &mut Scan, text: &[u8], line: u64) -> Result<u64, AllocError>
         requires text { IsLineText text.now }
         requires lines { line + length text.now < 2 ^ 64 }
-        ensures { OnOk result (HoldsTokens text.now line self.new) }
+        ensures tokens { OnOk result (HoldsTokens text.now line self.new) }
+        ensures after { IfOk result (IsLineAfter line text.now) }
     {
         let mut start = self.begin(text);
         let mut line_here = line;
@@ -280,6 +272,6 @@ impl LineTokens {
             start += piece.len;
             line_here += piece.line_ends;
         }
-        Ok(())
+        Ok(line_here)
     }
 }

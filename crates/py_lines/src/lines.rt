@@ -63,14 +63,14 @@ impl<'t> Lines<'t> {
     pub fn offset(&self) -> u64
         ensures { result ≡ self.now.place }
     {
-        self.source.state.reached().0
+        self.source.state.place
     }
 
     /// The line of that byte, from 1.
     pub fn line(&self) -> u64
         ensures { result ≡ self.now.line }
     {
-        self.source.state.reached().1
+        self.source.state.line
     }
 
     /// The next logical line (2.1.1), lent out of the text and this reader; `None` after the last one, for good.
@@ -91,7 +91,7 @@ impl<'t> Lines<'t> {
     /// where none is passed over, and then nothing changed. It takes no memory, and is quicker than [`Lines::next_unit`].
     ///
     /// A line is passed over where it ends at byte `before` of the text or before it, and is simple. Which lines are simple is not
-    /// promised: most are that are ASCII except in comments and in strings without fields, where CR stands before LF alone.
+    /// promised: most are that are ASCII except in comments and in strings without fields.
     pub fn pass_lines(&mut self, before: usize) -> usize
         ensures passes { PassesUpTo self.old before result self.new }
     {

@@ -2,15 +2,15 @@
 
 ghost use Rattle.std.specs.Prelude.{◌≡◌, ◌<◌, ◌==◌, ◌||◌, ◌&&◌, if◌then◌else◌, length};
 ghost use Rattle.py_lines.specs.Private.Machine.{first_spelling, spelling_with, short_move, long_move};
-ghost use Rattle.py_lines.specs.Private.Machine.{start_of, in_short, in_long, is_after_backslash};
-ghost use Rattle.py_lines.specs.Private.ScanMachine.{is_field_spelling, is_raw_spelling, begins_string, quote_move, opened_move, meet_of};
-ghost use Rattle.py_lines.specs.Private.Run.{word_spelling, is_free};
-ghost use Rattle.py_lines.specs.Private.Scan.{is_return_mode};
+ghost use Rattle.py_lines.specs.Private.Machine.{start_of};
+ghost use Rattle.py_lines.specs.Private.ScanMachine.{is_field_spelling, is_raw_spelling, begins_string, quote_move};
+ghost use Rattle.py_lines.specs.Private.Run.{word_spelling};
+ghost use Rattle.py_lines.specs.Private.Scan.{piece_move};
 
 use crate::character::{
-    is_backslash, is_break, is_hash, is_line_feed, is_mark, is_operator, is_quote, is_return,
-    is_space, is_word_character, is_word_start,
+    is_backslash, is_break, is_line_feed, is_mark, is_quote, is_return, is_space, is_word_character,
 };
+use crate::class::Class;
 use crate::host::StringWithFields;
 
 /// Whether a word may be the prefix of a string, as far as it goes.
@@ -186,20 +186,6 @@ fn quote_move(spelling: Spelling, quote: char) -> Move
     }
 }
 
-/// What a character does after one quote of a string with fields.
-#[tactic(auto, unfolding(crate::specs::Private::ScanMachine::opened_move))]
-fn opened_move(host: StringWithFields, c: char) -> Move
-    ensures { result ≡ opened_move host c }
-{
-    if c == host.quote {
-        Move::Grows(Mode::FieldEmpty(host))
-    } else if is_break(c) {
-        Move::Refused
-    } else {
-        Move::Grows(Mode::Fielded)
-    }
-}
-
 /// What a character does in a short string, where its quote does this.
 #[tactic(auto, unfolding(crate::specs::Private::Machine::short_move))]
 fn short_move(quote: char, c: char, at_quote: Move) -> Move
@@ -231,59 +217,10 @@ fn long_move(quote: char, c: char, at_quote: Move) -> Move
 }
 
 impl Mode {
-    /// Whether the open piece is the CR of a line end.
-    pub fn is_return(self) -> bool
-        ensures { result ≡ is_return_mode self }
-    {
-        matches!(self, Mode::Return)
-    }
-
-    /// Whether no piece is open, after the text's start.
-    pub fn is_free(self) -> bool
-        ensures { result ≡ is_free self }
-    {
-        matches!(self, Mode::Free)
-    }
-
-    /// Whether a short string is open.
-    pub fn in_short(self) -> bool
-        ensures { result ≡ in_short self }
-    {
-        matches!(
-            self,
-            Mode::Opened(_)
-                | Mode::Inside(_)
-                | Mode::Escape(_)
-                | Mode::EscapeReturn(_)
-                | Mode::FieldOpened(_)
-        )
-    }
-
-    /// Whether a long string is open, or one with fields that holds something.
-    pub fn in_long(self) -> bool
-        ensures { result ≡ in_long self }
-    {
-        matches!(
-            self,
-            Mode::Long(_)
-                | Mode::LongOne(_)
-                | Mode::LongTwo(_)
-                | Mode::LongEscape(_)
-                | Mode::Fielded
-        )
-    }
-
-    /// Whether a backslash stands directly before, outside strings and comments.
-    pub fn is_after_backslash(self) -> bool
-        ensures { result ≡ is_after_backslash self }
-    {
-        matches!(self, Mode::Backslash)
-    }
-
-    /// What the next character does to the open piece, which is no string with fields that holds something.
+    /// What the next character does to the open piece. Strings with fields are not told here.
     #[tactic(auto, unfolding(crate::specs::Private::Machine::move_of, crate::specs::Private::ScanMachine::meet_of))]
     pub fn meet(self, c: char) -> Move
-        ensures { result ≡ meet_of self c }
+        ensures { result ≡ piece_move self c }
     {
         match self {
             Mode::Start if is_mark(c) => Move::Closes,
@@ -310,10 +247,7 @@ impl Mode {
             Mode::LongOne(quote) => long_move(quote, c, Move::Grows(Mode::LongTwo(quote))),
             Mode::LongTwo(quote) => long_move(quote, c, Move::Closes),
             Mode::LongEscape(quote) => Move::Grows(Mode::Long(quote)),
-            Mode::FieldOpened(host) => opened_move(host, c),
-            Mode::FieldEmpty(host) if c == host.quote => Move::Grows(Mode::Fielded),
-            Mode::FieldEmpty(_) => Move::Breaks,
-            Mode::Fielded => Move::Refused,
+            Mode::FieldOpened(_) | Mode::FieldEmpty(_) | Mode::Fielded => Move::Refused,
             Mode::Backslash if is_line_feed(c) => Move::Closes,
             Mode::Backslash if is_return(c) => Move::Grows(Mode::JoinReturn),
             Mode::Backslash => Move::Refused,
@@ -326,28 +260,26 @@ impl Mode {
 impl Start {
     /// What a character begins where no piece is open.
     #[inline(always)]
-    #[tactic(auto, unfolding(crate::specs::Private::Machine::start_of))]
     pub fn of(c: char) -> Start
         ensures { result ≡ start_of c }
     {
-        if is_word_start(c) {
-            Start::Open(Mode::Word(Spelling::of(c)))
-        } else if is_space(c) {
-            Start::Open(Mode::Space)
-        } else if is_operator(c) {
-            Start::Operator
-        } else if is_line_feed(c) {
-            Start::LineEnd
-        } else if is_return(c) {
-            Start::Open(Mode::Return)
-        } else if is_quote(c) {
-            Start::Open(Mode::Opened(c))
-        } else if is_hash(c) {
-            Start::Open(Mode::Comment)
-        } else if is_backslash(c) {
-            Start::Open(Mode::Backslash)
-        } else {
-            Start::Nothing
+        if !c.is_ascii() {
+            return if unicode_ident::is_xid_start(c) {
+                Start::Open(Mode::Word(Spelling::Name))
+            } else {
+                Start::Nothing
+            };
+        }
+        match Class::of(c as u8) {
+            Class::Word => Start::Open(Mode::Word(Spelling::of(c))),
+            Class::Space => Start::Open(Mode::Space),
+            Class::Operator | Class::Opening | Class::Closing => Start::Operator,
+            Class::LineFeed => Start::LineEnd,
+            Class::Return => Start::Open(Mode::Return),
+            Class::Quote => Start::Open(Mode::Opened(c)),
+            Class::Hash => Start::Open(Mode::Comment),
+            Class::Backslash => Start::Open(Mode::Backslash),
+            Class::Wide | Class::Other => Start::Nothing,
         }
     }
 }

@@ -12,7 +12,6 @@ use crate::class::Class;
 use crate::frames::Frames;
 use crate::marks::Marks;
 use crate::outline::{outer_end_len, piece};
-use crate::plain_strings::Passed;
 use crate::prefix::Prefix;
 use crate::whole_strings::MAX_DEPTH_AROUND_STRING;
 
@@ -30,10 +29,12 @@ pub enum Special {
 /// How far bytes were passed.
 #[derive(Drop)]
 pub struct Passing {
-    /// Those that were passed.
-    pub all: Passed,
-    /// Those of them after which it is known that no piece is open.
-    pub closed: Passed,
+    /// How many were passed.
+    pub all: usize,
+    /// How many line ends they hold.
+    pub line_ends: u64,
+    /// After so many of them it is known that no piece is open.
+    pub closed: usize,
     /// The bytes after them that are not plain.
     pub marks: Marks,
 }
@@ -45,29 +46,24 @@ impl Passing {
         ensures nothing { result ≡ nothing_passed result.marks }
         ensures marked { HasMarks bytes.now 0 result.marks }
     {
-        let none = Passed {
-            len: 0,
-            line_ends: 0,
-        };
         Passing {
-            all: none,
-            closed: none,
+            all: 0,
+            line_ends: 0,
+            closed: 0,
             marks: Marks::at(bytes, 0),
         }
     }
 
-    /// Passes the bytes up to this one, with so many more line ends. It may be known that no piece is open there.
+    /// Passes the bytes up to this one, with so many line ends. It may be known that no piece is open there.
     #[inline(always)]
     pub fn pass_to(&mut self, to: usize, line_ends: u64, closes: bool)
-        requires { self.old.all.line_ends + line_ends < 2 ^ 64 }
+        requires { self.old.line_ends + line_ends < 2 ^ 64 }
         ensures { self.new ≡ passed_to self.old to line_ends closes }
     {
-        self.all = Passed {
-            len: to,
-            line_ends: self.all.line_ends + line_ends,
-        };
+        self.all = to;
+        self.line_ends += line_ends;
         if closes {
-            self.closed = self.all;
+            self.closed = to;
         }
     }
 
@@ -77,7 +73,7 @@ impl Passing {
     fn pass_line_end(&mut self, frames: &Frames, at: usize, len: usize, by_feed: bool) -> Special
         requires some { 0 < len }
         requires fits { at + len < 2 ^ 64 }
-        requires few { self.old.all.line_ends ≤ at }
+        requires few { self.old.line_ends ≤ at }
         ensures { (bytes : List ℕ) (place : ℕ) (marks : Marks)
             → IsLineEndAt bytes at len by_feed → HasMarks bytes (at + len) self.old.marks
             → PassesSpecial bytes at place (record self.old { marks = marks }) frames.now result
@@ -96,7 +92,7 @@ impl Passing {
     fn pass_return(&mut self, frames: &Frames, bytes: &[u8], at: usize) -> Special
         requires within { at < length bytes.now }
         requires marked { HasMarks bytes.now (at + 1) self.old.marks }
-        requires few { self.old.all.line_ends ≤ at }
+        requires few { self.old.line_ends ≤ at }
         ensures { (place : ℕ)
             → PassesSpecial bytes.now at place self.old frames.now result self.new frames.now }
     {
@@ -112,7 +108,7 @@ impl Passing {
     #[inline(always)]
     fn pass_bracket(&mut self, met: bool, at: usize) -> Special
         requires fits { at + 1 < 2 ^ 64 }
-        requires few { self.old.all.line_ends ≤ at }
+        requires few { self.old.line_ends ≤ at }
         ensures { IsMet met at self.old result self.new }
     {
         if !met {
@@ -129,7 +125,7 @@ impl Passing {
         requires within { at < length bytes.now }
         requires quote { is_quote (slice_index bytes.now at) ≡ true }
         requires marked { HasMarks bytes.now (at + 1) self.old.marks }
-        requires few { self.old.all.line_ends ≤ at }
+        requires few { self.old.line_ends ≤ at }
         ensures passed { IsTrue result → PassesMarked bytes.now at self.old self.new }
         ensures same { result ≡ false → self.new ≡ self.old }
     {
@@ -152,7 +148,7 @@ impl Passing {
         requires within { at < length bytes.now }
         requires hash { is_hash (slice_index bytes.now at) ≡ true }
         requires marked { HasMarks bytes.now (at + 1) self.old.marks }
-        requires few { self.old.all.line_ends ≤ at }
+        requires few { self.old.line_ends ≤ at }
         ensures passed { IsTrue result → PassesMarked bytes.now at self.old self.new }
         ensures same { result ≡ false → self.new ≡ self.old }
     {
@@ -170,23 +166,6 @@ impl Passing {
         true
     }
 
-    /// Passes such a comment or string, if one begins at this byte: whether it does.
-    #[inline(always)]
-    fn pass_marked(&mut self, bytes: &[u8], class: Class, at: usize) -> bool
-        requires within { at < length bytes.now }
-        requires class { is_of_class class (slice_index bytes.now at) ≡ true }
-        requires marked { HasMarks bytes.now (at + 1) self.old.marks }
-        requires few { self.old.all.line_ends ≤ at }
-        ensures passed { IsTrue result → PassesMarked bytes.now at self.old self.new }
-        ensures same { result ≡ false → self.new ≡ self.old }
-    {
-        match class {
-            Class::Quote => self.pass_plain_string(bytes, at),
-            Class::Hash => self.pass_ascii_comment(bytes, at),
-            _ => false,
-        }
-    }
-
     /// Passes the comment, the join or the string that begins at this byte, where so few brackets are open that there is room for
     /// all that a string with fields opens.
     #[inline(always)]
@@ -194,22 +173,27 @@ impl Passing {
         requires within { at < length bytes.now }
         requires class { is_of_class class (slice_index bytes.now at) ≡ true }
         requires marked { HasMarks bytes.now (at + 1) self.old.marks }
-        requires few { self.old.all.line_ends ≤ at }
+        requires few { self.old.line_ends ≤ at }
         ensures { (place : ℕ)
             → PassesSpecial bytes.now at place self.old frames.now result self.new frames.now }
     {
         if frames.len() > MAX_DEPTH_AROUND_STRING {
             return Special::Unpassed;
         }
-        if self.pass_marked(bytes, class, at) {
+        let passed = match class {
+            Class::Quote => self.pass_plain_string(bytes, at),
+            Class::Hash => self.pass_ascii_comment(bytes, at),
+            _ => false,
+        };
+        if passed {
             return Special::Passed;
         }
         let Some(piece) = piece(bytes, class, at) else {
             return Special::Unpassed;
         };
-        let to = at + piece.passed.len;
+        let to = at + piece.len;
         self.marks.pass(bytes, to);
-        self.pass_to(to, piece.passed.line_ends, piece.closes);
+        self.pass_to(to, piece.line_ends, piece.closes);
         Special::Passed
     }
 
@@ -218,21 +202,15 @@ impl Passing {
     pub fn pass(&mut self, frames: &mut Frames, bytes: &[u8], at: usize, place: usize) -> Special
         requires within { at < length bytes.now }
         requires marked { HasMarks bytes.now (at + 1) self.old.marks }
-        requires few { self.old.all.line_ends ≤ at }
+        requires few { self.old.line_ends ≤ at }
         ensures { PassesSpecial bytes.now at place self.old frames.old result
             self.new frames.new }
     {
         match Class::of(bytes[at]) {
             Class::LineFeed => self.pass_line_end(frames, at, 1, true),
             Class::Return => self.pass_return(frames, bytes, at),
-            Class::Opening => {
-                let met = frames.open(bytes[at] as char, place);
-                self.pass_bracket(met, at)
-            }
-            Class::Closing => {
-                let met = frames.close(bytes[at] as char);
-                self.pass_bracket(met, at)
-            }
+            Class::Opening => self.pass_bracket(frames.open(bytes[at] as char, place), at),
+            Class::Closing => self.pass_bracket(frames.close(bytes[at] as char), at),
             class => self.pass_piece(frames, bytes, class, at),
         }
     }

@@ -1,18 +1,16 @@
 //! Runs of bytes that leave the open piece as it is.
 
-ghost use Rattle.std.specs.Prelude.{◌≡◌, ◌<◌, ◌≤◌, ◌==◌, true, length, take};
-ghost use Rattle.std.specs.List.{count_by};
+ghost use Rattle.std.specs.Prelude.{◌≡◌, ℕ, ◌<◌, ◌≤◌, ◌==◌, ◌&&◌, length, nat_lt};
 ghost use Rattle.py_lines.specs.Character.{is_space};
 ghost use Rattle.py_lines.specs.declared.mode.Mode.TheVariants.{Word};
 ghost use Rattle.py_lines.specs.Private.Run.{CountsSet, HasAsciiQuote, IsRunOf, IsWholeComment};
 ghost use Rattle.py_lines.specs.Private.Run.{Marks, Spans, is_between, is_in_run, is_ascii_word};
 ghost use Rattle.py_lines.specs.Private.Run.{is_comment_byte, is_body_byte, is_text_byte, is_literal_byte};
-ghost use Rattle.py_lines.specs.Private.Run.{HasLongText, is_feed, is_long_byte};
+ghost use Rattle.py_lines.specs.Private.Run.{is_long_byte};
 ghost use Rattle.py_lines.specs.Private.Run.{is_code_byte, is_code_sign, is_remark_byte, is_wide_word, stays};
 
 use crate::character::is_break;
 use crate::mode::{Mode, Spelling};
-use crate::plain_strings::Passed;
 use crate::utf8::utf8_len;
 use std::simd::prelude::*;
 
@@ -54,14 +52,6 @@ fn words(lanes: u8x16) -> u8x16
     capital | between(lanes, b'a', b'z') | equal(lanes, b'_')
 }
 
-/// The lanes that hold bytes of space.
-#[inline(always)]
-fn spaces(lanes: u8x16) -> u8x16
-    ensures { Marks is_space lanes result }
-{
-    equal(lanes, b' ') | (equal(lanes, b'\t') | equal(lanes, b'\x0c'))
-}
-
 /// The lanes of the body of a string.
 #[inline(always)]
 fn body(quote: u8, lanes: u8x16) -> u8x16
@@ -77,68 +67,25 @@ fn body(quote: u8, lanes: u8x16) -> u8x16
 fn text(quote: u8, lanes: u8x16) -> u8x16
     ensures { Marks (is_text_byte quote) lanes result }
 {
-    let ascii = lanes
-        .simd_lt(u8x16::splat(128))
-        .select(u8x16::splat(255), u8x16::splat(0));
-    body(quote, lanes) & ascii
+    body(quote, lanes) & ascii(lanes)
 }
 
-/// The lanes of the text of a string of three quotes, where it is ASCII and no CR.
+/// The lanes of the text of a string of three quotes.
 #[inline(always)]
 fn long(quote: u8, lanes: u8x16) -> u8x16
     ensures { Marks (is_long_byte quote) lanes result }
 {
-    text(quote, lanes) | equal(lanes, b'\n')
+    equal(equal(lanes, quote) | equal(lanes, b'\\'), 0)
 }
 
-/// How many of so many first lanes hold LF.
+/// The lanes of ASCII.
 #[inline(always)]
-fn line_feeds(lanes: u8x16, first: usize) -> u64
-    requires { first ≤ 16 }
-    ensures { result ≡ count_by is_feed (take first lanes) }
+fn ascii(lanes: u8x16) -> u8x16
+    ensures { Marks (λ c. nat_lt c 128) lanes result }
 {
-    let feeds = lanes.simd_eq(u8x16::splat(b'\n')).to_bitmask();
-    (feeds & ((1 << first) - 1)).count_ones() as u64
-}
-
-/// The lanes of the text of a string with fields, where it is ASCII.
-#[inline(always)]
-fn literal(quote: u8, lanes: u8x16) -> u8x16
-    ensures { Marks (is_literal_byte quote) lanes result }
-{
-    let braces = equal(lanes, b'{') | equal(lanes, b'}');
-    text(quote, lanes) & equal(braces, 0)
-}
-
-/// The lanes of code in fields.
-#[inline(always)]
-fn code(lanes: u8x16) -> u8x16
-    ensures { Marks is_code_byte lanes result }
-{
-    let others = between(lanes, b' ', b'!') | equal(lanes, b'=');
-    words(lanes) | (between(lanes, b'*', b'/') | others)
-}
-
-/// The lanes of a comment, where it is ASCII.
-#[inline(always)]
-fn remark(lanes: u8x16) -> u8x16
-    ensures { Marks is_remark_byte lanes result }
-{
-    let ascii = lanes
+    lanes
         .simd_lt(u8x16::splat(128))
-        .select(u8x16::splat(255), u8x16::splat(0));
-    equal(equal(lanes, b'\n') | equal(lanes, b'\r'), 0) & ascii
-}
-
-/// The lanes that hold bytes of words, and of characters that aren't ASCII.
-#[inline(always)]
-fn wide_words(lanes: u8x16) -> u8x16
-    ensures { Marks is_wide_word lanes result }
-{
-    let wide = lanes
-        .simd_ge(u8x16::splat(128))
-        .select(u8x16::splat(255), u8x16::splat(0));
-    words(lanes) | wide
+        .select(u8x16::splat(255), u8x16::splat(0))
 }
 
 /// How many lanes are set before the first that isn't.
@@ -167,6 +114,10 @@ pub enum ByteRun {
     Body(u8),
     /// The same, as far as it is ASCII.
     Text(u8),
+    /// The text of a string of three such quotes, up to a quote of its kind or a backslash.
+    Long(u8),
+    /// The same, as far as it is ASCII.
+    LongText(u8),
     /// The text of a string with fields of this quote, up to a brace too.
     Literal(u8),
     /// Code in a field: words, spaces and the operators that it has mostly.
@@ -183,13 +134,24 @@ impl ByteRun {
     {
         match self {
             ByteRun::Word => words(lanes),
-            ByteRun::WideWord => wide_words(lanes),
-            ByteRun::Space => spaces(lanes),
+            ByteRun::WideWord => words(lanes) | equal(ascii(lanes), 0),
+            ByteRun::Space => equal(lanes, b' ') | (equal(lanes, b'\t') | equal(lanes, b'\x0c')),
             ByteRun::Body(quote) => body(quote, lanes),
             ByteRun::Text(quote) => text(quote, lanes),
-            ByteRun::Literal(quote) => literal(quote, lanes),
-            ByteRun::Code => code(lanes),
-            ByteRun::Remark => remark(lanes),
+            ByteRun::Long(quote) => long(quote, lanes),
+            ByteRun::LongText(quote) => long(quote, lanes) & ascii(lanes),
+            ByteRun::Literal(quote) => {
+                let braces = equal(lanes, b'{') | equal(lanes, b'}');
+                text(quote, lanes) & equal(braces, 0)
+            }
+            ByteRun::Code => {
+                let others = between(lanes, b' ', b'!') | equal(lanes, b'=');
+                words(lanes) | (between(lanes, b'*', b'/') | others)
+            }
+            ByteRun::Remark => {
+                let breaks = equal(lanes, b'\n') | equal(lanes, b'\r');
+                equal(breaks, 0) & ascii(lanes)
+            }
         }
     }
 
@@ -214,10 +176,9 @@ impl ByteRun {
         requires { length bytes.now < 16 }
         ensures { IsRunOf (is_in_run self) bytes.now result }
     {
-        // LF ends each run.
-        let mut block = [b'\n'; 16];
+        let mut block = [0; 16];
         block[..bytes.len()].copy_from_slice(bytes);
-        set_first(self.mark(u8x16::from_array(block)))
+        set_first(self.mark(u8x16::from_array(block))).min(bytes.len())
     }
 }
 
@@ -271,51 +232,46 @@ pub fn whole_comment(bytes: &[u8]) -> Option<usize>
     Some(ascii + run)
 }
 
+/// How many bytes of whole characters a text begins with that are of the second run. Those of ASCII are of the first.
+#[inline(always)]
+fn characters_of(ascii: ByteRun, all: ByteRun, bytes: &[u8]) -> usize
+    requires { (c : ℕ) → is_in_run ascii c ≡ (is_in_run all c && nat_lt c 128) }
+    ensures { Spans (is_in_run all) bytes.now result }
+{
+    let len = ascii.len_in(bytes);
+    if len == bytes.len() || bytes[len].is_ascii() {
+        return len;
+    }
+    let rest = &bytes[len..];
+    let run = all.len_in(rest);
+    len + utf8_len(&rest[..run])
+}
+
 /// How many bytes the body of a string goes on, up to what escapes or ends a line, or to bytes that begin no character.
 #[inline(always)]
 pub fn body_characters(quote: u8, bytes: &[u8]) -> usize
-    requires quote { quote < 128 }
     ensures { Spans (is_body_byte quote) bytes.now result }
 {
-    let ascii = ByteRun::Text(quote).len_in(bytes);
-    if ascii == bytes.len() || bytes[ascii].is_ascii() {
-        return ascii;
-    }
-    let rest = &bytes[ascii..];
-    let run = ByteRun::Body(quote).len_in(rest);
-    ascii + utf8_len(&rest[..run])
+    characters_of(ByteRun::Text(quote), ByteRun::Body(quote), bytes)
 }
 
-/// Text of a string of three such quotes that bytes begin with, and its line feeds: ASCII without such a quote, backslash or CR. It
-/// ends before another byte, or where fewer than sixteen bytes follow it.
-pub fn long_text(quote: u8, bytes: &[u8]) -> Passed
-    ensures { HasLongText quote bytes.now result }
+/// The same of a string of three quotes, up to a quote of its kind or a backslash.
+#[inline(always)]
+pub fn long_characters(quote: u8, bytes: &[u8]) -> usize
+    ensures { Spans (is_long_byte quote) bytes.now result }
 {
-    let mut len = 0;
-    let mut line_ends = 0;
-    'parts: while bytes.len() - len >= 16 {
-        let lanes = u8x16::from_slice(&bytes[len..]);
-        let more = set_first(long(quote, lanes));
-        if more < 16 {
-            return Passed {
-                len: len + more,
-                line_ends: line_ends + line_feeds(lanes, more),
-            };
-        }
-        len += 16;
-        line_ends += line_feeds(lanes, 16);
-    }
-    Passed { len, line_ends }
+    characters_of(ByteRun::LongText(quote), ByteRun::Long(quote), bytes)
 }
 
-/// How many bytes of whole characters a text begins with that leave the open piece as it is, and end no line.
+/// How many bytes of whole characters a text begins with that leave the open piece as it is.
 #[inline(always)]
 pub fn characters_in(mode: Mode, bytes: &[u8]) -> usize
     requires quote { HasAsciiQuote mode }
     ensures { Spans (stays mode) bytes.now result }
 {
     match mode {
-        Mode::Inside(quote) | Mode::Long(quote) => body_characters(quote as u8, bytes),
+        Mode::Inside(quote) => body_characters(quote as u8, bytes),
+        Mode::Long(quote) => long_characters(quote as u8, bytes),
         Mode::Comment => utf8_len(&bytes[..comment_run(bytes)]),
         Mode::Space => ByteRun::Space.len_in(bytes),
         Mode::Word(spelling) => word_run(spelling, bytes),

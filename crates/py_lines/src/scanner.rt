@@ -115,8 +115,8 @@ impl Scanner {
     /// then nothing changed. It takes no memory except for that byte, and is quicker than [`Scanner::feed`].
     ///
     /// A line is passed over where it ends at byte `before` of `bytes` or before it, and is simple. Which lines are simple is not promised:
-    /// most are that are ASCII except in comments and in strings without fields, where CR stands before LF alone. None is passed over
-    /// where more is held than one byte, as after CR, or once the text has ended or its fault is known.
+    /// most are that are ASCII except in comments and in strings without fields. None is passed over where more is held than one byte, as
+    /// after CR, or once the text has ended or its fault is known.
     pub fn pass_lines(&mut self, bytes: &[u8], before: usize) -> usize
         requires fits { self.old.place + length bytes.now ≤ 2 ^ 62 }
         ensures passes { PassesPieceLines self.old bytes.now before result self.new }
@@ -141,14 +141,14 @@ impl Scanner {
     pub fn offset(&self) -> u64
         ensures { result ≡ self.now.place }
     {
-        self.feed.state.reached().0
+        self.feed.state.place
     }
 
     /// The line of that byte, from 1.
     pub fn line(&self) -> u64
         ensures { result ≡ self.now.line }
     {
-        self.feed.state.reached().1
+        self.feed.state.line
     }
 
     /// The text fed since the line that was released last.
@@ -162,6 +162,6 @@ impl Scanner {
     pub fn fed(&self) -> u64
         ensures { result ≡ fed_of self.now }
     {
-        self.feed.state.reached().0 + self.feed.held.len() as u64
+        self.feed.state.place + self.feed.held.len() as u64
     }
 }

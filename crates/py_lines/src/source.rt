@@ -20,6 +20,8 @@ pub struct Source<'t> {
     pub characters: &'t str,
     /// Where the line read last begins.
     pub start: usize,
+    /// Its line, from 1.
+    pub line: u64,
     /// How many bytes its line end has.
     pub end_len: usize,
     /// Where the next line begins.
@@ -51,6 +53,7 @@ impl<'t> Source<'t> {
             bytes,
             characters: utf8_prefix(bytes),
             start: 0,
+            line: 1,
             end_len: 0,
             state: LineState::at(alloc, 0, 1),
         }
@@ -88,18 +91,17 @@ impl<'t> Source<'t> {
     fn give(&mut self, end_len: usize) -> Result<(), AllocError>
         requires boundary { IsCharBoundary self.old.characters.now
             (self.old.state.place + self.old.state.scan.stop) }
-        requires lines { self.old.state.scan.count.line
-            ≤ self.old.state.place + self.old.state.scan.stop + 1 }
         requires text { IsLineText (scanned_text self.old) }
         ensures { GivesLine self.old end_len result self.new }
     {
         let start = self.state.place as usize;
         let len = self.state.scan.stop;
         let text = &self.characters.as_bytes()[start..start + len];
-        self.state.read_tokens(text)?;
-        let line = self.state.scan.count.line;
-        self.state.pass(len, line);
+        let before = self.state.line;
+        let after = self.state.read_tokens(text)?;
+        self.state.pass(len, after);
         self.start = start;
+        self.line = before;
         self.end_len = end_len;
         Ok(())
     }
@@ -176,7 +178,7 @@ impl<'t> Source<'t> {
             return 0;
         }
         let bytes = &self.characters.as_bytes()[place..before];
-        let lines = simple_lines(&mut self.state.scan.inside.frames, bytes);
+        let lines = simple_lines(&mut self.state.scan.frames, bytes);
         let line = self.state.line + lines.line_ends;
         self.state.pass(lines.len, line);
         lines.len
@@ -188,6 +190,7 @@ impl<'t> Source<'t> {
         ensures { line_in result ≡ line_of_source self.now }
     {
         let text = &self.characters[self.start..self.state.place as usize];
-        self.state.unit(text, self.start as u64, self.end_len)
+        self.state
+            .unit(text, self.start as u64, self.line, self.end_len)
     }
 }

@@ -7,9 +7,6 @@ ghost use Rattle.py_lines.specs.Private.Run.{BeginsWith};
 
 use std::simd::prelude::*;
 
-/// Up to so many bytes are tested for ASCII at once.
-const SHORT: usize = 64;
-
 /// Whether all lanes are ASCII.
 #[inline(always)]
 fn are_ascii(lanes: u8x64) -> bool
@@ -33,22 +30,6 @@ fn ascii_blocks(bytes: &[u8]) -> usize
     len
 }
 
-/// Whether the bytes are few, and ASCII.
-#[tactic(auto, using(crate::proofs::Text::Utf8Prefixes::ascii_text))]
-#[inline(always)]
-fn is_short_ascii(bytes: &[u8]) -> bool
-    ensures { IsTrue result → IsUtf8 bytes.now }
-{
-    if bytes.len() <= SHORT {
-        return bytes.is_ascii();
-    }
-    if bytes.len() > 2 * SHORT {
-        return false;
-    }
-    let (first, rest) = bytes.split_at(SHORT);
-    first.is_ascii() && rest.is_ascii()
-}
-
 /// The text that the bytes begin with, up to the first that begin no character.
 #[tactic(auto, using(crate::proofs::Text::Utf8Prefixes::whole_text))]
 #[inline(always)]
@@ -56,10 +37,6 @@ pub fn utf8_prefix(bytes: &[u8]) -> &str
     ensures prefix { result.now ≡ take (length result.now) bytes.now }
     ensures bad { StartsWithNoChar (drop (length result.now) bytes.now) }
 {
-    if is_short_ascii(bytes) {
-        // ASCII is UTF-8.
-        return unsafe { std::str::from_utf8_unchecked(bytes) };
-    }
     let ascii = ascii_blocks(bytes);
     match std::str::from_utf8(&bytes[ascii..]) {
         // ASCII and UTF-8 after it are UTF-8.

@@ -4,11 +4,9 @@ ghost use Rattle.std.specs.Prelude.{◌≡◌, ◌+◌, ◌<◌, ◌≤◌, ◌^
 ghost use Rattle.py_lines.specs.Private.Marks.{HasMarks};
 ghost use Rattle.py_lines.specs.Private.Run.{WhereverReached};
 ghost use Rattle.py_lines.specs.Private.WholePieces.{FindsSpecial, IsNoLonger, IsOperatorEnd, LeavesOff, PassesOperators};
-ghost use Rattle.py_lines.specs.Private.WholePieces.{closed_after};
 
 use crate::class::Class;
 use crate::passing::{Passing, Special};
-use crate::plain_strings::Passed;
 use crate::scan::Scan;
 
 /// What whole pieces leave.
@@ -35,13 +33,13 @@ pub fn last_operator_end(plain: &[u8]) -> usize
 /// Passes the plain bytes before this one up to the last operator, if one stands among them. No piece is open after it.
 #[inline(always)]
 fn pass_operators(passing: &mut Passing, bytes: &[u8], at: usize)
-    requires after { passing.old.all.len ≤ at }
+    requires after { passing.old.all ≤ at }
     requires within { at ≤ length bytes.now }
-    requires few { passing.old.all.line_ends ≤ passing.old.all.len }
+    requires few { passing.old.line_ends ≤ passing.old.all }
     ensures { PassesOperators bytes.now at passing.old passing.new }
 {
-    let len = last_operator_end(&bytes[passing.all.len..at]);
-    let to = passing.all.len + len;
+    let len = last_operator_end(&bytes[passing.all..at]);
+    let to = passing.all + len;
     passing.pass_to(to, 0, len > 0);
 }
 
@@ -49,11 +47,11 @@ fn pass_operators(passing: &mut Passing, bytes: &[u8], at: usize)
 /// closed by the last operator before it, if one stands there.
 #[inline(always)]
 fn next_special(passing: &mut Passing, bytes: &[u8]) -> usize
-    requires marked { HasMarks bytes.now passing.old.all.len passing.old.marks }
-    requires few { passing.old.all.line_ends ≤ passing.old.all.len }
+    requires marked { HasMarks bytes.now passing.old.all passing.old.marks }
+    requires few { passing.old.line_ends ≤ passing.old.all }
     ensures { FindsSpecial bytes.now passing.old result passing.new }
 {
-    if passing.closed.len == passing.all.len {
+    if passing.closed == passing.all {
         return passing.marks.next(bytes);
     }
     let at = passing.marks.next(bytes);
@@ -62,46 +60,32 @@ fn next_special(passing: &mut Passing, bytes: &[u8]) -> usize
 }
 
 impl Scan {
-    /// The bytes were passed, and no piece is open after them. CR may stand last.
-    #[inline(always)]
-    fn close_after(&mut self, passed: Passed, after_return: bool)
-        requires bytes { self.old.stop + passed.len < 2 ^ 64 }
-        requires lines { self.old.count.line + passed.line_ends < 2 ^ 64 }
-        ensures { self.new ≡ closed_after self.old passed after_return }
-    {
-        self.stop += passed.len;
-        self.count.line += passed.line_ends;
-        self.count.after_return = after_return;
-        self.free();
-    }
-
     /// Takes pieces, as long as they follow one another, up to the line's end. It stops at a place where all are closed.
     #[inline(always)]
     pub fn take_pieces<'s>(&mut self, bytes: &'s [u8]) -> Left<'s>
         requires bytes { self.old.stop + length bytes.now < 2 ^ 64 }
-        requires lines { self.old.count.line + length bytes.now < 2 ^ 64 }
         ensures shorter { IsNoLonger bytes.now result }
         ensures reached { WhereverReached self.old bytes.now
-            (λ m line whole. LeavesOff m line whole self.new result) }
+            (λ m whole. LeavesOff m whole self.new result) }
     {
-        if !self.inside.mode.is_free() || self.inside.frames.has_field() || bytes.is_empty() {
+        if !self.mode.is_free() || self.frames.has_field() || bytes.is_empty() {
             return Left::Bytes(bytes);
         }
         let mut passing = Passing::new(bytes);
         let mut at = passing.marks.next(bytes);
         'specials: while at < bytes.len() {
-            match passing.pass(&mut self.inside.frames, bytes, at, self.stop + at) {
+            match passing.pass(&mut self.frames, bytes, at, self.stop + at) {
                 // Were operators looked for at the end alone, a list of empty strings would be passed again after each comma.
                 Special::Passed => at = next_special(&mut passing, bytes),
                 Special::LineEnd(len) => {
-                    self.close_after(passing.all, bytes[passing.all.len - 1] == b'\r');
+                    self.pass(passing.all);
                     return Left::LineEnd(len);
                 }
                 Special::Unpassed => break,
             }
         }
         pass_operators(&mut passing, bytes, at);
-        self.close_after(passing.closed, false);
-        Left::Bytes(&bytes[passing.closed.len..])
+        self.pass(passing.closed);
+        Left::Bytes(&bytes[passing.closed..])
     }
 }

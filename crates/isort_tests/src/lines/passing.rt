@@ -85,7 +85,7 @@ static STRINGS: &[Passing] = &[
 
 /// Joins, short strings with fields, and lines at the byte.
 static SHORT: &[Passing] = &[
-    Passing("a\n'b\\\n'\n", 8, 6, (8, 4)),
+    Passing("a\n'b\\n'\n", 8, 6, (8, 3)),
     Passing("a\nb = \\\n c\n", 11, 9, (11, 4)),
     // Short strings with fields.
     Passing("a\nf'{b}'\n", 9, 7, (9, 3)),
@@ -124,10 +124,11 @@ static LINE_ENDS: &[Passing] = &[
 
 /// Line ends in strings, and at the byte.
 static INNER_ENDS: &[Passing] = &[
-    // In strings: one in three quotes counts, also after a quote, and one after a backslash.
+    // In a string of three quotes, also after a quote and after a backslash, and CR alone.
     Passing("a\n'''b\r\n\r\nc'\r\n'''\r\n", 19, 17, (19, 6)),
-    Passing("a\n'b\\\r\nc'\r\n", 11, 9, (11, 4)),
     Passing("a\n\"\"\"\\\r\n\"\"\"\n", 12, 10, (12, 4)),
+    Passing("a\n'''b\rc'''\n", 12, 10, (12, 4)),
+    Passing("a\n'''\r\n\n\r\r\n'''\n", 15, 13, (15, 7)),
     // A line that ends at CR, and one whose CR LF goes past the byte.
     Passing("a\nb\nc\rd\n", 8, 6, (8, 5)),
     Passing("a\nb\r\nc\r\n", 4, 0, (2, 2)),
@@ -143,9 +144,10 @@ static RETURNS: &[Passing] = &[
     Passing("a\nb = \\\r c\n", 11, 9, (11, 4)),
     // At the byte LF may follow.
     Passing("a\nb\nc\rd", 6, 2, (4, 3)),
-    // What is left to the scan: in a string of three quotes, and after a backslash.
-    Passing("a\n'''b\rc'''\n", 12, 0, (2, 2)),
+    // What is left to the scan: a line end after a backslash in a short string.
+    Passing("a\n'b\\\nc'\r\n", 10, 0, (2, 2)),
     Passing("a\n'b\\\rc'\n", 9, 0, (2, 2)),
+    Passing("a\n'b\\\r\nc'\r\n", 11, 0, (2, 2)),
 ];
 
 static CHARACTERS: &[Passing] = &[

@@ -18,8 +18,8 @@ use Rattle.py_lines.specs.ScannerState.{GoesOnWith}
 use Rattle.py_lines.specs.declared.mode.Move.{Move}
 use Rattle.py_lines.specs.Private.Machine.{Scanned, Bracket, brackets_of, moved, move_of}
 use Rattle.py_lines.specs.Private.ScanMachine.{IsScanSound, meet_of, scan_step}
-use Rattle.py_lines.specs.Private.Scan.{line_start, IsNotEnded, IsUnderWay, is_returned, none_open, is_return_mode, stack_if}
-use Rattle.py_lines.specs.Private.FieldScan.{RefusesField}
+use Rattle.py_lines.specs.Private.LineScan.{line_start, IsNotEnded, IsUnderWay, is_returned, none_open, stack_if}
+use Rattle.py_lines.specs.Private.Scan.{RefusesField}
 use Rattle.py_lines.specs.Private.LineState.{IsFaultAfter, first_mode}
 use Rattle.py_lines.specs.Private.Feed.{IsDecidedAt, Fault, FaultKind, Scan, LineState, LineFault, Mode, AreFirstLines}
 use Rattle.py_lines.proofs.Text.Utf8Prefixes.{nothing_bad, scalars_more, spell_more}
@@ -35,8 +35,8 @@ use Rattle.py_lines.proofs.Lexings.LinePrefix.{HasPrefix, refused_at_character, 
 use Rattle.py_lines.proofs.Lexings.DecidedFaults.{decided_lexing}
 use Rattle.py_lines.proofs.Lexings.FirstLines.{base_lines}
 use Rattle.py_lines.proofs.LogicalLines.Cuts.{byte_len-append}
-use Rattle.py_lines.proofs.LineScan.LineSteps.{way_returned}
-use Rattle.py_lines.proofs.LineScan.NextCharacter.{closed_one_line}
+use Rattle.py_lines.proofs.LineScan.LineSteps.{way_returned, way_stop}
+use Rattle.py_lines.proofs.LineScan.NextCharacter.{is_return_mode, closed_one_line}
 use Rattle.py_lines.proofs.LineScan.TextSteps.{base_of, begun_sound, way_goes, Joined, joined, dead_at}
 use Rattle.py_lines.proofs.Readers.LineFaults.{Within, refused_fault}
 use Rattle.py_lines.proofs.Feeds.Known.{IsKnown, goes_with_first, is_known}
@@ -107,7 +107,7 @@ module _ (text : List ℕ) (state : LineState) (lines : List LogicalLine) (read 
           go : (left : List ℕ) → rest ≡ left → IsLexedToFault (of.bytes text state.place state.line lines read rest k) lines fault
           go [] none = absurd (omega (arith, some, ap length none))
           go (d ∷ ds) is =
-              let stop = way.counts.stop in
+              let stop = way_stop way (begun_sound state.place) in
               let known = of.bytes text state.place state.line lines read rest k in
               let decodes = subst (λ t. Decodes known (spelled k.base ++ read) t) is (of.decodes text state.place state.line lines read rest k bad) in
               subst (λ l. IsLexedToFault known l fault) (sym k.cut)
@@ -128,7 +128,7 @@ module _ (text : List ℕ) (state : LineState) (lines : List LogicalLine) (read 
   abbrev all_known : List ℕ
   all_known = of.bytes text state.place state.line lines (read ++ c ∷ []) [] k
 
-  decided_character : (way : IsUnderWay (first_mode state.place) state.scan read) → stack_if (scan_step way.state c) ≡ None → IsNotEnded state.scan c → (line_fault : LineFault) → RefusesField state.scan.inside c state.scan.stop line_fault → (fault : Fault) (w : Within read line_fault.place) → IsFaultAfter state line_fault.kind line_fault.place (encode_utf8_all w.prefix) fault → Decides all_known fault × IsLexed all_known lines (Some fault)
+  decided_character : (way : IsUnderWay (first_mode state.place) state.scan read) → stack_if (scan_step way.state c) ≡ None → IsNotEnded state.scan c → (line_fault : LineFault) → RefusesField state.scan c line_fault → (fault : Fault) (w : Within read line_fault.place) → IsFaultAfter state line_fault.kind line_fault.place (encode_utf8_all w.prefix) fault → Decides all_known fault × IsLexed all_known lines (Some fault)
   decided_character way refuses not_yet line_fault is_line_fault fault w at =
       let s = way.state in
       let st = way.brackets in
@@ -165,7 +165,7 @@ decided_whole text place lines n most fault within both = record {
 module _ (text : List ℕ) (state : LineState) (lines : List LogicalLine) (held read rest : List ℕ) (first : AreFirstLines text state.place state.line lines) (goes : GoesOnWith text state.place held) (scalars : all_scalars read ≡ true) (spell : encode_utf8_all read ++ rest ≡ held)
     (way : IsUnderWay (first_mode state.place) state.scan read) where
   -- the next one is refused
-  pub by_character : (c : ℕ) (after : List ℕ) → IsScalar c → rest ≡ encode_utf8 c ++ after → stack_if (scan_step way.state c) ≡ None → IsNotEnded state.scan c → (line_fault : LineFault) → RefusesField state.scan.inside c state.scan.stop line_fault → (fault : Fault) (w : Within read line_fault.place) → IsFaultAfter state line_fault.kind line_fault.place (encode_utf8_all w.prefix) fault → IsDecidedAt text state.place lines (length held) fault
+  pub by_character : (c : ℕ) (after : List ℕ) → IsScalar c → rest ≡ encode_utf8 c ++ after → stack_if (scan_step way.state c) ≡ None → IsNotEnded state.scan c → (line_fault : LineFault) → RefusesField state.scan c line_fault → (fault : Fault) (w : Within read line_fault.place) → IsFaultAfter state line_fault.kind line_fault.place (encode_utf8_all w.prefix) fault → IsDecidedAt text state.place lines (length held) fault
   by_character c after scalar is refuses not_yet line_fault is_line_fault fault w at =
       let more = read ++ c ∷ [] in
       let all : encode_utf8_all more ++ after ≡ held = spell_more read after held c (ap (λ t. encode_utf8_all read ++ t) (sym is) ∙ spell) in

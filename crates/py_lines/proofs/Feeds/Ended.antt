@@ -8,8 +8,8 @@ use Rattle.py_lines.specs.Reading.{Decodes, IsBalancedReading}
 use Rattle.py_lines.specs.Lexed.{IsLexed, IsLexedToFault}
 use Rattle.py_lines.specs.LogicalLine.{LogicalLine, cut, byte_len, line_of}
 use Rattle.py_lines.specs.Private.Machine.{Scanned, is_final}
-use Rattle.py_lines.specs.Private.Scan.{line_start, is_returned, IsUnderWay}
-use Rattle.py_lines.specs.Private.FieldScan.{EndsField}
+use Rattle.py_lines.specs.Private.LineScan.{line_start, is_returned, IsUnderWay}
+use Rattle.py_lines.specs.Private.Scan.{EndsField}
 use Rattle.py_lines.specs.Private.LineState.{IsFaultAfter, first_mode}
 use Rattle.py_lines.proofs.Text.Utf8Prefixes.{nothing_bad}
 use Rattle.py_lines.proofs.Machine.PieceSteps.{pieces_at}
@@ -35,7 +35,7 @@ module _ (text : List ℕ) (state : LineState) (lines : List LogicalLine) (read 
   all_decoded none = subst (λ t. Decodes t (spelled k.base ++ read) []) all (subst (λ t. Decodes (of.bytes text state.place state.line lines read rest k) (spelled k.base ++ read) t) none (of.decodes text state.place state.line lines read rest k (subst StartsWithNoChar (sym none) nothing_bad)))
 
   -- the text may not end there
-  pub ended_unfinished : is_returned state.scan ≡ false → rest ≡ [] → 0 < byte_len read → (line_fault : LineFault) → EndsField state.scan.inside state.scan.stop (Some line_fault) → (fault : Fault) (w : Within read line_fault.place) → IsFaultAfter state line_fault.kind line_fault.place (encode_utf8_all w.prefix) fault → IsLexed text lines (Some fault)
+  pub ended_unfinished : is_returned state.scan ≡ false → rest ≡ [] → 0 < byte_len read → (line_fault : LineFault) → EndsField state.scan (Some line_fault) → (fault : Fault) (w : Within read line_fault.place) → IsFaultAfter state line_fault.kind line_fault.place (encode_utf8_all w.prefix) fault → IsLexed text lines (Some fault)
   ended_unfinished not_yet none some line_fault is_line_fault fault w at =
       let j = joined_here text state lines read rest k way not_yet in
       let found = unfinished_fault state.place k.base (of.level text state.place state.line lines read rest k) (of.strings text state.place state.line lines read rest k) (of.stands text state.place state.line lines read rest k) state.scan read way (of.read_then k.base read k.more [] (λ nothing. omega (arith, some, ap byte_len nothing)) k.fit) some line_fault is_line_fault in

@@ -6,13 +6,13 @@ use Rattle.py_lines.specs.LogicalLine.{LogicalLine, byte_len}
 use Rattle.py_lines.specs.Lexed.{IsLexed}
 use Rattle.py_lines.specs.ScannerState.{IsScanning, WhereWhole, fed_of, EndsScan, Finishes, ScannerState}
 use Rattle.py_lines.specs.Private.Machine.{is_final}
-use Rattle.py_lines.specs.Private.Scan.{is_returned, is_return_mode, none_open, line_start, IsUnderWay}
-use Rattle.py_lines.specs.Private.FieldScan.{EndsField}
+use Rattle.py_lines.specs.Private.LineScan.{is_returned, none_open, line_start, IsUnderWay}
+use Rattle.py_lines.specs.Private.Scan.{EndsField}
 use Rattle.py_lines.specs.Private.LineState.{IsEndLineFault, first_mode}
 use Rattle.py_lines.specs.Private.Run.{Reached}
 use Rattle.py_lines.specs.Private.Feed.{EndsText, FailsAt, Holds, IsScanned, HasEndedText, HasReadTokens, HasRoom, HoldsSo, IsHeldOpen, IsSoundFeed, ReadsTokens, ScansHeld, StandsSo, StopsHeld, StopsWith, line_held, with_line, FaultKind, LexError, Stop, Feed, scanning_of, ready_of, LineFault}
 use Rattle.py_lines.proofs.LineScan.LineSteps.{way_returned}
-use Rattle.py_lines.proofs.LineScan.NextCharacter.{empty_stack}
+use Rattle.py_lines.proofs.LineScan.NextCharacter.{is_return_mode, empty_stack}
 use Rattle.py_lines.proofs.LineScan.TextSteps.{begun_sound}
 use Rattle.py_lines.proofs.Machine.PieceSteps.{pieces_at}
 use Rattle.py_lines.proofs.Readers.LineAnswers.{IsScannedLine, line_at_text_end, line_at_return, returned_final, all_within}
@@ -69,7 +69,7 @@ module _ {old f : Feed} (h : IsLeftOpen old f) where
   abbrev way : IsUnderWay (first_mode f.state.place) f.state.scan h.scanned.0.read
   way = h.scanned.0.stops.0
 
-  abbrev o : Reached (first_mode f.state.place) f.state.line f.held.items f.state.scan h.scanned.0.rest
+  abbrev o : Reached (first_mode f.state.place) f.held.items f.state.scan h.scanned.0.rest
   o = reached_by h.scanned.0 way
 
   module _ (text : List ℕ) (lines : List LogicalLine) (scanning : IsScanning (scanning_of old) text lines) (whole : length text ≡ fed_of (scanning_of old)) where
@@ -87,7 +87,7 @@ module _ {old f : Feed} (h : IsLeftOpen old f) where
   read_some : h.scanned.0.rest ≡ [] → 0 < byte_len h.scanned.0.read
   read_some none = omega (arith, h.some, open_size f h.scanned.0.rest o, ap length none)
 
-  unfinished_in : h.scanned.0.rest ≡ [] → (line_fault : LineFault) → EndsField f.state.scan.inside f.state.scan.stop (Some line_fault) → Within h.scanned.0.read line_fault.place
+  unfinished_in : h.scanned.0.rest ≡ [] → (line_fault : LineFault) → EndsField f.state.scan (Some line_fault) → Within h.scanned.0.read line_fault.place
   unfinished_in none line_fault is = unfinished_within f.state.place f.state.scan h.scanned.0.read way (read_some none) line_fault is
 
   -- the fault that the text has there is kept
@@ -125,7 +125,7 @@ module _ {old f : Feed} (h : IsLeftOpen old f) where
   last_line end_len none final empty line = record {
     text = record { held = h.keeps.held; place = h.keeps.place; line = h.keeps.line; ended = h.keeps.ended; fault = h.keeps.fault };
     line = _;
-    holds = (holds_line f end_len h.scanned.0.read h.scanned.0.rest (pieces_at way.state) h.scanned.0.scalars h.scanned.0.spell h.scanned.0.number line, refl);
+    holds = (holds_line f end_len h.scanned.0.read h.scanned.0.rest (pieces_at way.state) h.scanned.0.scalars h.scanned.0.spell line, refl);
     lexed = λ text lines scanning whole. (
       ended_line text f.state lines h.scanned.0.read h.scanned.0.rest (known_at text lines scanning whole) (whole_at text lines scanning whole) way none empty
           final line.line.some line.line.whole,
@@ -133,7 +133,7 @@ module _ {old f : Feed} (h : IsLeftOpen old f) where
     );
   }
 
-  pub ends_plain : h.scanned.0.rest ≡ [] → is_returned f.state.scan ≡ false → EndsField f.state.scan.inside f.state.scan.stop None → EndsText old (Ok tt) (record f { ready = Some 0 })
+  pub ends_plain : h.scanned.0.rest ≡ [] → is_returned f.state.scan ≡ false → EndsField f.state.scan None → EndsText old (Ok tt) (record f { ready = Some 0 })
   ends_plain none not_yet unfinished =
       let (final, empty) = finished way (begun_sound f.state.place) unfinished in
       last_line 0 none final empty (line_at_text_end (first_mode f.state.place) f.state.scan h.scanned.0.read way (open_stands f h.scanned.0.rest o) final
@@ -157,7 +157,7 @@ ended_ready f (Some n) = refl
 
 ended_stands : (f : Feed) (r : Option ℕ) → StandsSo f r → StandsSo (ended_now f) r
 ended_stands f None opens = opens
-ended_stands f (Some n) r = record { holds = r.holds; line_is = r.line_is }
+ended_stands f (Some n) r = record { holds = r.holds; after = r.after; line_is = r.line_is }
 
 finish_now : (old f : Feed) → old.state.fault ≡ None → (e : HasEndedText old f)
     → EndsScan (scanning_of old) (with_line (ended_now f) e.line)

@@ -9,7 +9,7 @@ use Rattle.std.specs.Str.{all_scalars}
 use Rattle.py_lines.specs.Lexed.{IsLexed}
 use Rattle.py_lines.specs.Settled.{IsSettled, Decides, DecideNone}
 use Rattle.py_lines.specs.ScannerState.{GoesOnWith, EndsExactly, HoldsReady}
-use Rattle.py_lines.specs.Private.Scan.{IsApart, ScansIn, is_return_mode, none_open, EndsWhole}
+use Rattle.py_lines.specs.Private.LineScan.{IsApart, ScansIn, none_open, EndsWhole}
 use Rattle.py_lines.specs.Private.LineState.{first_mode}
 use Rattle.py_lines.specs.Private.Feed.{IsScanned, Scan, Stop, Feed, AreFirstLines}
 use Rattle.py_lines.proofs.Text.Utf8Prefixes.{all_scalars-parts, nothing_bad}
@@ -21,6 +21,7 @@ use Rattle.py_lines.proofs.Feeds.SettledSoFar.{settled_open, settled_ready, ende
 use Rattle.py_lines.proofs.Feeds.DecidedSoFar.{undecided}
 use Rattle.py_lines.proofs.Feeds.ReadyLines.{ended_alone, ended_scan, pieces_alone, same_before}
 use Rattle.py_lines.proofs.Feeds.LastBytes.{exactly_encoded}
+use Rattle.py_lines.proofs.LineScan.NextCharacter.{is_return_mode}
 use Rattle.py_lines.proofs.LineScan.LineSteps.{follows_whole, way_returned}
 
 -- these bytes, if there are any, settle the lines given and no more
@@ -28,7 +29,7 @@ abbrev pub SettleNone : List ℕ → ℕ → List ℕ → List LogicalLine → T
 SettleNone text place items lines = 0 < length items → IsSettled (take (place + length items) text) lines
 
 -- a line has ended in these bytes, which a text goes on with after the lines given
-module _ (text : List ℕ) (place : ℕ) {line : ℕ} {bytes : List ℕ} {scan : Scan} {end_len : ℕ} (lines : List LogicalLine) (s : ScansIn (first_mode place) line bytes scan (Stop.LineEnd end_len)) (first : AreFirstLines text place line lines) (goes : GoesOnWith text place bytes) where
+module _ (text : List ℕ) (place : ℕ) {line : ℕ} {bytes : List ℕ} {scan : Scan} {end_len : ℕ} (lines : List LogicalLine) (s : ScansIn (first_mode place) bytes scan (Stop.LineEnd end_len)) (first : AreFirstLines text place line lines) (goes : GoesOnWith text place bytes) where
   known : IsKnown text place line lines s.read s.rest
   known = is_known text place line lines s.read s.rest first s.scalars (subst (GoesOnWith text place) (sym s.spell) goes) (omega (arith, (ended_alone s).line.some, length-append (encode_utf8_all s.read) s.rest))
 

@@ -1,16 +1,24 @@
 -- What stays held where a line is ready.
-use Rattle.std.proofs.Common.{◌≡◌, ℕ, zero, suc, ◌+◌, ◌-◌, ◌<◌, ◌≤◌, true, false, List, [], ◌++◌, length, take, refl, sym, ap, ◌∙◌, subst, ⊎_elim, inl, inr, arith, length-append, encode_utf8_all, is_some, max}
+use Rattle.std.proofs.Common.{◌≡◌, ℕ, zero, suc, ◌+◌, ◌-◌, ◌==◌, ◌<◌, ◌≤◌, true, false, List, ◌++◌, length, take, refl, sym, ap, ◌∙◌, subst, ⊎_elim, inl, inr, arith, length-append, encode_utf8_all, is_some, max, slice_index, if◌then◌else◌}
+use Rattle.std.specs.Prelude.{min}
 use Rattle.std.specs.Global.{Vec}
-use Rattle.std.proofs.lemmas.Bool.{both_ways, cond_both, cases_lt}
+use Rattle.std.proofs.lemmas.Bool.{both_ways, cond_both, cases_lt, eqb-true, eqb-false, false_from_ne_true}
 use Rattle.std.proofs.lemmas.List.{take_all}
 use Rattle.std.proofs.Math.Seq.{take-append-add}
 use Rattle.py_lines.specs.Character.{is_return}
 use Rattle.py_lines.specs.Piece.{ends}
 use Rattle.py_lines.specs.LogicalLine.{byte_len}
-use Rattle.py_lines.specs.Private.Scan.{EndsWhole, ScansIn}
+use Rattle.py_lines.specs.Private.LineScan.{EndsWhole, ScansIn}
 use Rattle.py_lines.specs.ScannerState.{EndsExactly}
-use Rattle.py_lines.specs.Private.Feed.{EndsWithLine, GivesBack, IsScanned, StopsHeld, whole_end, Scan, Stop, Feed, Mode}
-use Rattle.py_lines.proofs.Feeds.ReadyLines.{ended_alone, none_is, some_is}
+use Rattle.py_lines.specs.Private.Feed.{EndsWithLine, GivesBack, IsScanned, StopsHeld, Scan, Stop, Feed, Mode}
+use Rattle.py_lines.proofs.Text.CharacterTests.{return_is}
+use Rattle.py_lines.proofs.Lexings.LineEnds.{return_returns}
+use Rattle.py_lines.proofs.Feeds.LastBytes.{ends-encoded, last_of}
+use Rattle.py_lines.proofs.Feeds.ReadyLines.{ended_alone, none_is, some_is, stopped_text}
+
+-- where what is taken ends of a line that has so many of these bytes: with the byte after CR
+abbrev pub whole_end : List ℕ → ℕ → ℕ
+whole_end bytes len = len + (if slice_index bytes (len - 1) == 13 then 1 else 0)
 
 -- a line's end stays whole where one byte after CR stays
 whole_taken : (all after : List ℕ) (n k : ℕ) → EndsWhole all after → EndsExactly all (take n after) → n ≤ k → EndsWhole all (take k after)
@@ -25,68 +33,80 @@ exact_return all after returned (inl feed) = absurd (both_ways _ feed returned)
 exact_return all after returned (inr (b, m, is, other)) = inr (returned, (b, ap (take 1) is, other))
 
 -- a line that has ended in these bytes
-module _ {m : Mode} {line : ℕ} {bytes : List ℕ} {scan : Scan} {end_len : ℕ} (s : ScansIn m line bytes scan (Stop.LineEnd end_len)) where
-  line_returned : scan.count.after_return ≡ ends is_return s.read
-  line_returned = (s.stops.0 [] (λ returned. refl)).counts.after
-
-  -- where it ends: after CR one byte more is part of it
-  more : (n : ℕ) × (whole_end scan ≡ byte_len s.read + n) × (n ≤ length s.rest) × EndsExactly s.read (take n s.rest)
-  more = cond_both scan.count.after_return 1 0 (λ (k : ℕ). (n : ℕ) × (scan.stop + k ≡ byte_len s.read + n) × (n ≤ length s.rest) × EndsExactly s.read (take n s.rest))
-      (λ h. let returned = sym line_returned ∙ h in (1, omega (arith, (ended_alone s).stop), rest_some s.rest returned s.stops.1, exact_return s.read s.rest returned s.stops.1))
-      (λ h. (0, omega (arith, (ended_alone s).stop), omega arith, inl (sym line_returned ∙ h, refl)))
-    where
-      rest_some : (rest : List ℕ) → ends is_return s.read ≡ true → EndsWhole s.read rest → 1 ≤ length rest
-      rest_some rest returned (inl feed) = absurd (both_ways _ feed returned)
-      rest_some rest returned (inr (b, others, is, other)) = omega (arith, ap length is)
-
+module _ {m : Mode} {bytes : List ℕ} {scan : Scan} {end_len : ℕ} (s : ScansIn m bytes scan (Stop.LineEnd end_len)) where
   bytes_size : length bytes ≡ byte_len s.read + length s.rest
   bytes_size = ap length (sym s.spell) ∙ length-append (encode_utf8_all s.read) s.rest
 
   pub stop_within : scan.stop ≤ length bytes
   stop_within = omega (arith, (ended_alone s).stop, bytes_size)
 
-  end_some : 0 < whole_end scan
-  end_some = omega (arith, more.1, (ended_alone s).line.some)
+  pub stop_some : 0 < scan.stop
+  stop_some = omega (arith, (ended_alone s).stop, (ended_alone s).line.some)
 
-  -- the line with the byte after CR lies in the bytes
-  pub end_within : whole_end scan ≤ length bytes
+  -- its last byte is CR just where it ends in CR
+  last_is : ends is_return s.read ≡ is_return (slice_index bytes (scan.stop - 1))
+  last_is = sym (ends-encoded s.read) ∙ ap (ends is_return) (sym (stopped_text scan.stop bytes s.read s.rest s.spell (ended_alone s).stop)) ∙ last_of bytes scan.stop stop_some stop_within
+
+  -- where it ends: after CR one byte more is part of it
+  more : (n : ℕ) × (whole_end bytes scan.stop ≡ byte_len s.read + n) × (n ≤ length s.rest) × EndsExactly s.read (take n s.rest)
+  more = cond_both (slice_index bytes (scan.stop - 1) == 13) 1 0 (λ (k : ℕ). (n : ℕ) × (scan.stop + k ≡ byte_len s.read + n) × (n ≤ length s.rest) × EndsExactly s.read (take n s.rest))
+      (λ h.
+      let returned : ends is_return s.read ≡ true = last_is ∙ ap is_return (eqb-true (slice_index bytes (scan.stop - 1)) 13 h) ∙ return_returns in
+      (1, omega (arith, (ended_alone s).stop), rest_some s.rest returned s.stops.1, exact_return s.read s.rest returned s.stops.1))
+      (λ h.
+      let other = eqb-false (slice_index bytes (scan.stop - 1)) 13 h in
+      (0, omega (arith, (ended_alone s).stop), omega arith, inl (last_is ∙ false_from_ne_true _ (λ returns. other (return_is (slice_index bytes (scan.stop - 1)) returns)), refl)))
+    where
+      rest_some : (rest : List ℕ) → ends is_return s.read ≡ true → EndsWhole s.read rest → 1 ≤ length rest
+      rest_some rest returned (inl feed) = absurd (both_ways _ feed returned)
+      rest_some rest returned (inr (b, others, is, other)) = omega (arith, ap length is)
+
+  end_within : whole_end bytes scan.stop ≤ length bytes
   end_within = omega (arith, more.1, more.2, bytes_size)
 
+  end_near : whole_end bytes scan.stop ≤ scan.stop + 1
+  end_near = cond_both (slice_index bytes (scan.stop - 1) == 13) 1 0 (λ (k : ℕ). scan.stop + k ≤ scan.stop + 1) (λ h. omega arith) (λ h. omega arith)
+
   -- so many of the bytes, which the line is part of
-  first_spell : (n : ℕ) → whole_end scan ≤ n → encode_utf8_all s.read ++ take (n - byte_len s.read) s.rest ≡ take n bytes
+  first_spell : (n : ℕ) → whole_end bytes scan.stop ≤ n → encode_utf8_all s.read ++ take (n - byte_len s.read) s.rest ≡ take n bytes
   first_spell n within =
       let parts : n ≡ byte_len s.read + (n - byte_len s.read) = omega (arith, more.1, within) in
       sym (ap (take n) (sym s.spell) ∙ ap (λ (k : ℕ). take k (encode_utf8_all s.read ++ s.rest)) parts ∙ take-append-add (encode_utf8_all s.read) s.rest (n - byte_len s.read))
 
-  pub ends_in_first : (n : ℕ) (items : List ℕ) → items ≡ take n bytes → whole_end scan ≤ n → ScansIn m line items scan (Stop.LineEnd end_len)
+  pub ends_in_first : (n : ℕ) (items : List ℕ) → items ≡ take n bytes → whole_end bytes scan.stop ≤ n → ScansIn m items scan (Stop.LineEnd end_len)
   ends_in_first n items is within = record {
     read = s.read;
     rest = take (n - byte_len s.read) s.rest;
     scalars = s.scalars;
     spell = first_spell n within ∙ sym is;
     stops = (s.stops.0, whole_taken s.read s.rest more.0 (n - byte_len s.read) s.stops.1 more.3 (omega (arith, more.1, within)));
-    number = s.number;
   }
 
-  pub ends_exactly : (n : ℕ) → n ≡ whole_end scan → EndsExactly s.read (take (n - byte_len s.read) s.rest)
+  pub ends_exactly : (n : ℕ) → n ≡ whole_end bytes scan.stop → EndsExactly s.read (take (n - byte_len s.read) s.rest)
   ends_exactly n is = let same : more.0 ≡ n - byte_len s.read = omega (arith, is, more.1) in subst (λ (k : ℕ). EndsExactly s.read (take k s.rest)) same more.3
 
--- so many of these bytes are held of those that were scanned: some, if there are any, and as many as the scan stops in
-pub record HoldsStop (m : Mode) (line : ℕ) (bytes : List ℕ) (scan : Scan) (stop : Stop) (n : ℕ) : Type 0 where
-  pub some : n ≡ 0 → length bytes ≡ 0
-  pub within : n ≤ length bytes
-  pub stops : (items : List ℕ) → items ≡ take n bytes → ScansIn m line items scan stop
+-- so many bytes of a piece are held after those that were: some, if there are any, and as many as the scan stops in
+pub record HoldsStop (m : Mode) (held piece : List ℕ) (scan : Scan) (stop : Stop) (n : ℕ) : Type 0 where
+  pub some : n ≡ 0 → length piece ≡ 0
+  pub within : n ≤ length piece
+  pub stops : ScansIn m (held ++ take n piece) scan stop
 
--- all, or up to the end of the line
-pub holds_bytes : {m : Mode} {line : ℕ} {bytes : List ℕ} {scan : Scan} {stop : Stop} → ScansIn m line bytes scan stop → HoldsStop m line bytes scan stop (length bytes)
-holds_bytes {m} {line} {bytes} {scan} {stop} s = record {
-  some = λ none. none;
-  within = omega arith;
-  stops = λ items is. subst (λ t. ScansIn m line t scan stop) (sym (is ∙ take_all (length bytes) bytes (omega arith))) s;
-}
+module _ {m : Mode} (held piece : List ℕ) {scan : Scan} where
+  -- all
+  pub holds_bytes : {stop : Stop} → ScansIn m (held ++ piece) scan stop → HoldsStop m held piece scan stop (length piece)
+  holds_bytes {stop} s = record {
+    some = λ none. none;
+    within = omega arith;
+    stops = subst (λ t. ScansIn m (held ++ t) scan stop) (sym (take_all (length piece) piece (omega arith))) s;
+  }
 
-pub holds_line_end : {m : Mode} {line : ℕ} {bytes : List ℕ} {scan : Scan} {end_len : ℕ} → ScansIn m line bytes scan (Stop.LineEnd end_len) → HoldsStop m line bytes scan (Stop.LineEnd end_len) (whole_end scan)
-holds_line_end {m} {line} {bytes} {scan} s = record { some = λ none. absurd (omega (arith, none, end_some s)); within = end_within s; stops = λ items is. ends_in_first s (whole_end scan) items is (omega arith) }
+  -- or up to the end of the line
+  pub holds_line_end : {end_len : ℕ} (n : ℕ) → n ≡ min (length piece) (scan.stop + 1) → ScansIn m (held ++ piece) scan (Stop.LineEnd end_len) → HoldsStop m held piece scan (Stop.LineEnd end_len) n
+  holds_line_end n is s = record {
+    some = λ none. omega (arith, is, none);
+    within = omega (arith, is);
+    stops = ends_in_first s (length held + n) (held ++ take n piece) (sym (take-append-add held piece n)) (omega (arith, is, end_near s, end_within s, length-append held piece));
+  }
 
 module _ (f : Feed) (before : ℕ) (scanned : IsScanned f f.ready) where
   -- no line is ready
@@ -103,11 +123,11 @@ module _ (f : Feed) (before : ℕ) (scanned : IsScanned f f.ready) where
     line_ready = subst (IsScanned f) (some_is f.ready some).1 scanned
 
     -- the scan stops within what is held
-    pub stop_small : f.state.scan.stop ≤ length f.held.items
-    stop_small = stop_within line_ready
+    pub stop_small : (0 < f.state.scan.stop) × (f.state.scan.stop ≤ length f.held.items)
+    stop_small = (stop_some line_ready, stop_within line_ready)
 
     -- one is
-    pub gives_line : (v : Vec ℕ) (kept : ℕ) → v.items ≡ take kept f.held.items → kept ≡ max (whole_end f.state.scan) (before + 1) → GivesBack f before (record f { held = v })
+    pub gives_line : (v : Vec ℕ) (kept : ℕ) → v.items ≡ take kept f.held.items → kept ≡ max (whole_end f.held.items f.state.scan.stop) (before + 1) → GivesBack f before (record f { held = v })
     unfolding ends_in_first
     gives_line v kept held is =
         let s = line_ready in
@@ -117,6 +137,6 @@ module _ (f : Feed) (before : ℕ) (scanned : IsScanned f f.ready) where
           text = record { held = held; place = refl; line = refl; ended = refl; fault = refl };
           ends = subst (EndsWithLine (take before f.held.items) (record f { held = v })) (sym (some_is f.ready some).1) (
             ends_in_first s kept v.items held (omega (arith, is)),
-            ⊎_elim (λ less. inl (ends_exactly s kept (omega (arith, is, less)))) (λ past. inr (ends_in_first s before (take before f.held.items) refl past)) (cases_lt before (whole_end f.state.scan)),
+            ⊎_elim (λ less. inl (ends_exactly s kept (omega (arith, is, less)))) (λ past. inr (ends_in_first s before (take before f.held.items) refl past)) (cases_lt before (whole_end f.held.items f.state.scan.stop)),
           );
         }

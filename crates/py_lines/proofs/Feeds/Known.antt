@@ -14,7 +14,7 @@ use Rattle.py_lines.specs.LogicalLine.{LogicalLine, cut, line_of, lines_of, byte
 use Rattle.py_lines.specs.ScannerState.{GoesOnWith}
 use Rattle.py_lines.specs.Private.Machine.{Scanned, Bracket, brackets_of}
 use Rattle.py_lines.specs.Private.ScanMachine.{StringsFit}
-use Rattle.py_lines.specs.Private.Scan.{line_start}
+use Rattle.py_lines.specs.Private.LineScan.{line_start}
 use Rattle.py_lines.specs.Private.LineState.{first_mode}
 use Rattle.py_lines.proofs.Text.Utf8Prefixes.{goes_on, all_scalars-parts, all_scalars-append}
 use Rattle.py_lines.proofs.LogicalLines.NextLine.{lines_of-push}

@@ -1,5 +1,5 @@
 -- The last byte of characters: it is CR just where their last character is.
-use Rattle.std.proofs.Common.{◌≡◌, ℕ, ◌≤◌, Bool, false, List, [], ◌∷◌, ◌++◌, length, refl, sym, ap, ◌∙◌, ⊎_elim, append-nil, arith}
+use Rattle.std.proofs.Common.{take-suc, ◌≡◌, ℕ, suc, ◌-◌, ◌<◌, ◌≤◌, Bool, false, List, [], ◌∷◌, ◌++◌, length, take, slice_index, refl, sym, ap, ◌∙◌, ⊎_elim, append-nil, arith}
 use Rattle.std.specs.Prelude.{encode_utf8, encode_utf8_all}
 use Rattle.std.proofs.lemmas.Bool.{cases_lt, false_from_ne_true}
 use Rattle.std.proofs.lemmas.Str.{length-le-encodes}
@@ -9,6 +9,7 @@ use Rattle.py_lines.specs.ScannerState.{EndsExactly}
 use Rattle.py_lines.proofs.Text.CharacterTests.{return_is}
 use Rattle.py_lines.proofs.Text.Utf8Shapes.{one, two, three, four}
 use Rattle.py_lines.proofs.Lexings.LineEnds.{ends-append}
+use Rattle.py_lines.proofs.LogicalLines.Cuts.{ends-last}
 
 -- a byte or character of this size is no CR
 no_return : (c : ℕ) → 128 ≤ c → is_return c ≡ false
@@ -36,6 +37,12 @@ pub ends-encoded : (cs : List ℕ) → ends is_return (encode_utf8_all cs) ≡ e
 ends-encoded [] = refl
 ends-encoded (c ∷ []) = ap (ends is_return) (append-nil (encode_utf8 c)) ∙ ends-encode c
 ends-encoded (c ∷ d ∷ cs) = ends-later is_return (encode_utf8 c) (encode_utf8_all (d ∷ cs)) (λ none. omega (arith, length-le-encodes (d ∷ cs), ap length none)) ∙ ends-encoded (d ∷ cs)
+
+-- the last byte of the first so many
+pub last_of : (bytes : List ℕ) (len : ℕ) → 0 < len → len ≤ length bytes → ends is_return (take len bytes) ≡ is_return (slice_index bytes (len - 1))
+last_of bytes len some within =
+    let next : len ≡ suc (len - 1) = omega (arith, some) in
+    ap (λ (k : ℕ). ends is_return (take k bytes)) next ∙ ap (ends is_return) (take-suc bytes (len - 1) 0 (omega (arith, some, within))) ∙ ends-last is_return (take (len - 1) bytes) (slice_index bytes (len - 1))
 
 -- what comes after a line comes after its bytes
 pub exactly_encoded : (line more : List ℕ) → EndsExactly line more → EndsExactly (encode_utf8_all line) more

@@ -12,39 +12,38 @@ use Rattle.py_lines.specs.Character.{is_line_feed}
 use Rattle.py_lines.specs.Piece.{begins}
 use Rattle.py_lines.specs.LogicalLine.{byte_len}
 use Rattle.py_lines.specs.Private.Run.{Reached}
-use Rattle.py_lines.specs.Private.Scan.{is_return_mode, is_returned, freed, none_open, EndsWhole, IsUnderWay, ScansIn}
-use Rattle.py_lines.specs.Private.FieldScan.{RefusesField}
+use Rattle.py_lines.specs.Private.LineScan.{is_returned, none_open, EndsWhole, IsUnderWay, ScansIn}
+use Rattle.py_lines.specs.Private.Scan.{RefusesField, freed}
 use Rattle.py_lines.specs.Private.LineState.{first_mode, BeginsAnew, IsFaultAfter}
-use Rattle.py_lines.specs.Private.Feed.{IsCutAt, IsOpen, StopsHeld, Scan, Stop, Feed, DropsLine, FailsAt, HasRoom, Holds, HoldsAt, IsDecidedAt, IsSoundFeed, IsUnchanged, ScansHeld, ScansTo, StandsSo, StopsWith, WhereHeld, Fault, FaultKind, LexError, ready_of, scanning_of, LineState, LineFault, Mode}
+use Rattle.py_lines.specs.Private.Feed.{IsCutAt, IsHeldOpen, IsOpen, StopsHeld, Scan, Stop, Feed, DropsLine, FailsAt, HasRoom, Holds, HoldsAt, IsDecidedAt, IsSoundFeed, IsUnchanged, ScansHeld, ScansTo, StandsSo, StopsWith, WhereHeld, Fault, FaultKind, LexError, ready_of, scanning_of, LineState, LineFault, Mode}
 use Rattle.py_lines.proofs.Text.Utf8Prefixes.{all_scalars-parts}
 use Rattle.py_lines.proofs.LogicalLines.Cuts.{byte_len-append}
 use Rattle.py_lines.proofs.ScanMachine.Soundness.{StandsSound, stands_sound}
-use Rattle.py_lines.proofs.LineScan.LineSteps.{begun_way, returned, way_returned}
+use Rattle.py_lines.proofs.LineScan.NextCharacter.{is_return_mode}
+use Rattle.py_lines.proofs.LineScan.LineSteps.{begun_way, returned, way_returned, way_stop}
 use Rattle.py_lines.proofs.LineScan.LineStops.{return_ends}
 use Rattle.py_lines.proofs.LineScan.TextSteps.{begun_sound, way_goes}
 use Rattle.py_lines.proofs.Readers.LineFaults.{Within, refused_within}
-use Rattle.py_lines.proofs.Lexings.LineEnds.{none_both}
 use Rattle.py_lines.specs.Settled.{IsHopeless}
 use Rattle.py_lines.specs.ScannerState.{ScannerRunsOut}
 use Rattle.py_lines.proofs.Text.Incomplete.{part_none}
 use Rattle.py_lines.proofs.Feeds.DecidedSoFar.{by_bytes, by_character}
 
 -- the scan of a line that is open where it stops has come there
-abbrev pub reached_by : {m : Mode} {line : ℕ} {whole : List ℕ} {scan : Scan} {stop : Stop} (s : ScansIn m line whole scan stop)
-    → IsUnderWay m scan s.read → Reached m line whole scan s.rest
-reached_by s way = record { read = s.read; way = way; spell = s.spell; scalars = s.scalars; line = s.number }
+abbrev pub reached_by : {m : Mode} {whole : List ℕ} {scan : Scan} {stop : Stop} (s : ScansIn m whole scan stop)
+    → IsUnderWay m scan s.read → Reached m whole scan s.rest
+reached_by s way = record { read = s.read; way = way; spell = s.spell; scalars = s.scalars }
 
 pub none_held : (held : Vec ℕ) {empty : Bool} → empty ≡ (vec_len held == 0) → empty ≡ true → held.items ≡ []
 none_held held is empty = nil_from_length held.items (let none : vec_len held ≡ 0 = eqb-true (vec_len held) 0 (sym is ∙ empty) in omega (arith, none))
 
--- where nothing is held, it stands before the bytes that come next
-pub reached_next : (f : Feed) (rest chunk : List ℕ) → IsOpen f rest → f.held.items ≡ [] → Reached (first_mode f.state.place) f.state.line chunk f.state.scan chunk
-reached_next f rest chunk o none = record {
+-- with more bytes after those that are held, it stands before them too
+pub reached_more : (f : Feed) (rest bytes : List ℕ) → IsOpen f rest → Reached (first_mode f.state.place) (f.held.items ++ bytes) f.state.scan (rest ++ bytes)
+reached_more f rest bytes o = record {
   read = o.read;
   way = o.way;
-  spell = ap (λ t. t ++ chunk) (none_both (encode_utf8_all o.read) rest (o.spell ∙ none)).0;
+  spell = sym (append_assoc (encode_utf8_all o.read) rest bytes) ∙ ap (λ t. t ++ bytes) o.spell;
   scalars = o.scalars;
-  line = o.line;
 }
 
 module _ (f : Feed) (rest : List ℕ) (o : IsOpen f rest) where
@@ -52,7 +51,7 @@ module _ (f : Feed) (rest : List ℕ) (o : IsOpen f rest) where
   open_stands = stands_sound (first_mode f.state.place) o.read o.way.state o.way.brackets (begun_sound f.state.place) (way_goes o.way)
 
   pub open_stop : f.state.scan.stop ≡ byte_len o.read
-  open_stop = o.way.counts.stop
+  open_stop = way_stop o.way (begun_sound f.state.place)
 
   pub open_size : length f.held.items ≡ byte_len o.read + length rest
   open_size = ap length (sym o.spell) ∙ length-append (encode_utf8_all o.read) rest
@@ -79,6 +78,12 @@ module _ (f : Feed) (rest : List ℕ) (o : IsOpen f rest) where
       ∙ ap (drop (byte_len o.read)) (sym o.spell)
       ∙ drop-append_seam (encode_utf8_all o.read) rest
 
+-- where all that is held was scanned, it stands before the bytes that come next
+pub reached_next : (f : Feed) (chunk : List ℕ) → IsHeldOpen f → length f.held.items ≤ f.state.scan.stop → Reached (first_mode f.state.place) (f.held.items ++ chunk) f.state.scan chunk
+reached_next f chunk (rest, o) all =
+    let none : rest ≡ [] = nil_from_length rest (omega (arith, all, open_stop f rest o, open_size f rest o)) in
+    subst (λ t. Reached (first_mode f.state.place) (f.held.items ++ chunk) f.state.scan (t ++ chunk)) none (reached_more f rest chunk o)
+
 -- a line that bytes which begin no character show to have ended in CR: they don't begin with LF
 returned_whole : (read rest : List ℕ) → 0 < length rest → StartsWithNoChar rest → EndsWhole read rest
 returned_whole read [] some none = absurd (omega arith)
@@ -103,7 +108,6 @@ ends_returned f s some is =
         λ after h. returned way start is (λ a spells. ap (begins is_line_feed) (encodes_same a after spells) ∙ h (return_ends way.state s.read sound parts.0)),
         returned_whole s.read s.rest some s.stops.1,
       );
-      number = s.number;
     }
 
 pub holds_self : (f : Feed) → Holds f f.held.items f.state.fault f
@@ -153,7 +157,6 @@ begun_open was new b = record {
       (begun_way b.begun (begun_sound was.place));
   spell = refl;
   scalars = refl;
-  line = b.number ∙ sym (ap (λ (s : LineState). s.line) b.same);
 }
 
 -- nothing that a caller sees has changed then
@@ -208,7 +211,7 @@ module _ (f new : Feed) (error : LexError) (not_ready : f.ready ≡ None) where
       (fault_after f new FaultKind.BadUtf8 f.state.scan.stop error fails s.rest o (record { prefix = s.read; later = []; split = append-nil s.read; size = open_stop f s.rest o })))
 
   -- the next character is refused
-  pub held_refused : (c : ℕ) (s : StopsHeld f (Stop.Refused c)) (line_fault : LineFault) → RefusesField f.state.scan.inside c f.state.scan.stop line_fault → FailsAt f line_fault.kind line_fault.place error new → ScansHeld f (Err error) new
+  pub held_refused : (c : ℕ) (s : StopsHeld f (Stop.Refused c)) (line_fault : LineFault) → RefusesField f.state.scan c line_fault → FailsAt f line_fault.kind line_fault.place error new → ScansHeld f (Err error) new
   held_refused c s line_fault is_line_fault fails =
       let (way, after, scalar, spell, refuses, not_yet) = s.stops in
       let w = refused_within f.state.place f.state.scan s.read way c refuses line_fault is_line_fault in

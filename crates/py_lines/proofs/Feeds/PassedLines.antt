@@ -7,23 +7,22 @@ use Rattle.std.proofs.lemmas.List.{drop_more, length-drop, length-take-le, lengt
 use Rattle.std.proofs.lemmas.Str.{encodes-append, length-le-encodes}
 use Rattle.py_lines.specs.Character.{is_return}
 use Rattle.py_lines.specs.Piece.{ends}
-use Rattle.py_lines.specs.LogicalLine.{LogicalLine, byte_len, first_or_zero, line_of}
+use Rattle.py_lines.specs.LogicalLine.{LogicalLine, byte_len, first_or_zero, line_ends, line_of}
 use Rattle.py_lines.specs.Settled.{IsSettled}
 use Rattle.py_lines.specs.ScannerState.{EndsExactly, GoesOnWith, HasSettled, HoldsAfterLines, HoldsReady, IsScanning, PassesPieceLines, ScannerState, StandsAtLine, ready_lines}
 use Rattle.py_lines.specs.declared.line_tokens.LineTokens.{LineTokens}
-use Rattle.py_lines.specs.declared.plain_strings.Passed.{Passed}
 use Rattle.py_lines.specs.Private.Feed.{IsSoundFeed, StandsSo, Scan, Feed, ready_of, scanning_of, LineState, AreFirstLines}
 use Rattle.py_lines.specs.Private.LineState.{BeginsAnew}
-use Rattle.py_lines.specs.Private.Scan.{EndsWhole}
+use Rattle.py_lines.specs.Private.LineScan.{EndsWhole}
 use Rattle.py_lines.specs.Private.Outline.{AreWholeLines, BeginWithLines}
 use Rattle.py_lines.proofs.Lexings.LineEnds.{return_returns}
-use Rattle.py_lines.proofs.SimpleLines.Lines.{lines_few}
-use Rattle.py_lines.proofs.LineScan.LineCount.{ends-last}
+use Rattle.py_lines.proofs.LineScan.LineCount.{line_ends-bytes}
+use Rattle.py_lines.proofs.LogicalLines.Cuts.{line_ends-append}
 use Rattle.py_lines.proofs.Text.CharacterTests.{return_is}
-use Rattle.py_lines.proofs.Readers.PassedLines.{AreSettledAt, line_settled, lines_at, lines_spell, shown, take_slice}
+use Rattle.py_lines.proofs.Readers.PassedLines.{AreSettledAt, apart, line_settled, lines_at, lines_spell, shown, take_slice}
 use Rattle.py_lines.proofs.Feeds.Known.{goes_after, goes_with_first}
 use Rattle.py_lines.proofs.Feeds.ReadyLines.{none_ready}
-use Rattle.py_lines.proofs.Feeds.LastBytes.{ends-encoded, ends-later}
+use Rattle.py_lines.proofs.Feeds.LastBytes.{ends-encoded, ends-later, last_of}
 use Rattle.py_lines.proofs.Feeds.OpenLine.{begun_open, begun_unchanged, runs_out}
 
 -- which bytes come after the first of those that follow is no matter
@@ -37,16 +36,14 @@ last_ends : (read line later : List ℕ) → read ≡ line ++ later → 0 < leng
 last_ends read line later is some = ap (ends is_return) is ∙ ends-later is_return line later (λ none. omega (arith, some, ap length none))
 
 -- so lines, of which there is one at least
-all_settled : (texts : List (List ℕ)) (text : List ℕ) (place line : ℕ) (given : List LogicalLine) (read more : List ℕ) (n : ℕ) (after : List ℕ) (are : AreWholeLines texts read n after) → 0 < byte_len read → AreFirstLines text place line given → GoesOnWith text place (encode_utf8_all read ++ more) → EndsExactly read more
-    → AreSettledAt text (place + byte_len read) (line + n) (length more) (given ++ lines_at texts place line read n after are)
-all_settled [] text place line given read more n after are full first goes exact = absurd (omega (arith, full, ap byte_len are.0))
-all_settled (t ∷ []) text place line given read more n after are full first goes exact =
-    let all : read ≡ t = are.spell ∙ ap (λ u. t ++ u) are.lines.0 ∙ append-nil t in
-    let own : n ≡ are.own = omega (arith, are.count, are.lines.1) in
-    subst (λ (m : ℕ). AreSettledAt text (place + byte_len read) (line + m) (length more) (given ++ lines_at (t ∷ []) place line read n after are)) (sym own)
-    (subst (λ u. AreSettledAt text (place + byte_len u) (line + are.own) (length more) (given ++ lines_at (t ∷ []) place line read n after are)) (sym all)
-    (line_settled text place line given first t more are.own are.some (subst (λ u. GoesOnWith text place (encode_utf8_all u ++ more)) all goes) (subst (λ u. EndsExactly u more) all exact) (encode_utf8_all are.later ++ after) are.whole))
-all_settled (t ∷ u ∷ texts) text place line given read more n after are full first goes exact =
+all_settled : (texts : List (List ℕ)) (text : List ℕ) (place line : ℕ) (given : List LogicalLine) (read more after : List ℕ) (are : AreWholeLines texts read after) → 0 < byte_len read → AreFirstLines text place line given → GoesOnWith text place (encode_utf8_all read ++ more) → EndsExactly read more
+    → AreSettledAt text (place + byte_len read) (line + line_ends read) (length more) (given ++ lines_at texts place line read after are)
+all_settled [] text place line given read more after are full first goes exact = absurd (omega (arith, full, ap byte_len are))
+all_settled (t ∷ []) text place line given read more after are full first goes exact =
+    let all : read ≡ t = are.spell ∙ ap (λ u. t ++ u) are.lines ∙ append-nil t in
+    subst (λ u. AreSettledAt text (place + byte_len u) (line + line_ends u) (length more) (given ++ lines_at (t ∷ []) place line read after are)) (sym all)
+    (line_settled text place line given first t more are.some (subst (λ u. GoesOnWith text place (encode_utf8_all u ++ more)) all goes) (subst (λ u. EndsExactly u more) all exact) (encode_utf8_all are.later ++ after) are.whole)
+all_settled (t ∷ u ∷ texts) text place line given read more after are full first goes exact =
     let own_bytes = encode_utf8_all t in
     let later_bytes = encode_utf8_all are.later in
     let spell : encode_utf8_all read ≡ own_bytes ++ later_bytes = ap encode_utf8_all are.spell ∙ encodes-append t are.later in
@@ -54,65 +51,59 @@ all_settled (t ∷ u ∷ texts) text place line given read more n after are full
     let some : 0 < length are.later = omega (arith, ap length are.lines.spell, length-append u are.lines.later, are.lines.some) in
     let own = shown t (later_bytes ++ more) (same_first t later_bytes after more (omega (arith, some, length-le-encodes are.later)) are.whole.whole) in
     let near : GoesOnWith text place (own_bytes ++ own.more) = goes_with_first text place (own_bytes ++ own.more) own.unseen (subst (GoesOnWith text place) (ap (λ b. own_bytes ++ b) own.spell ∙ sym (append_assoc own_bytes own.more own.unseen)) split) in
-    let one = line_settled text place line given first t own.more are.own are.some near own.exact (later_bytes ++ after) are.whole in
+    let one = line_settled text place line given first t own.more are.some near own.exact (later_bytes ++ after) are.whole in
     let here = line_of place line (are.whole.body ++ are.whole.last ∷ []) in
-    let others = all_settled (u ∷ texts) text (place + byte_len t) (line + are.own) (given ++ here ∷ []) are.later more are.more after are.lines (omega (arith, some, length-le-encodes are.later)) one.0 (goes_after text place own_bytes (later_bytes ++ more) split) (rw (last_ends read t are.later are.spell some) at exact) in
+    let others = all_settled (u ∷ texts) text (place + byte_len t) (line + line_ends t) (given ++ here ∷ []) are.later more after are.lines (omega (arith, some, length-le-encodes are.later)) one.0 (goes_after text place own_bytes (later_bytes ++ more) split) (rw (last_ends read t are.later are.spell some) at exact) in
     let place_is : place + byte_len t + byte_len are.later ≡ place + byte_len read = omega (arith, ap length spell, length-append own_bytes later_bytes) in
-    let line_is : line + are.own + are.more ≡ line + n = omega (arith, are.count) in
-    let rest = lines_at (u ∷ texts) (place + byte_len t) (line + are.own) are.later are.more after are.lines in
+    let line_is : line + line_ends t + line_ends are.later ≡ line + line_ends read = omega (arith, ap line_ends are.spell, line_ends-append t are.later (apart t are.later after are.whole.whole)) in
+    let rest = lines_at (u ∷ texts) (place + byte_len t) (line + line_ends t) are.later after are.lines in
     rw (← append_assoc given (here ∷ []) rest, ← place_is, ← line_is) others
 
--- the last byte of the first so many
-last_of : (bytes : List ℕ) (len : ℕ) → 0 < len → len ≤ length bytes → ends is_return (take len bytes) ≡ is_return (slice_index bytes (len - 1))
-last_of bytes len some within =
-    let next : len ≡ suc (len - 1) = omega (arith, some) in
-    ap (λ (k : ℕ). ends is_return (take k bytes)) next ∙ ap (ends is_return) (take-suc bytes (len - 1) 0 (omega (arith, some, within))) ∙ ends-last is_return (take (len - 1) bytes) (slice_index bytes (len - 1))
-
 -- what follows lines shows that the last one has ended
-lines_whole : (t : List ℕ) (texts : List (List ℕ)) (read : List ℕ) (n : ℕ) (after : List ℕ) → AreWholeLines (t ∷ texts) read n after → EndsWhole read after
-lines_whole t [] read n after are =
-    let all : t ≡ read = sym (are.spell ∙ ap (λ u. t ++ u) are.lines.0 ∙ append-nil t) in
-    subst (λ u. EndsWhole u after) all (subst (λ u. EndsWhole t (encode_utf8_all u ++ after)) are.lines.0 are.whole.whole)
-lines_whole t (u ∷ texts) read n after are =
+lines_whole : (t : List ℕ) (texts : List (List ℕ)) (read after : List ℕ) → AreWholeLines (t ∷ texts) read after → EndsWhole read after
+lines_whole t [] read after are =
+    let all : t ≡ read = sym (are.spell ∙ ap (λ u. t ++ u) are.lines ∙ append-nil t) in
+    subst (λ u. EndsWhole u after) all (subst (λ u. EndsWhole t (encode_utf8_all u ++ after)) are.lines are.whole.whole)
+lines_whole t (u ∷ texts) read after are =
     let some : 0 < length are.later = omega (arith, ap length are.lines.spell, length-append u are.lines.later, are.lines.some) in
-    rw (← last_ends read t are.later are.spell some) at (lines_whole u texts are.later are.more after are.lines)
+    rw (← last_ends read t are.later are.spell some) at (lines_whole u texts are.later after are.lines)
 
-bytes_whole : (bytes : List ℕ) (p : Passed) → 0 < p.len → BeginWithLines bytes p → EndsWhole (take p.len bytes) (drop p.len bytes)
-bytes_whole bytes p some found = by found.texts found.whole
+bytes_whole : (bytes : List ℕ) (len : ℕ) → 0 < len → BeginWithLines bytes len → EndsWhole (take len bytes) (drop len bytes)
+bytes_whole bytes len some found = by found.texts found.whole
   where
-    by : (texts : List (List ℕ)) → AreWholeLines texts found.read p.line_ends (drop p.len bytes) → EndsWhole (take p.len bytes) (drop p.len bytes)
-    by [] are = absurd (omega (arith, some, ap length found.spell, ap byte_len are.0, length-take-le p.len bytes found.within))
+    by : (texts : List (List ℕ)) → AreWholeLines texts found.read (drop len bytes) → EndsWhole (take len bytes) (drop len bytes)
+    by [] are = absurd (omega (arith, some, ap length found.spell, ap byte_len are, length-take-le len bytes found.within))
     by (t ∷ texts) are =
-        rw (sym (ends-encoded found.read) ∙ ap (ends is_return) found.spell) at (lines_whole t texts found.read p.line_ends (drop p.len bytes) are)
+        rw (sym (ends-encoded found.read) ∙ ap (ends is_return) found.spell) at (lines_whole t texts found.read (drop len bytes) are)
 
 -- after lines that CR alone doesn't end nothing is held
-pub nothing_after : (bytes : List ℕ) (p : Passed) → 0 < p.len → BeginWithLines bytes p → (slice_index bytes (p.len - 1) ≡ 13 → ⊥) → HoldsAfterLines bytes p.len []
-nothing_after bytes p some found other =
-    let none : p.len + 0 ≡ p.len = omega arith in
+pub nothing_after : (bytes : List ℕ) (len : ℕ) → 0 < len → BeginWithLines bytes len → (slice_index bytes (len - 1) ≡ 13 → ⊥) → HoldsAfterLines bytes len []
+nothing_after bytes len some found other =
+    let none : len + 0 ≡ len = omega arith in
     record {
-      exact = inl (last_of bytes p.len some found.within ∙ false_from_ne_true _ (λ returns. other (return_is (slice_index bytes (p.len - 1)) returns)), refl);
+      exact = inl (last_of bytes len some found.within ∙ false_from_ne_true _ (λ returns. other (return_is (slice_index bytes (len - 1)) returns)), refl);
       within = omega (arith, found.within);
-      next = ap (λ (k : ℕ). take k bytes) none ∙ sym (append-nil (take p.len bytes));
+      next = ap (λ (k : ℕ). take k bytes) none ∙ sym (append-nil (take len bytes));
     }
 
 -- after others there is a byte, which is no LF
-module _ (bytes : List ℕ) (p : Passed) (some : 0 < p.len) (found : BeginWithLines bytes p) (is : slice_index bytes (p.len - 1) ≡ 13) where
-  returned : ends is_return (take p.len bytes) ≡ true
-  returned = last_of bytes p.len some found.within ∙ ap is_return is ∙ return_returns
+module _ (bytes : List ℕ) (len : ℕ) (some : 0 < len) (found : BeginWithLines bytes len) (is : slice_index bytes (len - 1) ≡ 13) where
+  returned : ends is_return (take len bytes) ≡ true
+  returned = last_of bytes len some found.within ∙ ap is_return is ∙ return_returns
 
-  next_byte : (b : ℕ) × (more : List ℕ) × (drop p.len bytes ≡ b ∷ more) × (b ≡ 10 → ⊥)
-  next_byte = ⊎_elim (λ feed. absurd (both_ways _ feed returned)) (λ one. one) (bytes_whole bytes p some found)
+  next_byte : (b : ℕ) × (more : List ℕ) × (drop len bytes ≡ b ∷ more) × (b ≡ 10 → ⊥)
+  next_byte = ⊎_elim (λ feed. absurd (both_ways _ feed returned)) (λ one. one) (bytes_whole bytes len some found)
 
-  pub byte_follows : p.len < length bytes
-  byte_follows = let (b, more, spell, other) = next_byte in omega (arith, ap length spell, length-drop p.len bytes)
+  pub byte_follows : len < length bytes
+  byte_follows = let (b, more, spell, other) = next_byte in omega (arith, ap length spell, length-drop len bytes)
 
-  pub byte_after : HoldsAfterLines bytes p.len (slice_index bytes p.len ∷ [])
+  pub byte_after : HoldsAfterLines bytes len (slice_index bytes len ∷ [])
   byte_after =
-      let next : p.len + 1 ≡ suc p.len = omega arith in
+      let next : len + 1 ≡ suc len = omega arith in
       record {
-        exact = inr (returned, (slice_index bytes p.len, refl, λ feeds. let (b, more, spell, other) = next_byte in other (ap first_or_zero (sym spell ∙ drop_more bytes p.len 0 byte_follows) ∙ feeds)));
+        exact = inr (returned, (slice_index bytes len, refl, λ feeds. let (b, more, spell, other) = next_byte in other (ap first_or_zero (sym spell ∙ drop_more bytes len 0 byte_follows) ∙ feeds)));
         within = omega (arith, byte_follows);
-        next = ap (λ (k : ℕ). take k bytes) next ∙ take-suc bytes p.len 0 byte_follows;
+        next = ap (λ (k : ℕ). take k bytes) next ∙ take-suc bytes len 0 byte_follows;
       }
 
 -- where no line is passed over the scan of the next one begins anew
@@ -142,37 +133,34 @@ module _ (f : Feed) (held : Vec ℕ) (state : LineState) (scan : Scan) (stands :
       )
 
 -- the lines that the code has found in the first of these bytes, after which the scan of the next line begins
-module _ (f : Feed) (bytes : List ℕ) (before stop : ℕ) (p : Passed) (stands : StandsAtLine (scanning_of f)) (began : take (length f.held.items) bytes ≡ f.held.items) (stop_is : stop ≡ min before (length bytes)) (found : BeginWithLines (take stop bytes) p) (some : 0 < p.len) where
-  read_is : encode_utf8_all found.read ≡ take p.len bytes
-  read_is = found.spell ∙ take_slice bytes p.len stop found.within
+module _ (f : Feed) (bytes : List ℕ) (before stop len : ℕ) (stands : StandsAtLine (scanning_of f)) (began : take (length f.held.items) bytes ≡ f.held.items) (stop_is : stop ≡ min before (length bytes)) (found : BeginWithLines (take stop bytes) len) (some : 0 < len) where
+  read_is : encode_utf8_all found.read ≡ take len bytes
+  read_is = found.spell ∙ take_slice bytes len stop found.within
 
-  up_to : p.len ≤ stop
+  up_to : len ≤ stop
   up_to = omega (arith, found.within, length-take stop bytes)
 
-  read_size : byte_len found.read ≡ p.len
-  read_size = ap length read_is ∙ length-take-le p.len bytes (omega (arith, up_to, stop_is))
+  read_size : byte_len found.read ≡ len
+  read_size = ap length read_is ∙ length-take-le len bytes (omega (arith, up_to, stop_is))
 
-  few : p.line_ends ≤ p.len
-  few = omega (arith, lines_few found.texts found.read p.line_ends (drop p.len (take stop bytes)) found.whole, read_size)
-
-  pub line_fits : f.state.place + length bytes ≤ 2 ^ 62 → IsSoundFeed f → f.state.line + p.line_ends < 2 ^ 64
-  line_fits fits sound = omega (arith, fits, sound.room.few_lines, few, up_to, stop_is)
+  few : line_ends found.read ≤ len
+  few = omega (arith, line_ends-bytes found.read, read_size)
 
   lines : List LogicalLine
-  lines = lines_at found.texts f.state.place f.state.line found.read p.line_ends (drop p.len (take stop bytes)) found.whole
+  lines = lines_at found.texts f.state.place f.state.line found.read (drop len (take stop bytes)) found.whole
 
   not_ready : f.ready ≡ None
   not_ready = none_ready f f.ready stands.ready
 
   -- what is held then
-  module _ (held : Vec ℕ) (holds : HoldsAfterLines (take stop bytes) p.len held.items) where
-    pub holds_here : HoldsAfterLines bytes p.len held.items
+  module _ (held : Vec ℕ) (holds : HoldsAfterLines (take stop bytes) len held.items) where
+    pub holds_here : HoldsAfterLines bytes len held.items
     holds_here =
         let room = holds.within in
         record {
-          exact = subst (λ t. EndsExactly t held.items) (take_slice bytes p.len stop found.within) holds.exact;
+          exact = subst (λ t. EndsExactly t held.items) (take_slice bytes len stop found.within) holds.exact;
           within = omega (arith, room, stop_is, length-take stop bytes);
-          next = sym (take_slice bytes (p.len + length held.items) stop holds.within) ∙ holds.next ∙ ap (λ t. t ++ held.items) (take_slice bytes p.len stop found.within);
+          next = sym (take_slice bytes (len + length held.items) stop holds.within) ∙ holds.next ∙ ap (λ t. t ++ held.items) (take_slice bytes len stop found.within);
         }
 
     exact : EndsExactly found.read held.items
@@ -180,7 +168,7 @@ module _ (f : Feed) (bytes : List ℕ) (before stop : ℕ) (p : Passed) (stands 
 
     module _ (scan : Scan) (tokens : LineTokens) where
       abbrev after : Feed
-      after = record f { state = record f.state { place = f.state.place + p.len; line = f.state.line + p.line_ends; scan = scan; tokens = tokens }; held = held }
+      after = record f { state = record f.state { place = f.state.place + len; line = f.state.line + line_ends found.read; scan = scan; tokens = tokens }; held = held }
 
       ready : ready_of after f.ready ≡ None
       ready = ap (ready_of after) not_ready
@@ -188,9 +176,9 @@ module _ (f : Feed) (bytes : List ℕ) (before stop : ℕ) (p : Passed) (stands 
       first : (text : List ℕ) (given : List LogicalLine) → IsScanning (scanning_of f) text given → GoesOnWith text f.state.place (encode_utf8_all found.read ++ held.items) → AreSettledAt text after.state.place after.state.line (length held.items) (given ++ lines)
       unfolding lines
       first text given scanning goes = subst (λ (n : ℕ). AreSettledAt text (f.state.place + n) after.state.line (length held.items) (given ++ lines)) read_size
-          (all_settled found.texts text f.state.place f.state.line given found.read held.items p.line_ends (drop p.len (take stop bytes)) found.whole (omega (arith, some, read_size)) scanning.first goes exact)
+          (all_settled found.texts text f.state.place f.state.line given found.read held.items (drop len (take stop bytes)) found.whole (omega (arith, some, read_size)) scanning.first goes exact)
 
-      scans : (text : List ℕ) (given : List LogicalLine) → IsScanning (scanning_of f) text given → GoesOnWith text f.state.place (take p.len bytes ++ held.items) → HasSettled (scanning_of after) text (given ++ lines)
+      scans : (text : List ℕ) (given : List LogicalLine) → IsScanning (scanning_of f) text given → GoesOnWith text f.state.place (take len bytes ++ held.items) → HasSettled (scanning_of after) text (given ++ lines)
       scans text given scanning goes =
           let next : GoesOnWith text f.state.place (encode_utf8_all found.read ++ held.items) = subst (λ t. GoesOnWith text f.state.place (t ++ held.items)) (sym read_is) goes in
           let at = first text given scanning next in
@@ -206,11 +194,11 @@ module _ (f : Feed) (bytes : List ℕ) (before stop : ℕ) (p : Passed) (stands 
             at.1,
           )
 
-      texts : flat_map (λ (l : LogicalLine). l.text) lines ≡ take p.len bytes
+      texts : flat_map (λ (l : LogicalLine). l.text) lines ≡ take len bytes
       unfolding lines
-      texts = lines_spell found.texts f.state.place f.state.line found.read p.line_ends (drop p.len (take stop bytes)) found.whole ∙ read_is
+      texts = lines_spell found.texts f.state.place f.state.line found.read (drop len (take stop bytes)) found.whole ∙ read_is
 
-      passes_lines : PassesPieceLines (scanning_of f) bytes before p.len (scanning_of after)
+      passes_lines : PassesPieceLines (scanning_of f) bytes before len (scanning_of after)
       passes_lines =
           let same : ready_of after f.ready ≡ ready_of f f.ready = ready ∙ sym stands.ready in
           record {
@@ -226,13 +214,14 @@ module _ (f : Feed) (bytes : List ℕ) (before stop : ℕ) (p : Passed) (stands 
             same = λ none. absurd (omega (arith, none, some));
           }
 
-    pub passed : {scan : Scan} {state : LineState} → BeginsAnew (record f.state { place = f.state.place + p.len; line = f.state.line + p.line_ends; scan = scan }) state → f.state.place + length bytes ≤ 2 ^ 62 → IsSoundFeed f
-        → PassesPieceLines (scanning_of f) bytes before p.len (scanning_of (record f { state = state; held = held })) × IsSoundFeed (record f { state = state; held = held })
-    passed {scan} {state} anew fits sound =
-        let place : state.place ≡ f.state.place + p.len = ap (λ (s : LineState). s.place) anew.same in
-        let line : state.line ≡ f.state.line + p.line_ends = ap (λ (s : LineState). s.line) anew.same in
+    pub passed : {ends : ℕ} → ends ≡ line_ends found.read → {scan : Scan} {state : LineState} → BeginsAnew (record f.state { place = f.state.place + len; line = f.state.line + ends; scan = scan }) state → f.state.place + length bytes ≤ 2 ^ 62 → IsSoundFeed f
+        → PassesPieceLines (scanning_of f) bytes before len (scanning_of (record f { state = state; held = held })) × IsSoundFeed (record f { state = state; held = held })
+    passed ends_are {scan} {state} new_line fits sound =
+        let anew = subst (λ (n : ℕ). BeginsAnew (record f.state { place = f.state.place + len; line = f.state.line + n; scan = scan }) state) ends_are new_line in
+        let place : state.place ≡ f.state.place + len = ap (λ (s : LineState). s.place) anew.same in
+        let line : state.line ≡ f.state.line + line_ends found.read = ap (λ (s : LineState). s.line) anew.same in
         let room = holds_here.within in (
-          subst (λ (s : LineState). PassesPieceLines (scanning_of f) bytes before p.len (scanning_of (record f { state = s; held = held }))) (sym anew.same) (passes_lines state.scan state.tokens),
+          subst (λ (s : LineState). PassesPieceLines (scanning_of f) bytes before len (scanning_of (record f { state = s; held = held }))) (sym anew.same) (passes_lines state.scan state.tokens),
           record {
             room = record { fits = omega (arith, place, room, fits); few_lines = omega (arith, place, line, few, sound.room.few_lines) };
             state = subst (StandsSo (record f { state = state; held = held })) (sym not_ready) (λ no_fault. (held.items, begun_open _ (record f { state = state; held = held }) anew));

@@ -6,10 +6,10 @@ use Rattle.std.proofs.Math.Seq.{take-append_seam}
 use Rattle.py_lines.specs.Piece.{Piece, ends, line_end, spelled}
 use Rattle.py_lines.specs.LogicalLine.{LogicalLine, byte_len, line_ends}
 use Rattle.py_lines.specs.Token.{EachLiesIn}
-use Rattle.py_lines.specs.Private.Scan.{IsApart, ScansIn, line_start}
+use Rattle.py_lines.specs.Private.LineScan.{IsApart, ScansIn, line_start}
 use Rattle.py_lines.specs.Private.LineState.{first_mode, with_tokens}
-use Rattle.py_lines.specs.Private.LineTokens.{AreLineText, HoldsTokens, IsLineText}
-use Rattle.py_lines.specs.Private.Feed.{HasReadTokens, HasRoom, HoldsLine, HoldsSo, IsReady, StandsSo, StopsHeld, line_held, with_line, Scan, Stop, Feed, line_of_feed, ready_of, scanning_of, LineState, Mode}
+use Rattle.py_lines.specs.Private.LineTokens.{AreLineText, HoldsTokens, IsLineAfter, IsLineText}
+use Rattle.py_lines.specs.Private.Feed.{HasReadTokens, HasRoom, HoldsLine, HoldsSo, IsLineAfterHeld, IsReady, StandsSo, StopsHeld, line_held, with_line, Scan, Stop, Feed, line_of_feed, ready_of, scanning_of, LineState, Mode}
 use Rattle.py_lines.proofs.Fields.OneReading.{one_fielded_reading}
 use Rattle.py_lines.proofs.Lexings.LineEnds.{read-alone}
 use Rattle.py_lines.proofs.LogicalLines.TokenPlaces.{each_after}
@@ -21,9 +21,8 @@ stopped_text stop held read rest spell size = ap (λ (n : ℕ). take n held) siz
 
 -- a line that was scanned whole
 abbrev pub holds_line : (f : Feed) (end_len : ℕ) (read rest : List ℕ) (u : List Piece) → all_scalars read ≡ true
-    → encode_utf8_all read ++ rest ≡ f.held.items → f.state.scan.line ≡ f.state.line
-    → IsScannedLine (line_start (first_mode f.state.place)) f.state.scan read end_len u → HoldsLine f end_len
-holds_line f end_len read rest u scalars held number line = record {
+    → encode_utf8_all read ++ rest ≡ f.held.items → IsScannedLine (line_start (first_mode f.state.place)) f.state.scan read end_len u → HoldsLine f end_len
+holds_line f end_len read rest u scalars held line = record {
   read = read;
   rest = rest;
   pieces = u;
@@ -32,10 +31,8 @@ holds_line f end_len read rest u scalars held number line = record {
   spells = line.line.spell;
   text = subst (λ t. AreLineText t u) (sym (stopped_text f.state.scan.stop f.held.items read rest held line.stop))
       (line_text (line_start (first_mode f.state.place)) f.state.scan read end_len u scalars line);
-  number = number;
   ends = line.ends;
   stop = line.stop;
-  here = line.here ∙ ap (λ (n : ℕ). n + line_ends read) number;
   some = line.line.some;
 }
 
@@ -50,7 +47,7 @@ same_pieces text body others last end ends also one two =
     (record { spell = refl; fit = read-alone others end two.after also two.fit })
 
 -- a line that its line end has closed
-module _ {m : Mode} {line : ℕ} {bytes : List ℕ} {scan : Scan} {end_len : ℕ} (s : ScansIn m line bytes scan (Stop.LineEnd end_len)) where
+module _ {m : Mode} {bytes : List ℕ} {scan : Scan} {end_len : ℕ} (s : ScansIn m bytes scan (Stop.LineEnd end_len)) where
   -- its pieces, before what follows
   abbrev pub pieces_before : (after : List ℕ) → IsApart s.read after → List Piece
   pieces_before after h = (s.stops.0 after h).body ++ (s.stops.0 after h).last ∷ []
@@ -74,7 +71,7 @@ module _ {m : Mode} {line : ℕ} {bytes : List ℕ} {scan : Scan} {end_len : ℕ
       (line_text (line_start m) scan s.read end_len pieces_alone s.scalars ended_alone)
 
 abbrev pub ended_holds : (f : Feed) (end_len : ℕ) → StopsHeld f (Stop.LineEnd end_len) → HoldsLine f end_len
-ended_holds f end_len s = holds_line f end_len s.read s.rest (pieces_alone s) s.scalars s.spell s.number (ended_alone s)
+ended_holds f end_len s = holds_line f end_len s.read s.rest (pieces_alone s) s.scalars s.spell (ended_alone s)
 
 module _ (f : Feed) (end_len : ℕ) (h : HoldsLine f end_len) where
   -- the line that stands in what is held lies there, and is characters
@@ -95,22 +92,25 @@ none_read {f} room none (held, holds) = record {
 }
 
 -- the tokens of the line that does were read
-module _ (f : Feed) (state : LineState) (tokens : HoldsTokens (take f.state.scan.stop f.held.items) f.state.line state.tokens) where
+module _ (f : Feed) (state : LineState) (line : ℕ) (tokens : HoldsTokens (take f.state.scan.stop f.held.items) f.state.line state.tokens) (after : IsLineAfter f.state.line (take f.state.scan.stop f.held.items) line) where
   abbrev pub with_read : Feed
-  with_read = record f { state = with_tokens f.state state }
+  with_read = record f { state = with_tokens f.state state; next_line = line }
 
   line_read : (end_len : ℕ) (h : HoldsLine f end_len) → line_of_feed with_read end_len ≡ line_held f end_len h
   line_read end_len h =
       let are = tokens h.pieces h.text in
-      λ i. record { kind = are.kind i; text = sym h.text.spell i; tokens = are.tokens i; offset = f.state.place; line = h.number i; indent = are.indent i; end_len = h.ends i }
+      λ i. record { kind = are.kind i; text = sym h.text.spell i; tokens = are.tokens i; offset = f.state.place; line = f.state.line; indent = are.indent i; end_len = h.ends i }
 
-  seen_read : (end_len : ℕ) (line : Option LogicalLine) → HoldsSo f (Some end_len) line → ready_of with_read (Some end_len) ≡ line
-  seen_read end_len line (h, is) = ap Some (line_read end_len h) ∙ sym is
+  seen_read : (end_len : ℕ) (seen : Option LogicalLine) → HoldsSo f (Some end_len) seen → ready_of with_read (Some end_len) ≡ seen
+  seen_read end_len seen (h, is) = ap Some (line_read end_len h) ∙ sym is
+
+  line_after : (end_len : ℕ) → HoldsLine f end_len → IsLineAfterHeld with_read line
+  line_after end_len h read spell = after h.pieces h.text ∙ ap (λ (t : List ℕ). f.state.line + line_ends t) (encodes_same (spelled h.pieces) read (h.text.spell ∙ sym spell))
 
   pub some_read : {end_len : ℕ} → HasRoom f 0 → f.ready ≡ Some end_len → HoldsLine f end_len → HasReadTokens f with_read
   some_read {end_len} room ready h = record {
-    seen = λ line held. ap (with_line f) (ap (ready_of with_read) ready ∙ seen_read end_len line (subst (λ r. HoldsSo f r line) ready held));
-    sound = record { room = room; state = subst (StandsSo with_read) (sym ready) (record { holds = h; line_is = line_read end_len h }) };
+    seen = λ seen held. ap (with_line f) (ap (ready_of with_read) ready ∙ seen_read end_len seen (subst (λ r. HoldsSo f r seen) ready held));
+    sound = record { room = room; state = subst (StandsSo with_read) (sym ready) (record { holds = h; after = line_after end_len h; line_is = line_read end_len h }) };
   }
 
 pub ready_seen : (f : Feed) (end_len : ℕ) → f.ready ≡ Some end_len → (r : IsReady f end_len)

@@ -18,7 +18,7 @@ use Rattle.std.proofs.Math.Seq.{drop-append_seam}
 use Rattle.py_lines.specs.ScannerState.{ScannerState, GoesOnWith, IsScanning, HasEnded, HoldsReady, HoldsLast, Releases, fed_of, ready_lines}
 use Rattle.py_lines.specs.Private.Feed.{HasRoom, HoldsLine, IsReady, StandsSo, IsSoundFeed, LetsGo, line_held, with_line, Feed, ready_of, scanning_of, AreFirstLines}
 use Rattle.py_lines.proofs.LineScan.LineCount.{line_ends-bytes}
-use Rattle.py_lines.proofs.Feeds.ReadyLines.{ready_seen}
+use Rattle.py_lines.proofs.Feeds.ReadyLines.{ready_seen, stopped_text}
 
 -- the lines given, and this one after them
 module _ {text : List ℕ} {place line : ℕ} {lines : List LogicalLine} (first : AreFirstLines text place line lines) (read : List ℕ) (l : LogicalLine) (same : l.text ≡ encode_utf8_all read) where
@@ -90,9 +90,12 @@ module _ (old new : Feed) (n : ℕ) (r : HoldsLine old n) (go : LetsGo old new) 
   place_is : new.state.place ≡ old.state.place + byte_len r.read
   place_is = go.place ∙ ap (λ (m : ℕ). old.state.place + m) r.stop
 
+  line_is : new.state.line ≡ old.state.line + line_ends r.read
+  line_is = go.line r.read (sym (stopped_text old.state.scan.stop old.held.items r.read r.rest r.spell r.stop))
+
   -- the lines that reach to the end of this line reach to where the scanner stands now
   first_here : (text : List ℕ) (lines : List LogicalLine) → AreFirstLines text (old.state.place + byte_len r.read) (old.state.line + line_ends r.read) lines → AreFirstLines text new.state.place new.state.line lines
-  first_here text lines first = first_at place_is (go.line ∙ r.here) first
+  first_here text lines first = first_at place_is line_is first
 
   scans_on : (text : List ℕ) (lines : List LogicalLine) → IsScanning (with_line old (Some unit)) text lines
       → IsScanning (scanning_of new) text (lines ++ unit ∷ []) × IsSettled (take (fed_of (scanning_of new)) text) (lines ++ unit ∷ [])
@@ -145,7 +148,7 @@ module _ (old new : Feed) (n : ℕ) (r : HoldsLine old n) (go : LetsGo old new) 
   released_sound room = record {
     room = record {
       fits = omega (arith, fed_is, room.fits);
-      few_lines = omega (arith, go.place, go.line, r.stop, r.here, line_ends-bytes r.read, room.few_lines);
+      few_lines = omega (arith, go.place, line_is, r.stop, line_ends-bytes r.read, room.few_lines);
     };
     state = subst (StandsSo new) (sym go.ready) (λ no_fault. (new.held.items, go.opens));
   }

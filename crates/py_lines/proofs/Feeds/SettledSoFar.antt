@@ -15,7 +15,7 @@ use Rattle.py_lines.specs.Settled.{EndsForGood, IsSettled}
 use Rattle.py_lines.specs.LogicalLine.{LogicalLine, byte_len, line_of}
 use Rattle.py_lines.specs.Private.Machine.{Scanned, Bracket, brackets_of}
 use Rattle.py_lines.specs.Private.ScanMachine.{IsScanSound}
-use Rattle.py_lines.specs.Private.Scan.{EndsNoLine, is_return_mode, line_start, none_open}
+use Rattle.py_lines.specs.Private.LineScan.{EndsNoLine, line_start, none_open}
 use Rattle.py_lines.specs.Private.LineState.{first_mode}
 use Rattle.py_lines.specs.declared.mode.Mode.{Mode}
 use Rattle.std.proofs.Math.Utf8.{low_scalar}
@@ -27,7 +27,7 @@ use Rattle.py_lines.proofs.Lexings.LinePrefix.{EndsNoneYet, settled_at, settled_
 use Rattle.py_lines.proofs.Lexings.LineEnds.{ended_reading, none_both}
 use Rattle.py_lines.proofs.Machine.PieceSteps.{scanned, pieces_at}
 use Rattle.py_lines.proofs.ScanMachine.Advance.{GoesTo}
-use Rattle.py_lines.proofs.LineScan.NextCharacter.{closed_one_line}
+use Rattle.py_lines.proofs.LineScan.NextCharacter.{is_return_mode, closed_one_line}
 use Rattle.py_lines.proofs.LineScan.LineSteps.{sound_steps}
 use Rattle.py_lines.proofs.LineScan.TextSteps.{begun_sound}
 use Rattle.py_lines.proofs.Readers.LineAnswers.{IsReadLine, balanced_after, ends_after, fits_after, shallow_after, spelled_after}

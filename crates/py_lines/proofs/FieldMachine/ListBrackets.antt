@@ -4,7 +4,7 @@ use Rattle.std.specs.Prelude.{if◌then◌else◌}
 use Rattle.std.proofs.lemmas.Bool.{or_parts, both_ways}
 use Rattle.py_lines.specs.Piece.{Class, operator, Piece}
 use Rattle.py_lines.specs.Balance as balance
-use Rattle.py_lines.specs.Balance.{is_opening, is_closing, closing_of, is_operator_that, is_opener, is_closer, ArePair, IsBalanced, depth_after}
+use Rattle.py_lines.specs.Balance.{is_opening, is_closing, closing_of, is_operator_that, is_opener, is_closer, IsBalanced, depth_after}
 use Rattle.py_lines.specs.LogicalLine.{first_or_zero}
 use Rattle.py_lines.specs.Private.FieldMachine.{openers_with, openers_by, openers_through}
 use Rattle.py_lines.proofs.Pieces.PieceLists.{piece}

@@ -10,7 +10,7 @@ use Rattle.py_lines.specs.declared.frames.Frame.{Frame}
 use Rattle.py_lines.specs.declared.frames.Frame.TheVariants as frame
 use Rattle.py_lines.specs.Private.Machine.{Bracket, brackets_of}
 use Rattle.py_lines.specs.Private.FieldMachine.{Level, levels_open, before}
-use Rattle.py_lines.specs.Private.FieldScan.{bracket_frames, bracket_openers, FieldFollows, FramesFollow}
+use Rattle.py_lines.specs.Private.Scan.{bracket_frames, bracket_openers, FieldFollows, FramesFollow}
 use Rattle.py_lines.proofs.Pieces.PieceLists.{piece}
 use Rattle.py_lines.proofs.Pieces.OpenBrackets.{stack_push, opener_pushes, closer_pops, other_keeps}
 use Rattle.py_lines.proofs.LogicalLines.Cuts.{byte_len-append}

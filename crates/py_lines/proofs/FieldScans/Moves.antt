@@ -16,7 +16,7 @@ use Rattle.py_lines.specs.Private.Machine.{Holds, closed, class_of, move_of, sta
 use Rattle.py_lines.specs.Private.FieldMachine as spots
 use Rattle.py_lines.specs.Private.FieldMachine.{At, between, after_one, after_two, after_slash, after_return, after_name, after_brace, plain, opened, empty, body, FieldMove, grows, closes, breaks, begins_code, opens_field, ends_field, refused, host_of, long_host, begins_host, plain_move, between_move, escape_move, body_move, closing_move, opening_move, ending_move, is_after_two, with_quote, is_barred_escape, is_after_brace, field_move, field_closed, field_class_of, text_place}
 use Rattle.py_lines.specs.Private.ScanMachine.{meet_of}
-use Rattle.py_lines.specs.Private.FieldScan.{code_mode, mode_from, code_moved, code_move, meets_field, HoldsCode, HasNoList, WaitsInLiteral}
+use Rattle.py_lines.specs.Private.Scan.{code_mode, mode_from, code_moved, code_move, meets_field, HoldsCode, HasNoList, WaitsInLiteral}
 use Rattle.py_lines.proofs.Pieces.PieceLists.{piece, spelled-push}
 use Rattle.py_lines.proofs.Machine.LiveTexts as live
 use Rattle.py_lines.proofs.Machine.Starts as begun
@@ -47,7 +47,7 @@ BodyMoved host place named at c closes = (place ≡ literal) × (c == host.quote
 BodyMoved host place named at c breaks = ⊥
 BodyMoved host place named at c (begins_code h) = (h ≡ host) × (at ≡ after_brace)
 BodyMoved host place named at c (opens_field h) = (h ≡ host) × (place ≡ specification) × (named ≡ false) × (c == byte "{" ≡ true)
-BodyMoved host place named at c ends_field = (place ≡ specification) × (named ≡ false)
+BodyMoved host place named at c ends_field = (place ≡ specification) × (named ≡ false) × (c == byte "}" ≡ true)
 BodyMoved host place named at c refused = Unit {0}
 
 module _ (host : Host) (place : Place) (named : Bool) (own : At) (c : ℕ) where
@@ -69,10 +69,10 @@ opening_moved : (host : Host) (place : Place) (named : Bool) (own : At) (c : ℕ
 opening_moved host literal named own c brace none = (false, after_brace, refl, λ at. absurd (cc))
 opening_moved host specification named own c brace none = (refl, refl, none, brace)
 
-ending_moved : (host : Host) (place : Place) (named : Bool) (own : At) (c : ℕ) → BodyMoved host place named own c (ending_move host place named)
-ending_moved host literal named own c = stays host literal named own c false between refl
-ending_moved host specification true own c = stays host specification true own c false between refl
-ending_moved host specification false own c = (refl, refl)
+ending_moved : (host : Host) (place : Place) (named : Bool) (own : At) (c : ℕ) → c == byte "}" ≡ true → BodyMoved host place named own c (ending_move host place named)
+ending_moved host literal named own c brace = stays host literal named own c false between refl
+ending_moved host specification true own c brace = stays host specification true own c false between refl
+ending_moved host specification false own c brace = (refl, refl, brace)
 
 between_moved : (host : Host) (place : Place) (named : Bool) (own a : At) (c : ℕ) → BodyMoved host place named own c (between_move host place named a c)
 unfolding between_move
@@ -84,7 +84,7 @@ between_moved host place named own a c =
     (λ s. cond_both (is_break c && not host.is_long) refused _ Q (λ h. tt)
     (λ b. cond_both ((c == byte "{") && not named) (opening_move host place) _ Q (λ h. let both = and_parts (c == byte "{") (not named) h in
     opening_moved host place named own c both.0 (not-true named both.1))
-    (λ o. cond_both (c == byte "}") (ending_move host place named) (grows (body host place named between)) Q (λ h. ending_moved host place named own c) (λ h. stays host place named own c named between refl)))))
+    (λ o. cond_both (c == byte "}") (ending_move host place named) (grows (body host place named between)) Q (ending_moved host place named own c) (λ h. stays host place named own c named between refl)))))
 
 escape_moved : (host : Host) (place : Place) (named : Bool) (own : At) (c : ℕ) → BodyMoved host place named own c (escape_move host place named c)
 unfolding escape_move
@@ -128,7 +128,7 @@ Says m held c closes = (text_place m ≡ literal) × ((done : List Piece) → Ar
 Says m held c breaks = EndsBefore m held
 Says m held c (begins_code h) = (named : Bool) × (m ≡ body h literal named after_brace)
 Says m held c (opens_field h) = (at : At) × (m ≡ body h specification false at) × (c == byte "{" ≡ true)
-Says m held c ends_field = Unit {0}
+Says m held c ends_field = (text_place m ≡ specification) × (c == byte "}" ≡ true)
 Says m held c refused = Unit {0}
 
 pub body_waits : (host : Host) (place : Place) (b : Bool) (a : At) → (place ≡ specification → is_after_brace a ≡ false) → WaitsInLiteral (body host place b a)
@@ -149,7 +149,8 @@ body_says host place named at held c (begins_code h) waits (same, is) =
     (own, ap (body host place named) is ∙ there ∙ ap (λ (x : Host). body x literal own after_brace) (sym same))
 body_says host place named at held c (opens_field h) waits (same, is, none, brace) =
     (at, ap (λ (x : Host). body x place named at) (sym same) ∙ ap (λ (p : Place). body h p named at) is ∙ ap (λ (b : Bool). body h specification b at) none, brace)
-body_says host place named at held c v waits h = tt
+body_says host place named at held c ends_field waits (is, none, brace) = (is, brace)
+body_says host place named at held c refused waits h = tt
 
 -- the first character after one quote begins and opens no field
 opened_says : (host : Host) (held : List ℕ) (c : ℕ) (v : FieldMove) → BodyMoved host literal false between c v → Says (opened host) held c v
@@ -200,6 +201,10 @@ pub list_at : (m n : spots.FieldMode) (done : List Piece) (openers : List ℕ) �
 list_at (body h specification b a) (body host specification named at) done openers same none = none
 list_at m (body host specification named at) done openers same none = absurd (cc)
 list_at m n done openers same none = tt
+
+pub bare_in : (m : spots.FieldMode) (done : List Piece) (openers : List ℕ) → text_place m ≡ specification → HasNoList m done openers → (done ≡ []) × (openers ≡ [])
+bare_in (body host specification named at) done openers is none = none
+bare_in m done openers is none = absurd (cc)
 
 -- the piece that a character begins
 begun_plain : (c : ℕ) (m : Mode) → begun.StartsSo c (starts.Open m) → code_mode m ≡ plain m

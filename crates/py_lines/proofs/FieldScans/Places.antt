@@ -12,12 +12,12 @@ use Rattle.py_lines.specs.declared.field_mode.FieldMode.{FieldMode}
 use Rattle.py_lines.specs.declared.field_mode.FieldMode.TheVariants as field_modes
 use Rattle.py_lines.specs.declared.frames.Frame.{Frame}
 use Rattle.py_lines.specs.declared.frames.Frame.TheVariants as frame
-use Rattle.py_lines.specs.declared.field_scan.FieldScan.{FieldScan}
+use Rattle.py_lines.specs.declared.scan.Scan.{Scan}
 use Rattle.py_lines.specs.Private.FieldMachine as spots
 use Rattle.py_lines.specs.Private.FieldMachine.{At, Level, FieldScanned, text_place, between, body, empty, grows, breaks, opens_field, ends_field, FieldMove, long_host, between_move}
 use Rattle.py_lines.specs.Private.FieldFaults.{quotes_specification}
 use Rattle.py_lines.specs.Private.Frames.{InField, IsInnermostFrame, StandsIn}
-use Rattle.py_lines.specs.Private.FieldScan.{Follows, FramesFollow, HasNoList, IsInPlace, IsPlaced, code_mode, code_move, code_moved, meets_field, mode_from, region_in, at_in}
+use Rattle.py_lines.specs.Private.Scan.{Follows, FramesFollow, HasNoList, IsInPlace, IsPlaced, code_mode, code_move, code_moved, meets_field, mode_from, region_in, at_in}
 use Rattle.py_lines.specs.Private.ScanMachine.{host_in, meet_of}
 use Rattle.py_lines.specs.Piece.{Piece, spelled}
 use Rattle.py_lines.proofs.FieldSoundness.Holds.{HoldsLevels, IsFieldSound, Limit}
@@ -66,7 +66,7 @@ body_placed : (host : Host) (place : Place) (named : Bool) (at : At) (c : ℕ) (
 body_placed host place named at c (grows n) fs placed (b, a, is, fit) = subst (λ (m : spots.FieldMode). IsPlaced m fs) (sym is) (same_place host place named b at a fs placed)
 body_placed host place named at c breaks fs placed moved = absurd moved
 body_placed host place named at c (opens_field h) fs placed (same, is, none, brace) = subst (λ (p : Place). IsPlaced (body host p named at) fs) is placed
-body_placed host place named at c ends_field fs placed (is, none) = subst (λ (p : Place). IsPlaced (body host p named at) fs) is placed
+body_placed host place named at c ends_field fs placed (is, none, brace) = subst (λ (p : Place). IsPlaced (body host p named at) fs) is placed
 body_placed host place named at c v fs placed moved = tt
 
 step_placed : (step : Move) (fs : List Frame) → Placed (code_moved step) fs
@@ -88,7 +88,7 @@ moves_placed (field_modes.Code m) c fs placed = code_placed m c fs
 moves_placed (field_modes.Body h region named at) c fs placed =
     body_placed (host_in h) (region_in region) named (at_in at) c _ fs placed (body_moved (host_in h) (region_in region) named (at_in at) [] c)
 
-pub moved_placed : (old : FieldScan) (c : ℕ) (v : FieldMove) → v ≡ meets_field old.mode c → IsInPlace old → Placed v old.frames
+pub moved_placed : (old : Scan) (c : ℕ) (v : FieldMove) → v ≡ meets_field old.mode c → IsInPlace old → Placed v old.frames
 moved_placed old c v is placed = subst (λ (x : FieldMove). Placed x old.frames) (sym is) (moves_placed old.mode c old.frames placed)
 
 -- so it is wherever the scan follows the machine from the line's start
@@ -97,7 +97,7 @@ specification_in limit [] text done openers fs levels none frames = absurd level
 specification_in limit (l ∷ ls) text done openers fs levels none ([], field, others, stack, openers_are, frames_are, at) = subst InField (sym frames_are) tt
 specification_in limit (l ∷ ls) text done openers fs levels none ((b ∷ bs), field, others, stack, openers_are, frames_are, at) = absurd (cc (none, openers_are))
 
-pub scan_placed : (limit : Limit) (scan : FieldScan) (read : List ℕ) (t : FieldScanned) → IsFieldSound limit t read → Follows scan t → IsInPlace scan
+pub scan_placed : (limit : Limit) (scan : Scan) (read : List ℕ) (t : FieldScanned) → IsFieldSound limit t read → Follows scan t → IsInPlace scan
 scan_placed limit scan read t sound follows = go scan.mode refl
   where
     go : (m : FieldMode) → scan.mode ≡ m → IsPlaced (mode_from m) scan.frames

@@ -1,19 +1,20 @@
 -- How many bytes simple text of a string with fields has, as the code counts them.
-use Rattle.std.proofs.Common.{◌≡◌, ℕ, zero, suc, ◌+◌, ◌-◌, ◌<◌, ◌≤◌, ◌⊎◌, inl, inr, append_assoc, length-append, Bool, true, false, ◌==◌, List, [], ◌∷◌, ◌++◌, length, take, drop, slice_index, refl, sym, ap, ◌∙◌, subst, arith, take_all, length-drop}
+use Rattle.std.proofs.Common.{◌≡◌, ℕ, zero, suc, ◌+◌, ◌-◌, ◌<◌, ◌≤◌, ◌⊎◌, inl, inr, append_assoc, length-append, Bool, true, false, not, ◌==◌, List, [], ◌∷◌, ◌++◌, length, take, drop, slice_index, refl, sym, ap, ◌∙◌, subst, arith, take_all, length-drop}
 use Rattle.std.specs.List.{list_all}
-use Rattle.std.proofs.lemmas.Bool.{both_ways, eqb-true}
+use Rattle.std.proofs.lemmas.Bool.{and_from, both_ways, eqb-true}
+use Rattle.std.proofs.lemmas.List.Folds.{list_all-append}
 use Rattle.std.proofs.lemmas.List.{length-take-le, get_or-drop, take_more}
 use Rattle.std.proofs.Math.Seq.{take-add, take-append_seam}
 use Rattle.py_lines.specs.Piece.{begins}
 use Rattle.py_lines.specs.Balance.{closing_of}
-use Rattle.py_lines.specs.Character.{is_quote}
+use Rattle.py_lines.specs.Character.{is_break, is_quote}
 use Rattle.py_lines.specs.FieldStrings.{begins_open}
 use Rattle.py_lines.specs.Private.FieldText.{AtBrace, AtCode, HasSimpleCode, InCode, StandsInCode, AtSpecification, InText, IsQuotedText, HasText, Leads, LeadsAlways, LeadsBy, is_code_bracket, is_escaped}
 use Rattle.py_lines.specs.Private.Run.{BeginsPlainString, IsRunOf, IsWholePlainString, is_ascii_word, is_code_byte, is_literal_byte}
-use Rattle.py_lines.proofs.LineScan.AsciiRuns.{all_pass, full_take, quote-no_word}
+use Rattle.py_lines.proofs.LineScan.AsciiRuns.{all_pass, full_take, quote-no_break, quote-no_word}
 use Rattle.py_lines.proofs.LineScan.PlainStrings.{split_at, text_size}
 use Rattle.py_lines.proofs.SimpleLines.FirstBytes.{taken_one, taken_two}
-use Rattle.py_lines.proofs.FieldScans.Texts.{Spot, escape_leads, leads_to_code, passing, ends_in_word, string_leads, brace_leads, closing_leads, code_after, codes_lead, field_ends, leads-append, open_leads, opening_leads, specification_begins, specification_ends, specifications_lead, texts_lead, two_lead}
+use Rattle.py_lines.proofs.FieldScans.Texts.{Spot, text_unbroken, escape_leads, leads_to_code, passing, ends_in_word, string_leads, brace_leads, closing_leads, code_after, codes_lead, field_ends, leads-append, open_leads, opening_leads, specification_begins, specification_ends, specifications_lead, texts_lead, two_lead}
 
 -- the bytes after the first ones, as a slice has them
 abbrev pub rest_of : List ℕ → ℕ → List ℕ
@@ -220,3 +221,15 @@ quoted_text (q ∷ body) n quotes text some within closes =
       full = full_take body n some inner;
       text = text.1;
     }
+
+-- none of its bytes ends a line
+pub quoted_unbroken : (bytes : List ℕ) (len : ℕ) → IsQuotedText bytes len → list_all (λ d. not (is_break d)) (take len bytes) ≡ true
+quoted_unbroken bytes len is =
+    let passes : ℕ → Bool = λ d. not (is_break d) in
+    let whole : List ℕ = is.q ∷ (is.run ++ is.q ∷ []) in
+    let one : passes is.q ≡ true = ap not (quote-no_break is.q is.quote) in
+    let size : length whole ≡ len = omega (arith, is.size, length-append is.run (is.q ∷ [])) in
+    let spell : whole ++ is.after ≡ bytes = ap (λ t. is.q ∷ t) (append_assoc is.run (is.q ∷ []) is.after) ∙ is.spell in
+    let first : take len bytes ≡ whole = rw (← spell, ← size) (take-append_seam whole is.after) in
+    ap (list_all passes) first
+    ∙ and_from _ _ one (list_all-append passes is.run (is.q ∷ []) ∙ and_from _ _ (text_unbroken is.q is.run is.quote is.text) (and_from _ _ one refl))

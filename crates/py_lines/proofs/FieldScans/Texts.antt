@@ -4,7 +4,7 @@ use Rattle.std.specs.Prelude.{nat_lt, codes}
 use Rattle.std.proofs.lemmas.Bool.Decides.{nat_tests}
 use Rattle.std.specs.List.{list_all}
 use Rattle.std.specs.Str.{byte}
-use Rattle.std.proofs.lemmas.Bool.{and_parts, and_right, or_cases, both_ways, eq-eqb, not-true}
+use Rattle.std.proofs.lemmas.Bool.{and_from, and_parts, and_right, or_cases, both_ways, eq-eqb, not-true}
 use Rattle.py_lines.specs.Character.{is_one_of, is_space, is_word_character, is_quote, is_operator, is_break, is_backslash, is_brace}
 use Rattle.py_lines.specs.Piece.{Piece, spelled, operator, string}
 use Rattle.py_lines.specs.Balance.{is_opening, is_closing, closing_of}
@@ -12,11 +12,10 @@ use Rattle.py_lines.specs.FieldStrings.{is_field_prefix, Host, Place, literal, s
 use Rattle.py_lines.specs.declared.mode.Mode.{Mode}
 use Rattle.py_lines.specs.declared.mode.Mode.TheVariants as modes
 use Rattle.py_lines.specs.declared.mode.Move.TheVariants as moves
-use Rattle.py_lines.specs.declared.mode.Spelling.TheVariants as spellings
 use Rattle.py_lines.specs.declared.mode.Start.TheVariants as starts
 use Rattle.py_lines.specs.Private.Machine.{IsFull, closed, short_move, move_of, start_of, first_spelling, spelling_with, is_prefix_spelling}
 use Rattle.py_lines.specs.Private.FieldMachine.{At, FieldMode, between, after_brace, after_slash, plain, body, FieldMove, grows, closes, breaks, begins_code, ends_field, Level, FieldScanned, field_state, field_fresh, field_ended, field_pieces, begins_host, plain_move, between_move, body_move, field_move, field_moved, field_started, code_operator, openers_with, levels_open, frames, has_room_at}
-use Rattle.py_lines.specs.Private.FieldScan.{GoesThrough}
+use Rattle.py_lines.specs.Private.Scan.{GoesThrough}
 use Rattle.py_lines.specs.Private.FieldText.{is_apart_mode, is_escaped, InText, AtBrace, AtCode, InCode, StandsInCode, AtSpecification, Leads, level_after, is_code_mode, is_code_bracket}
 use Rattle.py_lines.specs.Private.Run.{is_ascii_word, is_text_byte, is_body_byte, is_literal_byte, is_code_sign, is_code_byte}
 use Rattle.py_lines.proofs.Pieces.PieceLists.{piece}
@@ -33,8 +32,8 @@ use Rattle.py_lines.proofs.FieldScans.Frames.{AreOpenAlike, neutral_alike}
 use Rattle.py_lines.proofs.FieldScans.Openings.{no_colon}
 use Rattle.py_lines.proofs.FieldScans.Taking.{no_opening, goes_through, keeps_open, some_level}
 use Rattle.py_lines.proofs.LineScan.StringSteps.{string_grows}
-use Rattle.py_lines.proofs.LineScan.AsciiRuns.{low_is, quote-no_break, space-not-quote, word_byte_continues, word_byte_low, word_byte_starts, space-no_word}
-use Rattle.py_lines.proofs.LineScan.Runs.{stays-no_break, body_parts, quote_ascii, space_low}
+use Rattle.py_lines.proofs.LineScan.AsciiRuns.{low_is, quote_ascii, quote-no_break, space_low, space-not-quote, word-no_break, word_byte_continues, word_byte_low, word_byte_starts, space-no_word}
+use Rattle.py_lines.proofs.LineScan.Runs.{body_parts}
 use Rattle.py_lines.proofs.LogicalLines.Cuts.{break-return}
 use Rattle.py_lines.proofs.Machine.LiveTexts as live
 
@@ -64,6 +63,19 @@ leads-append quote P Q R a b first second outer l depth t same quotes room at =
     let one = first outer l depth t same quotes room at in
     let two = second outer l depth one.0 same quotes room one.2 in
     (two.0, goes_on-append depth t one.0 two.0 a b one.1 two.1, two.2)
+
+-- characters that are gone through are no line ends
+goes_unbroken : (depth : ℕ) (t : FieldScanned) (run : List ℕ) (u : FieldScanned) → GoesThrough depth t run u → list_all (λ d. not (is_break d)) run ≡ true
+goes_unbroken depth t [] u goes = refl
+goes_unbroken depth t (c ∷ cs) u (low, none, move, next, step, others) =
+    and_from (not (is_break c)) (list_all (λ d. not (is_break d)) cs) (ap not none) (goes_unbroken depth next cs u others)
+
+pub text_unbroken : (q : ℕ) (run : List ℕ) → is_quote q ≡ true → Leads q InText run InText → list_all (λ d. not (is_break d)) run ≡ true
+text_unbroken q run quote text =
+    let host : Host = record { quote = q; is_long = false; is_raw = false } in
+    let from = field_state [] [] [] (body host literal false between) [] in
+    let led = text [] (record { done = []; openers = []; host = host; place = literal; front = [] }) 0 from refl quote (omega arith) ([], refl) in
+    goes_unbroken 0 from run led.0 led.1
 
 -- a run of characters each of which leads back
 leads-run : (passes : ℕ → Bool) (quote : ℕ) (P : Spot) → ((c : ℕ) → passes c ≡ true → Leads quote P (c ∷ []) P) → (run : List ℕ) → list_all passes run ≡ true → Leads quote P run P
@@ -203,7 +215,7 @@ word_others : (c : ℕ) → is_ascii_word c ≡ true → (is_space c ≡ false) 
 unfolding is_opening is_ascii_word
 word_others c h = (
   excluded is_ascii_word is_space c (space-no_word c) h,
-  stays-no_break (modes.Word spellings.Name) c h,
+  word-no_break c h,
   excluded is_ascii_word is_opening c (λ opens. none_of is_ascii_word (40 ∷ 91 ∷ 123 ∷ []) c refl opens) h,
 )
 

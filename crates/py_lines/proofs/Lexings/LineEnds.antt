@@ -7,7 +7,7 @@ use Rattle.py_lines.specs.Balance.{IsBalanced, depth_after, depth_through}
 use Rattle.py_lines.specs.Fields.{fielded, InClass, AreReadBefore, IsShallow}
 use Rattle.py_lines.specs.Reading.{EndsLine, IsBalancedReading}
 use Rattle.py_lines.specs.LogicalLine.{is_line_end_class}
-use Rattle.py_lines.specs.Private.Scan.{EndsNoLine}
+use Rattle.py_lines.specs.Private.LineScan.{EndsNoLine}
 use Rattle.py_lines.specs.Private.Machine.{Bracket, brackets_of}
 use Rattle.py_lines.specs.Private.ScanMachine.{StringFits, StringsFit}
 use Rattle.py_lines.proofs.Pieces.PieceLists.{piece, spelled-append, AreReadIn-append, AreReadIn-first, AreReadIn-second, follows_any}

@@ -18,7 +18,7 @@ use Rattle.py_lines.specs.declared.mode.Mode.TheVariants as modes
 use Rattle.py_lines.specs.declared.mode.Move.{Move}
 use Rattle.py_lines.specs.declared.fault.FaultKind.TheVariants as faults
 use Rattle.py_lines.specs.declared.fault.Fault.{Fault}
-use Rattle.py_lines.specs.Private.Scan.{EndsNoLine}
+use Rattle.py_lines.specs.Private.LineScan.{EndsNoLine}
 use Rattle.py_lines.specs.Private.Machine.{Scanned, fresh, text_start, class_of, closed, started, moved, move_of, start_of, Bracket}
 use Rattle.py_lines.specs.Private.ScanMachine.{meet_of, move_at, scan_steps}
 use Rattle.py_lines.proofs.Text.Splits.{Either, either}

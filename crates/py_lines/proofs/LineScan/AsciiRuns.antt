@@ -1,20 +1,33 @@
 -- Runs of bytes of ASCII, and what they begin.
-use Rattle.std.proofs.Common.{◌≡◌, ℕ, zero, suc, ◌<◌, ◌≤◌, Bool, true, false, List, [], ◌∷◌, ◌++◌, length, take, slice_index, refl, ap, ◌∙◌, ◌||◌, ◌&&◌, ◌==◌, sym, arith}
+use Rattle.std.proofs.Common.{◌≡◌, ℕ, zero, suc, ◌<◌, ◌≤◌, Bool, true, false, List, [], ◌∷◌, ◌++◌, length, take, slice_index, refl, leb, ap, ◌∙◌, ◌||◌, ◌&&◌, ◌==◌, sym, arith}
 use Rattle.std.specs.Prelude.{encode_utf8_all, codes, nat_lt, nat_le}
 use Rattle.std.specs.Str.{all_scalars}
 use Rattle.std.specs.List.{list_all}
 use Rattle.std.specs.Char.{IsScalar}
-use Rattle.std.proofs.lemmas.Bool.{and_parts, and_from, lt-ltb, ltb-true}
+use Rattle.std.proofs.lemmas.Bool.{and_parts, and_from, leb-false, lt-ltb, ltb-true}
 use Rattle.std.proofs.lemmas.Str.{encode_ascii}
 use Rattle.std.proofs.Math.Utf8.{low_scalar}
 use Rattle.py_lines.specs.Character.{is_space, is_word_start, is_word_character, is_digit, is_quote, is_operator, is_break}
 use Rattle.py_lines.specs.declared.mode.Spelling.{Spelling}
 use Rattle.py_lines.specs.Private.Machine.{first_spelling, spelling_with, spelling_on, IsFull}
 use Rattle.py_lines.specs.Private.Run.{is_ascii_word, word_spelling}
-use Rattle.py_lines.proofs.Text.CharacterTests.{none_of}
+use Rattle.py_lines.proofs.Text.CharacterTests.{none_of, excluded}
 use Rattle.unicode_ident.proofs.IdentLemmas.{is_xid_continue-ascii, is_xid_start-ascii}
 use Rattle.std.proofs.Math.Bool.{or_assoc, or_comm}
 use Rattle.std.proofs.lemmas.Bool.Decides.{nat_tests}
+
+-- space, line ends and quotes are ASCII
+pub space_low : (c : ℕ) → is_space c ≡ true → c < 128
+unfolding is_space
+space_low c h = leb-false 128 c (none_of (λ d. leb 128 d) (codes " \t" ++ 0x0C ∷ []) c refl h)
+
+pub break_low : (c : ℕ) → is_break c ≡ true → c < 128
+unfolding is_break
+break_low c h = leb-false 128 c (none_of (λ d. leb 128 d) (codes "\n\r") c refl h)
+
+pub quote_ascii : (q : ℕ) → is_quote q ≡ true → q < 128
+unfolding is_quote
+quote_ascii q h = leb-false 128 q (none_of (λ d. leb 128 d) (codes "'\"") q refl h)
 
 -- a byte of words continues a word
 pub word_byte_low : (c : ℕ) → is_ascii_word c ≡ true → c < 128
@@ -94,6 +107,11 @@ quote-no_break c h = none_of is_break (codes "'\"") c refl h
 pub quote-no_word : (c : ℕ) → is_quote c ≡ true → is_ascii_word c ≡ false
 unfolding is_quote is_ascii_word
 quote-no_word c h = none_of is_ascii_word (codes "'\"") c refl h
+
+-- nor is a line end
+pub word-no_break : (c : ℕ) → is_ascii_word c ≡ true → is_break c ≡ false
+unfolding is_ascii_word is_break
+word-no_break c h = excluded is_ascii_word is_break c (λ breaks. none_of is_ascii_word (codes "\n\r") c refl breaks) h
 
 pub space-no_word : (c : ℕ) → is_space c ≡ true → is_ascii_word c ≡ false
 unfolding is_space is_ascii_word

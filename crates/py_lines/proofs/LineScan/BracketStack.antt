@@ -6,10 +6,10 @@ use Rattle.py_lines.specs.Piece.{operator}
 use Rattle.py_lines.specs.Balance.{closing_of, is_opening, is_closing}
 use Rattle.py_lines.specs.declared.frames.Frame.{Frame}
 use Rattle.py_lines.specs.declared.frames.Frame.TheVariants as frame
-use Rattle.py_lines.specs.Private.FieldScan.{frames_of}
+use Rattle.py_lines.specs.Private.Scan.{frames_of}
 use Rattle.py_lines.specs.Private.Frames.{ClosesBracket, OpensBracket}
 use Rattle.py_lines.specs.Private.Machine.{Bracket, brackets_after}
-use Rattle.py_lines.specs.Private.Scan.{none_open}
+use Rattle.py_lines.specs.Private.LineScan.{none_open}
 use Rattle.py_lines.proofs.Pieces.OpenBrackets.{closing-not-opening}
 
 pub none_length : (st : List Bracket) (n : ℕ) → length st ≡ n → n == 0 ≡ none_open st

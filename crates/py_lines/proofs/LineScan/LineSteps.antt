@@ -1,7 +1,6 @@
 -- The scan of a line's characters, one after another: where it has come, both machines have.
-use Rattle.std.proofs.Common.{◌≡◌, ℕ, ◌+◌, ◌==◌, ◌&&◌, not, inl, inr, ◌⊎◌, ⊎_elim, Bool, true, false, Option, None, Some, List, [], ◌∷◌, ◌++◌, length, refl, sym, ap, ◌∙◌, subst, append-nil, arith}
+use Rattle.std.proofs.Common.{◌≡◌, ℕ, ◌==◌, ◌&&◌, not, inl, inr, ◌⊎◌, ⊎_elim, Bool, true, false, Option, None, Some, List, [], ◌∷◌, ◌++◌, length, refl, sym, ap, ◌∙◌, subst, append-nil, arith}
 use Rattle.std.specs.Prelude.{encode_utf8_all}
-use Rattle.std.specs.Char.{len_utf8}
 use Rattle.std.proofs.lemmas.Bool.{both_ways, and_parts, and_right, eqb-true, false_from_ne_true}
 use Rattle.std.proofs.lemmas.List.{nil_from_length, length-map}
 use Rattle.std.proofs.lemmas.Str.{encode_ascii}
@@ -17,16 +16,15 @@ use Rattle.py_lines.specs.declared.mode.Move.{Move}
 use Rattle.py_lines.specs.declared.mode.Move.TheVariants as moves
 use Rattle.py_lines.specs.declared.mode.Start.{Start}
 use Rattle.py_lines.specs.declared.mode.Start.TheVariants as starts
-use Rattle.py_lines.specs.declared.field_scan.Progress.{Progress}
-use Rattle.py_lines.specs.declared.field_scan.Progress.TheVariants as progress
-use Rattle.py_lines.specs.declared.field_scan.FieldScan.{FieldScan}
+use Rattle.py_lines.specs.declared.scan.Progress.{Progress}
+use Rattle.py_lines.specs.declared.scan.Progress.TheVariants as progress
 use Rattle.py_lines.specs.declared.scan.Scan.{Scan}
 use Rattle.py_lines.specs.Private.Machine.{Scanned, fresh, class_of, move_of, moved, started, start_of, Bracket, brackets_of}
-use Rattle.py_lines.specs.Private.FieldMachine.{FieldScanned, FieldMove, FieldMode, plain, closes, breaks, field_state, field_step, field_move, frames, has_room, room_step, roomy}
+use Rattle.py_lines.specs.Private.FieldMachine.{FieldScanned, FieldMove, FieldMode, plain, closes, breaks, field_state, field_step, field_steps_from, field_move, frames, has_room, room_step, roomy}
 use Rattle.py_lines.specs.Private.FieldFaults.{here}
-use Rattle.py_lines.specs.Private.FieldScan.{Follows, HasReached, IsInPlace, ComesTo, StepsTo, PushesField, ends_line, is_line_ending, line_end_size, code_mode, code_moved, code_move, is_returned_mode, mode_from, opened_at, HoldsCode, bracket_openers}
+use Rattle.py_lines.specs.Private.Scan.{Follows, HasReached, IsInPlace, freed, is_returned, ComesTo, StepsTo, PushesField, ends_line, is_line_ending, line_end_size, code_mode, code_moved, code_move, is_returned_mode, mode_from, opened_at, HoldsCode, bracket_openers}
 use Rattle.py_lines.specs.Private.ScanMachine.{HoldsOpen, IsScanSound, line_begun, line_start, meet_of, move_at, move_in, opened_move, scan_step, scan_steps}
-use Rattle.py_lines.specs.Private.Scan.{Counts, HasBegun, IsNotEnded, Takes, TakesNext, count_with, freed, is_returned, is_return_mode, none_open, stack_if, EndsNoLine, EndsWhole, IsUnderWay, IsAtLineEnd}
+use Rattle.py_lines.specs.Private.LineScan.{HasBegun, IsNotEnded, Takes, TakesNext, none_open, stack_if, EndsNoLine, EndsWhole, IsUnderWay, IsAtLineEnd}
 use Rattle.py_lines.proofs.Pieces.PieceLists.{piece, spelled-push, AreReadIn-push, follows_any}
 use Rattle.py_lines.proofs.Text.CharacterTests.{feed_is, return_is}
 use Rattle.py_lines.proofs.Machine.PieceSteps.{scanned, pieces_at}
@@ -43,9 +41,8 @@ use Rattle.py_lines.proofs.ScanMachine.Soundness.{StandsSound, from_start, stand
 use Rattle.py_lines.proofs.FieldScans.Places.{scan_placed}
 use Rattle.py_lines.proofs.LineScan.PieceEnd.{no_class_bracket}
 use Rattle.py_lines.proofs.LineScan.StringSteps.{field_push}
-use Rattle.py_lines.proofs.LogicalLines.Cuts.{byte_len-append}
-use Rattle.py_lines.proofs.LineScan.LineCount.{EndsNoLine-push, byte_len-one, counted_push}
-use Rattle.py_lines.proofs.LineScan.NextCharacter.{both_ends, one_feed, return_feeds, class_closed, closed_one_line, depth_none, one_return, none_level, none_stack, return_breaks, return_mode}
+use Rattle.py_lines.proofs.LineScan.LineCount.{EndsNoLine-push}
+use Rattle.py_lines.proofs.LineScan.NextCharacter.{is_return_mode, both_ends, one_feed, return_feeds, class_closed, closed_one_line, depth_none, one_return, none_level, none_stack, return_breaks, return_mode}
 use Rattle.py_lines.proofs.LineScan.BracketStack.{none_length}
 use Rattle.py_lines.proofs.FieldScans.Frames.{frames-length, none_outside}
 use Rattle.py_lines.proofs.Machine.LiveTexts.{stack_closed}
@@ -80,11 +77,12 @@ module _ {m : Mode} {scan : Scan} {read : List ℕ} (way : IsUnderWay m scan rea
   pub way_here : here way.field ≡ byte_len read
   way_here = ap byte_len way_field.spell
 
-  pub way_place : scan.stop ≡ here way.field
-  way_place = way.counts.stop ∙ sym way_here
+  -- it stops after what is read
+  pub way_stop : scan.stop ≡ byte_len read
+  way_stop = way.follows.stop ∙ way_here
 
-  pub way_placed : IsInPlace scan.inside
-  way_placed = scan_placed two_hundred scan.inside read way.field way_field way.follows
+  pub way_placed : IsInPlace scan
+  way_placed = scan_placed two_hundred scan read way.field way_field way.follows
 
   -- a character for which there is a step in neither machine
   pub way_refused : (c : ℕ) → stack_if (scan_step way.state c) ≡ None → room_step way.field c ≡ None
@@ -97,7 +95,7 @@ module _ {m : Mode} {scan : Scan} {read : List ℕ} (way : IsUnderWay m scan rea
 
 -- where a line begins, nothing is read
 pub begun_way : {m : Mode} {scan : Scan} → HasBegun m scan → IsScanSound (line_start m) [] → IsUnderWay m scan []
-begun_way {m} {scan} (inside, stop, count) start = record {
+begun_way {m} {scan} begun start = record {
   state = line_start m;
   steps = refl;
   brackets = [];
@@ -105,11 +103,10 @@ begun_way {m} {scan} (inside, stop, count) start = record {
   one_line = tt;
   field = line_begun m;
   field_steps = refl;
-  follows = subst (λ (f : FieldScan). Follows f (line_begun m)) (sym inside)
+  follows = subst (λ (f : Scan). Follows f (line_begun m)) (sym begun)
       (from_start (λ n. Follows (opened_at n) (line_begun n)) m start.holds
-      (record { mode = refl; holds = (refl, refl); no_list = tt; waits = tt; start = refl; frames = ([], refl, refl, refl) })
-      (record { mode = refl; holds = refl; no_list = tt; waits = tt; start = refl; frames = ([], refl, refl, refl) }));
-  counts = record { stop = stop; here = ap (λ n. n.line) count ∙ omega arith; after = ap (λ n. n.after_return) count };
+      (record { mode = refl; holds = (refl, refl); no_list = tt; waits = tt; start = refl; frames = ([], refl, refl, refl); stop = refl })
+      (record { mode = refl; holds = refl; no_list = tt; waits = tt; start = refl; frames = ([], refl, refl, refl); stop = refl }));
 }
 
 -- what may follow a line that CR ends, which the machine holds yet
@@ -164,11 +161,7 @@ return_code modes.Return = refl
 return_code m = refl
 
 return_from : (m : OpenMode) → is_returned_mode m ≡ is_return_at (mode_from m)
-return_from (field_modes.Code m) = from_code m
-  where
-    from_code : (n : Mode) → is_returned_mode (field_modes.Code n) ≡ is_return_at (code_mode n)
-    from_code modes.Return = refl
-    from_code n = refl
+return_from (field_modes.Code m) = return_code m
 return_from (field_modes.Body h region named at) = refl
 
 -- before another character than LF it ends there
@@ -196,6 +189,10 @@ return_stays : (c : ℕ) → is_line_feed c ≡ true → meet_of modes.Return c 
 unfolding meet_of move_of
 return_stays c feeds is = let clash : moves.Closes ≡ moves.Breaks = (rw feeds) ∙ is in cc
 
+pub roomy_parts : (room : Bool) (o : Option FieldScanned) (next : FieldScanned) → roomy room o ≡ Some next → (room ≡ true) × (o ≡ Some next)
+roomy_parts true o next is = (refl, is)
+roomy_parts false o next is = absurd (cc)
+
 module _ {m : Mode} {scan : Scan} {read : List ℕ} (way : IsUnderWay m scan read) (start : IsScanSound (line_start m) []) where
   abbrev s : Scanned
   s = way.state
@@ -212,15 +209,15 @@ module _ {m : Mode} {scan : Scan} {read : List ℕ} (way : IsUnderWay m scan rea
   frames_are : CodeAt s t st → frames t ≡ length st
   frames_are is = ap frames is ∙ omega (arith, length-map st (λ (b : Bracket). b.opener))
 
-  frames_kept : length scan.inside.frames ≡ frames t
-  frames_kept = frames-length t.outer t.done t.openers scan.inside.frames way.follows.frames
+  frames_kept : length scan.frames ≡ frames t
+  frames_kept = frames-length t.outer t.done t.openers scan.frames way.follows.frames
 
-  mode_kept : is_returned_mode scan.inside.mode ≡ is_return_at t.mode
-  mode_kept = return_from scan.inside.mode ∙ ap is_return_at way.follows.mode
+  mode_kept : is_returned_mode scan.mode ≡ is_return_at t.mode
+  mode_kept = return_from scan.mode ∙ ap is_return_at way.follows.mode
 
   -- outside fields, a piece that ends before a character is no string with fields
-  pub outside : length scan.inside.frames ≡ 0 → t.outer ≡ []
-  outside none = (none_outside t.outer t.done t.openers scan.inside.frames way.follows.frames none).0
+  pub outside : length scan.frames ≡ 0 → t.outer ≡ []
+  outside none = (none_outside t.outer t.done t.openers scan.frames way.follows.frames none).0
 
   pub breaks_code : (c : ℕ) → meet_of s.mode c ≡ moves.Breaks → CodeAt s t st
   breaks_code c ends = ⊎_elim (λ is. absurd (fielded_goes c (ap (λ n. meet_of n c) (sym is) ∙ ends))) (λ is. is) code
@@ -235,15 +232,15 @@ module _ {m : Mode} {scan : Scan} {read : List ℕ} (way : IsUnderWay m scan rea
       fielded : s.mode ≡ modes.Fielded → is_returned scan ≡ is_return_mode s.mode && none_open st
       fielded at =
           false_from_ne_true (is_returned scan) (λ is.
-          let parts = and_parts (is_returned_mode scan.inside.mode) (length scan.inside.frames == 0) is in
+          let parts = and_parts (is_returned_mode scan.mode) (length scan.frames == 0) is in
           fielded_goes 0 (ap (λ n. meet_of n 0) (sym at)
           ∙ breaks_there 0 (outside (eqb-true _ 0 parts.1)) (return_ends_at t.mode t.held (sym mode_kept ∙ parts.0))))
           ∙ ap (λ n. is_return_mode n && none_open st) (sym at)
 
       in_code : CodeAt s t st → is_returned scan ≡ is_return_mode s.mode && none_open st
       in_code at =
-          ap (λ b. b && (length scan.inside.frames == 0)) (mode_kept ∙ ap (λ x. is_return_at x.mode) at ∙ sym (return_code s.mode))
-          ∙ ap (λ b. is_return_mode s.mode && b) (none_length st (length scan.inside.frames) (sym (frames_kept ∙ frames_are at)))
+          ap (λ b. b && (length scan.frames == 0)) (mode_kept ∙ ap (λ x. is_return_at x.mode) at ∙ sym (return_code s.mode))
+          ∙ ap (λ b. is_return_mode s.mode && b) (none_length st (length scan.frames) (sym (frames_kept ∙ frames_are at)))
 
   -- and then it is a line with its end, unless LF follows
   pub returned : {rest : List ℕ} → is_returned scan ≡ true → ((after : List ℕ) → encode_utf8_all after ≡ rest → begins is_line_feed after ≡ false) → IsAtLineEnd m (freed scan) read rest 1
@@ -264,7 +261,7 @@ module _ {m : Mode} {scan : Scan} {read : List ℕ} (way : IsUnderWay m scan rea
             spell = spelled-push done line_end held ∙ sound.spell;
             fit = λ after is_rest. returned_fit done held read after sound text (follows after is_rest);
             strings = line_string done (piece line_end held) refl sound.strings;
-            counts = record { stop = way.counts.stop; here = way.counts.here; after = way.counts.after };
+            stop = way_stop way start;
           }
       go k returns done held steps sound stacked none empty = absurd (both_ways _ refl returns)
 
@@ -403,59 +400,47 @@ module _ {m : Mode} {scan : Scan} {read : List ℕ} (way : IsUnderWay m scan rea
         by None alike = refl
         by (Some n) alike = under n (brackets_of n.done) alike
 
-    no_frames : ends_line t c ≡ true → scan.inside.frames ≡ []
+    no_frames : ends_line t c ≡ true → scan.frames ≡ []
     no_frames ends =
         let parts = and_parts (frames t == 0) (is_line_ending t.mode (field_move t.mode t.held c) c) ends in
-        nil_from_length scan.inside.frames (frames_kept ∙ eqb-true _ 0 parts.0)
+        nil_from_length scan.frames (frames_kept ∙ eqb-true _ 0 parts.0)
 
-    ended : (new : Scan) (len : ℕ) → IsNotEnded scan c → ends_line t c ≡ true → len ≡ line_end_size t.mode → Counts new (read ++ c ∷ []) → (rest : List ℕ) → IsAtLineEnd m new (read ++ c ∷ []) rest len
-    ended new len on ends size counts rest =
-        let parts = and_parts (frames t == 0) (is_line_ending t.mode (field_move t.mode t.held c) c) ends in
-        let none : frames t ≡ 0 = eqb-true _ 0 parts.0 in
-        let so = ends_so t.mode (field_move t.mode t.held c) parts.1 in
-        let at = ended_code none so in
-        let l = ended_with len on at (field_move t.mode t.held c) refl so size in
-        let shut : none_open st ≡ true = sym (none_length st 0 (sym (frames_are at) ∙ none)) in
-        let last = piece line_end l.text in
-        let paired = none_stack l.body st l.stacked shut in
-        let steps = steps_push (line_start m) read s c way.steps ∙ l.goes in
-        let sound = sound_steps m (read ++ c ∷ []) (fresh (l.body ++ last ∷ [])) start steps (no_class_bracket l.body last refl paired) in
-        record {
-          body = l.body;
-          last = last;
-          are = record { one_line = l.one_line; class = refl; level = none_level l.body st l.stacked shut; paired = paired; size = l.size };
-          to = fresh (l.body ++ last ∷ []);
-          steps = steps;
-          spell = sym (append-nil (spelled (l.body ++ last ∷ []))) ∙ sound.spell;
-          fit = λ after is. sound.fit after;
-          strings = sound.strings;
-          counts = counts;
-        }
+    module _ (new : Scan) (to : StepsTo t c new) where
+      field_next : field_steps_from (Some (line_begun m)) (read ++ c ∷ []) ≡ Some to.next
+      field_next = field_push (line_begun m) read t c way.field_steps ∙ (roomy_parts (has_room t c) (field_step t c) to.next to.goes).1
 
-pub roomy_parts : (room : Bool) (o : Option FieldScanned) (next : FieldScanned) → roomy room o ≡ Some next → (room ≡ true) × (o ≡ Some next)
-roomy_parts true o next is = (refl, is)
-roomy_parts false o next is = absurd (cc)
-
--- a scan that took a character, and counted it
-abbrev pub read_on : Scan → FieldScan → ℕ → Scan
-read_on old inside c = record old { inside = inside; stop = old.stop + len_utf8 c; count = count_with old.count c }
-
-counts_on : (old : Scan) (inside : FieldScan) (read : List ℕ) (c : ℕ) → Counts old read → Counts (read_on old inside c) (read ++ c ∷ [])
-counts_on old inside read c counts =
-    let counted = counted_push old.line old.count read c (record { here = counts.here; after = counts.after }) in
-    record {
-      stop = omega (arith, counts.stop, byte_len-append read (c ∷ []), byte_len-one c);
-      here = counted.here;
-      after = counted.after;
-    }
+      ended : (len : ℕ) → IsNotEnded scan c → ends_line t c ≡ true → len ≡ line_end_size t.mode → (rest : List ℕ) → IsAtLineEnd m new (read ++ c ∷ []) rest len
+      ended len on ends size rest =
+          let parts = and_parts (frames t == 0) (is_line_ending t.mode (field_move t.mode t.held c) c) ends in
+          let none : frames t ≡ 0 = eqb-true _ 0 parts.0 in
+          let so = ends_so t.mode (field_move t.mode t.held c) parts.1 in
+          let at = ended_code none so in
+          let l = ended_with len on at (field_move t.mode t.held c) refl so size in
+          let shut : none_open st ≡ true = sym (none_length st 0 (sym (frames_are at) ∙ none)) in
+          let last = piece line_end l.text in
+          let paired = none_stack l.body st l.stacked shut in
+          let steps = steps_push (line_start m) read s c way.steps ∙ l.goes in
+          let sound = stands_sound m (read ++ c ∷ []) (fresh (l.body ++ last ∷ [])) [] start
+          (record { run = steps; stack = no_class_bracket l.body last refl paired }) in
+          record {
+            body = l.body;
+            last = last;
+            are = record { one_line = l.one_line; class = refl; level = none_level l.body st l.stacked shut; paired = paired; size = l.size };
+            to = fresh (l.body ++ last ∷ []);
+            steps = steps;
+            spell = sym (append-nil (spelled (l.body ++ last ∷ []))) ∙ sound.scan.spell;
+            fit = λ after is. sound.scan.fit after;
+            strings = sound.scan.strings;
+            stop = to.follows.stop ∙ ap here (some_is to.next sound.state (sym field_next ∙ sound.steps)) ∙ ap byte_len sound.field.spell;
+          }
 
 -- what a character comes to in the line
-module _ (old : Scan) (inside : FieldScan) (c : ℕ) (p : Progress) (pushes : PushesField old.inside c old.stop p inside) where
-  comes_so : {m : Mode} {read : List ℕ} (way : IsUnderWay m old read) → IsScanSound (line_start m) [] → (q : Progress) → p ≡ q → ComesTo way.field c old.inside q inside
-  comes_so way start q is = subst (λ r. ComesTo way.field c old.inside r inside) is (pushes way.field way.follows (way_place way start))
+module _ (old new : Scan) (c : ℕ) (p : Progress) (pushes : PushesField old c p new) where
+  comes_so : {m : Mode} {read : List ℕ} (way : IsUnderWay m old read) (q : Progress) → p ≡ q → ComesTo way.field c old q new
+  comes_so way q is = subst (λ r. ComesTo way.field c old r new) is (pushes way.field way.follows)
 
-  goes_on : {m : Mode} {read : List ℕ} (way : IsUnderWay m old read) → IsScanSound (line_start m) [] → IsNotEnded old c → StepsTo way.field c inside → ends_line way.field c ≡ false
-      → IsUnderWay m (read_on old inside c) (read ++ c ∷ [])
+  goes_on : {m : Mode} {read : List ℕ} (way : IsUnderWay m old read) → IsScanSound (line_start m) [] → IsNotEnded old c → StepsTo way.field c new → ends_line way.field c ≡ false
+      → IsUnderWay m new (read ++ c ∷ [])
   goes_on {m} {read} way start on to goes =
       let (n, after, takes, stacked, one_line, tied) = one_more way start c on goes to.goes in
       record {
@@ -465,24 +450,16 @@ module _ (old : Scan) (inside : FieldScan) (c : ℕ) (p : Progress) (pushes : Pu
         stacked = stacked;
         one_line = one_line;
         field = to.next;
-        field_steps = field_push (line_begun m) read way.field c way.field_steps ∙ (roomy_parts (has_room way.field c) (field_step way.field c) to.next to.goes).1;
+        field_steps = field_next way start c new to;
         follows = to.follows;
-        counts = counts_on old inside read c way.counts;
       }
 
-  -- it was taken
-  pub takes_taken : (p ≡ progress.Refused → ⊥) → TakesNext old c p (read_on old inside c)
-  takes_taken taken m read start way on = by p refl
+  pub pushed : TakesNext old c p new
+  pushed m read start way on = by p refl
     where
-      by : (q : Progress) → p ≡ q → Takes m read way.state old c q (read_on old inside c) × (old.line ≡ old.line)
-      by progress.Going is = let (to, goes) = comes_so way start progress.Going is in (goes_on way start on to goes, refl)
+      by : (q : Progress) → p ≡ q → Takes m read way.state old c q new
+      by progress.Going is = let (to, goes) = comes_so way progress.Going is in goes_on way start on to goes
       by (progress.LineEnded len) is =
-          let (to, ends, size) = comes_so way start (progress.LineEnded len) is in
-          ((no_frames way start c ends, ended way start c (read_on old inside c) len on ends size (counts_on old inside read c way.counts)), refl)
-      by progress.Refused is = absurd (taken is)
-
-  -- it was refused
-  pub takes_refused : p ≡ progress.Refused → TakesNext old c progress.Refused (record old { inside = inside })
-  takes_refused refused m read start way on =
-      let (none, same) = comes_so way start progress.Refused refused in
-      rw same ((none_taken way start c none, refl), refl)
+          let (to, ends, size) = comes_so way (progress.LineEnded len) is in
+          (no_frames way start c ends, ended way start c new to len on ends size)
+      by progress.Refused is = let (none, same) = comes_so way progress.Refused is in (none_taken way start c none, same)

@@ -1,5 +1,5 @@
 -- One more character of a line: where it may end the line, and where the line goes on.
-use Rattle.std.proofs.Common.{◌≡◌, ℕ, true, false, not, ◌&&◌, ◌==◌, Some, List, [], ◌∷◌, ◌++◌, length, refl, sym, ap, ◌∙◌, arith, lit<}
+use Rattle.std.proofs.Common.{◌≡◌, ℕ, Bool, true, false, not, ◌&&◌, ◌==◌, Some, List, [], ◌∷◌, ◌++◌, length, refl, sym, ap, ◌∙◌, arith, lit<}
 use Rattle.std.proofs.lemmas.Bool.{cond_both, both_ways, eqb-true}
 use Rattle.std.proofs.lemmas.Str.{encode_ascii}
 use Rattle.std.specs.Prelude.{if◌then◌else◌}
@@ -15,7 +15,9 @@ use Rattle.py_lines.specs.declared.mode.Move.TheVariants as moves
 use Rattle.py_lines.specs.Private.FieldMachine.{between, opened, empty, body, grows, field_state, field_move, field_moved, field_step, body_move}
 use Rattle.py_lines.specs.Private.Machine.{class_of, closed, move_of, Bracket, brackets_of}
 use Rattle.py_lines.specs.Private.ScanMachine.{meet_of}
-use Rattle.py_lines.specs.Private.Scan.{EndsNoLine, none_open, is_return_mode}
+use Rattle.py_lines.specs.declared.field_mode.FieldMode.TheVariants as field_modes
+use Rattle.py_lines.specs.Private.Scan.{is_returned_mode}
+use Rattle.py_lines.specs.Private.LineScan.{EndsNoLine, none_open}
 use Rattle.py_lines.proofs.Pieces.PieceLists.{piece}
 use Rattle.py_lines.proofs.Text.CharacterTests.{feed_is, return_is}
 use Rattle.py_lines.proofs.Pieces.OpenBrackets.{stands}
@@ -23,6 +25,10 @@ use Rattle.py_lines.proofs.LogicalLines.Cuts.{byte_len-append}
 use Rattle.py_lines.proofs.LineScan.LineCount.{EndsNoLine-push}
 use Rattle.py_lines.proofs.LineScan.BracketStack.{none_length}
 use Rattle.py_lines.proofs.FieldMachine.StringRuns.{moved_between}
+
+-- whether the open piece is the CR of a line end
+abbrev pub is_return_mode : Mode → Bool
+is_return_mode m = is_returned_mode (field_modes.Code m)
 
 -- the depth says whether a bracket is open
 pub depth_none : (ps : List Piece) (st : List Bracket) → brackets_of ps ≡ Some st → depth_through 0 ps == 0 ≡ none_open st

@@ -9,16 +9,15 @@ use Rattle.py_lines.specs.declared.mode.Mode.TheVariants as modes
 use Rattle.py_lines.specs.declared.mode.Move.TheVariants as moves
 use Rattle.py_lines.specs.declared.scan.Scan.{Scan}
 use Rattle.py_lines.specs.Private.FieldMachine as spots
-use Rattle.py_lines.specs.Private.FieldMachine.{FieldMove, FieldScanned, breaks, field_move, field_state, levels_open, plain}
-use Rattle.py_lines.specs.Private.FieldScan.{HoldsCode, code_mode, ends_piece_before, is_break_move, is_free_mode, is_settled, meets_field, mode_from, bracket_openers}
+use Rattle.py_lines.specs.Private.FieldMachine.{FieldMove, FieldScanned, breaks, field_move, levels_open, plain}
+use Rattle.py_lines.specs.Private.Scan.{HoldsCode, code_mode, ends_piece_before, is_break_move, is_free_mode, is_settled, meets_field, mode_from, bracket_openers}
 use Rattle.py_lines.specs.Private.Machine.{Bracket, move_of}
 use Rattle.py_lines.specs.Private.Run.{is_free}
-use Rattle.py_lines.specs.Private.Scan.{IsUnderWay}
+use Rattle.py_lines.specs.Private.LineScan.{IsUnderWay}
 use Rattle.py_lines.specs.Private.ScanMachine.{IsScanSound, line_start, meet_of}
 use Rattle.py_lines.proofs.FieldScans.Frames.{frames-length}
 use Rattle.py_lines.proofs.FieldScans.Moves.{meets}
 use Rattle.py_lines.proofs.LineScan.LineSteps.{CodeAt, breaks_code, breaks_there, code_move_is, outside}
-use Rattle.py_lines.proofs.ScanMachine.Follows.{}
 
 -- whether no piece is open, in the words of the machine with fields
 abbrev is_free_at : spots.FieldMode → Bool
@@ -51,39 +50,39 @@ break_is v is = absurd (both_ways _ refl is)
 
 module _ {m : Mode} {scan : Scan} {read : List ℕ} (way : IsUnderWay m scan read) (start : IsScanSound (line_start m) []) where
   -- the scan's words say the machine's
-  free_is : is_free_mode scan.inside.mode ≡ is_free_at way.field.mode
-  free_is = free_from scan.inside.mode ∙ ap is_free_at way.follows.mode
+  free_is : is_free_mode scan.mode ≡ is_free_at way.field.mode
+  free_is = free_from scan.mode ∙ ap is_free_at way.follows.mode
 
-  move_is : (c : ℕ) → meets_field scan.inside.mode c ≡ field_move way.field.mode way.field.held c
+  move_is : (c : ℕ) → meets_field scan.mode c ≡ field_move way.field.mode way.field.held c
   move_is c =
-      meets scan.inside.mode way.field.held c (subst (λ (n : spots.FieldMode). HoldsCode n way.field.held) (sym way.follows.mode) way.follows.holds)
+      meets scan.mode way.field.held c (subst (λ (n : spots.FieldMode). HoldsCode n way.field.held) (sym way.follows.mode) way.follows.holds)
       ∙ ap (λ (n : spots.FieldMode). field_move n way.field.held c) way.follows.mode
 
-  free_there : CodeAt way.state way.field way.brackets → is_free_mode scan.inside.mode ≡ is_free way.state.mode
+  free_there : CodeAt way.state way.field way.brackets → is_free_mode scan.mode ≡ is_free way.state.mode
   free_there is = free_is ∙ ap (λ (t : FieldScanned). is_free_at t.mode) is ∙ free_code way.state.mode
 
-  none_round : CodeAt way.state way.field way.brackets → way.brackets ≡ [] → length scan.inside.frames == 0 ≡ true
+  none_round : CodeAt way.state way.field way.brackets → way.brackets ≡ [] → length scan.frames == 0 ≡ true
   none_round is none = ap (λ n. n == 0)
-      (frames-length way.field.outer way.field.done way.field.openers scan.inside.frames way.follows.frames
+      (frames-length way.field.outer way.field.done way.field.openers scan.frames way.follows.frames
       ∙ ap (λ (t : FieldScanned). length t.openers + levels_open t.outer) is ∙ ap (λ (st : List Bracket). length (bracket_openers st) + 0) none)
 
   -- no piece is open in the scanning machine, where none is in the scan and no field is open
-  pub free_outside : way.field.outer ≡ [] → is_free_mode scan.inside.mode ≡ true → CodeAt way.state way.field way.brackets × (is_free way.state.mode ≡ true)
+  pub free_outside : way.field.outer ≡ [] → is_free_mode scan.mode ≡ true → CodeAt way.state way.field way.brackets × (is_free way.state.mode ≡ true)
   free_outside none free =
       let is = breaks_code way start 0 (breaks_there way start 0 none (free_breaks way.field.mode way.field.held 0 (sym free_is ∙ free))) in
       (is, sym (free_there is) ∙ free)
 
-  pub settled_free : is_settled scan.inside ≡ true → is_free way.state.mode ≡ true
+  pub settled_free : is_settled scan ≡ true → is_free way.state.mode ≡ true
   settled_free settled = let (free, none) = and_parts _ _ settled in (free_outside (outside way start (eqb-true _ 0 none)) free).1
 
   -- and conversely, where no bracket is open
-  pub free_settled : way.brackets ≡ [] → is_free way.state.mode ≡ true → is_settled scan.inside ≡ true
+  pub free_settled : way.brackets ≡ [] → is_free way.state.mode ≡ true → is_settled scan ≡ true
   free_settled none free =
       let is = breaks_code way start 0 (meets_free way.state.mode 0 free) in
       and_from _ _ (free_there is ∙ free) (none_round is none)
 
   -- the open piece ends before a character in the scanning machine, where it does so in the scan
-  pub ends_breaks : (c : ℕ) → ends_piece_before scan.inside c ≡ true → (is_free way.state.mode ≡ false) × (meet_of way.state.mode c ≡ moves.Breaks)
+  pub ends_breaks : (c : ℕ) → ends_piece_before scan c ≡ true → (is_free way.state.mode ≡ false) × (meet_of way.state.mode c ≡ moves.Breaks)
   ends_breaks c ends =
       let (other, parts) = and_parts _ _ ends in
       let (none, move) = and_parts _ _ parts in
@@ -92,7 +91,7 @@ module _ {m : Mode} {scan : Scan} {read : List ℕ} (way : IsUnderWay m scan rea
 
   -- and conversely
   pub breaks_ends : (c : ℕ) → way.brackets ≡ [] → is_free way.state.mode ≡ false → meet_of way.state.mode c ≡ moves.Breaks
-      → ends_piece_before scan.inside c ≡ true
+      → ends_piece_before scan c ≡ true
   breaks_ends c none other ends =
       let is = breaks_code way start c ends in
       let holds = subst (λ (t : FieldScanned). HoldsCode t.mode t.held) is way.follows.holds in

@@ -1,6 +1,6 @@
 -- Whole characters that leave the open piece as it is.
-use Rattle.std.proofs.Common.{◌≡◌, ℕ, ◌+◌, ◌-◌, ◌<◌, ◌≤◌, Bool, true, Some, List, length, take, drop, slice_index, inl, inr, sym, ap, ◌∙◌, subst, arith, length-drop, length-take}
-use Rattle.std.specs.Prelude.{IsUtf8, nat_lt}
+use Rattle.std.proofs.Common.{◌≡◌, ℕ, ◌+◌, ◌-◌, ◌<◌, ◌≤◌, Bool, true, Some, List, length, take, drop, slice_index, inl, inr, sym, ap, ◌∙◌, subst, arith, length-drop, length-take, refl}
+use Rattle.std.specs.Prelude.{IsUtf8, nat_lt, ◌&&◌}
 use Rattle.std.proofs.lemmas.Bool.{and_from, and_parts, both_ways, cases_lt, false_from_ne_true, lt-ltb, ltb-true}
 use Rattle.std.proofs.lemmas.List.{length-take-le, get_or-take, get_or-drop, take-take, take_rest}
 use Rattle.std.proofs.lemmas.List.Elements.{All-from_get_or}
@@ -9,8 +9,7 @@ use Rattle.std.proofs.lemmas.Str.Ascii.{IsAscii-from_all}
 use Rattle.std.proofs.Math.Seq.{take-add}
 use Rattle.py_lines.specs.Character.{is_space}
 use Rattle.py_lines.proofs.Text.Lanes.{run_goes_on}
-use Rattle.py_lines.proofs.LineScan.Runs.{space_low}
-use Rattle.py_lines.proofs.LineScan.AsciiRuns.{word_byte_low}
+use Rattle.py_lines.proofs.LineScan.AsciiRuns.{space_low, word_byte_low}
 use Rattle.py_lines.specs.Private.Run.{IsRunOf, IsWholeComment, Spans, is_comment_byte, is_remark_byte, is_ascii_word, is_body_byte, is_text_byte}
 
 -- bytes below 128 are characters
@@ -34,8 +33,11 @@ word_spans = low_spans is_ascii_word is_ascii_word (λ c h. (h, word_byte_low c 
 pub space_spans : (bytes : List ℕ) (n : ℕ) → IsRunOf is_space bytes n → Spans is_space bytes n
 space_spans = low_spans is_space is_space (λ c h. (h, space_low c h))
 
+pub ascii_spans : (ascii all : ℕ → Bool) → ((c : ℕ) → ascii c ≡ (all c && nat_lt c 128)) → (bytes : List ℕ) (n : ℕ) → IsRunOf ascii bytes n → Spans all bytes n
+ascii_spans ascii all is = low_spans ascii all (λ c h. let parts = and_parts (all c) (nat_lt c 128) (sym (is c) ∙ h) in (parts.0, ltb-true c 128 parts.1))
+
 pub text_spans : (q : ℕ) (bytes : List ℕ) (n : ℕ) → IsRunOf (is_text_byte q) bytes n → Spans (is_body_byte q) bytes n
-text_spans q = low_spans (is_text_byte q) (is_body_byte q) (λ c h. let parts = and_parts (is_body_byte q c) (nat_lt c 128) h in (parts.0, ltb-true c 128 parts.1))
+text_spans q = ascii_spans (is_text_byte q) (is_body_byte q) (λ c. refl)
 
 -- the text that a run begins with
 pub run_spans : (passes : ℕ → Bool) (bytes : List ℕ) (r n : ℕ) → IsRunOf passes bytes r → n ≤ length (take r bytes) → IsUtf8 (take n (take r bytes)) → Spans passes bytes n

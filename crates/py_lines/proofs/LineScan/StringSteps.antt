@@ -3,7 +3,7 @@ use Rattle.std.proofs.Common.{◌≡◌, ℕ, ◌+◌, Option, None, Some, List,
 use Rattle.std.specs.Prelude.{if◌then◌else◌}
 use Rattle.py_lines.specs.declared.mode.Mode.TheVariants as modes
 use Rattle.py_lines.specs.declared.mode.Move.TheVariants as moves
-use Rattle.py_lines.specs.Private.FieldScan.{GoesThrough}
+use Rattle.py_lines.specs.Private.Scan.{GoesThrough}
 use Rattle.py_lines.specs.Private.FieldMachine.{FieldMode, Level, FieldScanned, grows, field_state, field_move, field_moved, frames, has_room_at, field_text_start, field_step, field_steps_from}
 use Rattle.py_lines.specs.Private.ScanMachine.{string_state, string_move, fielded_move}
 use Rattle.py_lines.proofs.FieldSoundness.LiveTexts.{steps-append}

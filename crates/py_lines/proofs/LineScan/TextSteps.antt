@@ -12,7 +12,7 @@ use Rattle.py_lines.specs.declared.mode.Mode.TheVariants as modes
 use Rattle.py_lines.specs.Private.Machine.{Scanned, fresh, text_start, class_of, closed, started, start_of, Bracket, brackets_of}
 use Rattle.py_lines.specs.Private.ScanMachine.{IsScanSound, StringsFit, scan_step, scan_steps, move_at}
 use Rattle.py_lines.specs.declared.scan.Scan.{Scan}
-use Rattle.py_lines.specs.Private.Scan.{line_start, stack_if, IsUnderWay}
+use Rattle.py_lines.specs.Private.LineScan.{line_start, stack_if, IsUnderWay}
 use Rattle.py_lines.specs.Private.LineState.{first_mode}
 use Rattle.py_lines.proofs.Pieces.PieceLists.{piece, MayFollow, AreReadBefore-second, spelled-append}
 use Rattle.py_lines.proofs.Machine.Starts.{start-mark}

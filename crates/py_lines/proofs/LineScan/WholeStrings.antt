@@ -13,7 +13,7 @@ use Rattle.py_lines.specs.declared.mode.Move.TheVariants as moves
 use Rattle.py_lines.specs.Private.Machine.{fresh, moved, Holds, first_spelling, spelling_on}
 use Rattle.py_lines.specs.Private.FieldMachine as spots
 use Rattle.py_lines.specs.Private.FieldMachine.{between, body, closes, FieldScanned, field_state, field_move, field_moved, body_move, between_move, host_of, frames, has_room_at}
-use Rattle.py_lines.specs.Private.FieldScan.{GoesThrough}
+use Rattle.py_lines.specs.Private.Scan.{GoesThrough}
 use Rattle.py_lines.specs.Private.FieldText.{InText}
 use Rattle.py_lines.specs.Private.ScanMachine.{fielded_move, host_in, is_field_spelling, is_raw_spelling, meet_of, opened_move, quote_move, scan_step, scan_steps, string_move, string_state, move_at}
 use Rattle.py_lines.proofs.Pieces.PieceLists.{piece}

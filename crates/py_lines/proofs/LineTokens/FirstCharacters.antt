@@ -1,14 +1,14 @@
 -- What each class of pieces begins with, and what the first byte tells of the piece that bytes begin with, and of what follows it.
-use Rattle.std.proofs.Common.{◌≡◌, ℕ, ◌<◌, ◌⊎◌, inl, inr, true, false, List, [], ◌∷◌, ◌++◌, refl, sym, ap, ◌∙◌, subst, arith, ⊎_elim, ◌≤◌, Bool, ◌||◌, ◌&&◌, length, slice_index}
+use Rattle.std.proofs.Common.{◌≡◌, ℕ, ◌<◌, ◌⊎◌, inl, inr, true, false, List, [], ◌∷◌, ◌++◌, refl, sym, ap, ◌∙◌, subst, arith, ⊎_elim, ◌≤◌, ◌||◌, ◌&&◌, length, slice_index}
 use Rattle.std.specs.List.{list_all}
-use Rattle.std.proofs.lemmas.Bool.{and_parts, both_ways, false_from_ne_true, or_cases, or_left, or_right, cases_lt, not-true, or_parts}
-use Rattle.std.specs.Prelude.{encode_utf8, encode_utf8_all, nat_le, nat_lt, ◌==◌}
+use Rattle.std.proofs.lemmas.Bool.{and_parts, both_ways, false_from_ne_true, or_cases, or_left, or_right, cases_lt}
+use Rattle.std.specs.Prelude.{encode_utf8, encode_utf8_all, nat_le, ◌==◌}
 use Rattle.std.proofs.lemmas.Bool.Decides.{nat_tests}
 use Rattle.std.proofs.lemmas.Str.{byte_from_char, char_from_byte, encodes-append, length-encode, len_utf8_bounds}
 use Rattle.std.proofs.lemmas.List.{length-append}
 use Rattle.unicode_ident.specs.Ident.{is_xid_start}
 use Rattle.unicode_ident.proofs.IdentLemmas.{is_xid_start-is_xid_continue}
-use Rattle.py_lines.specs.Character.{is_mark, is_space, is_word_character, is_word_start, is_quote, is_line_feed, is_return, is_hash, is_backslash, is_break, is_digit, is_operator}
+use Rattle.py_lines.specs.Character.{is_mark, is_space, is_word_character, is_word_start, is_quote, is_line_feed, is_return, is_hash, is_backslash, is_digit, is_operator}
 use Rattle.py_lines.specs.Piece.{Class, mark, space, word, string, operator, comment, join, line_end, is_mark_class, Piece, begins, begins_marked, spelled}
 use Rattle.py_lines.specs.PieceGrammar.{joined, is_prefix, IsPrefix, IsNoneOr, feed, return_feed, return}
 use Rattle.py_lines.specs.FieldStrings.{is_field_prefix, quotes_of}
@@ -19,15 +19,15 @@ use Rattle.py_lines.specs.declared.mode.Start.TheVariants as starts
 use Rattle.py_lines.specs.declared.class.Class.{Class as ByteClass}
 use Rattle.py_lines.specs.declared.class.Class.TheVariants as class
 use Rattle.py_lines.specs.Private.Machine.{start_of}
-use Rattle.py_lines.specs.Private.Marks.{begins_nothing, is_of_class, is_plain}
+use Rattle.py_lines.specs.Private.Marks.{is_of_class}
 use Rattle.py_lines.specs.Private.Run.{is_ascii_word, is_wide_word}
 use Rattle.py_lines.specs.Private.LineTokens.{BeginWithPiece}
 use Rattle.py_lines.proofs.Text.CharacterTests.{operator_ascii, prefix_word, the_one, feed_is, return_is}
 use Rattle.py_lines.proofs.Machine.Starts.{start-mark, start-word, start-space, start-operator, start-feed, start-return, start-quote, start-hash, start-slash}
 use Rattle.py_lines.proofs.Fields.Elsewhere.{quotes_begin}
 use Rattle.py_lines.proofs.Fields.Prefixes.{field_letters}
-use Rattle.py_lines.proofs.LineScan.Runs.{space_low, quote_ascii}
-use Rattle.py_lines.proofs.LineScan.AsciiRuns.{word_byte_continues, word_byte_low, word_byte_starts, is_low, low_is}
+use Rattle.py_lines.proofs.LineScan.AsciiRuns.{space_low, quote_ascii, word_byte_continues, word_byte_low, is_low, low_is}
+use Rattle.py_lines.proofs.LineScan.ClassStarts.{nothing_low, start_by, starts_by}
 use Rattle.py_lines.proofs.LineTokens.Spellings.{fielded_spelling, prefix_low}
 use Rattle.py_lines.proofs.Machine.LiveTexts.{closing-operator}
 use Rattle.py_lines.proofs.FieldMachine.PieceRuns.{opening_operator}
@@ -175,35 +175,10 @@ first_of bytes p b =
 pub some_bytes : (bytes : List ℕ) → (p : Piece) × BeginWithPiece bytes p → 0 < length bytes
 some_bytes bytes (p, b) = (first_of bytes p b).some
 
--- what begins nothing
-nothing_starts : (b : ℕ) → begins_nothing b ≡ true → (b < 128) × (start_of b ≡ starts.Nothing)
-unfolding begins_nothing start_of is_plain is_break is_line_feed is_return
-nothing_starts b h =
-    let both = and_parts (nat_lt b 128) _ h in
-    let low : b < 128 = grind (arith, nat_tests) in
-    let first = or_parts (is_plain b) _ (not-true _ both.1) in
-    let plain = or_parts (is_ascii_word b) _ first.0 in
-    let second = or_parts (is_operator b) _ first.1 in
-    let third = or_parts (is_quote b) _ second.1 in
-    let fourth = or_parts (is_break b) _ third.1 in
-    let ends = or_parts (b == 10) _ fourth.0 in
-    let fifth = or_parts (is_hash b) (is_backslash b) fourth.1 in
-    (low, rw (word_byte_starts b low, plain.0, (or_parts (is_space b) _ plain.1).0, second.0, ends.0, ends.1, third.0, fifth.0, fifth.1))
-
--- the class of the piece that a byte of this class begins
+-- the class of the piece that any byte of this class begins
 abbrev pub OfByte : ByteClass → Class → Type 0
-OfByte class.Word p = (p ≡ word) ⊎ (p ≡ string)
 OfByte class.Wide p = p ≡ word
-OfByte class.Space p = p ≡ space
-OfByte class.Operator p = p ≡ operator
-OfByte class.Opening p = p ≡ operator
-OfByte class.Closing p = p ≡ operator
-OfByte class.Quote p = p ≡ string
-OfByte class.LineFeed p = p ≡ line_end
-OfByte class.Return p = p ≡ line_end
-OfByte class.Hash p = p ≡ comment
-OfByte class.Backslash p = p ≡ join
-OfByte class.Other p = ⊥
+OfByte k p = OfStart (start_by k 0) p
 
 pub class_told : (bytes : List ℕ) (p : Piece) (k : ByteClass) → BeginWithPiece bytes p → is_of_class k (slice_index bytes 0) ≡ true
     → OfByte k p.class
@@ -215,49 +190,26 @@ class_told bytes p k b so = go k so
     c : ℕ
     c = slice_index bytes 0
 
-    at : (s : Start) → c < 128 → start_of c ≡ s → OfStart s p.class
-    at s low starts = subst (λ (t : Start). OfStart t p.class) (ap start_of (f.low low) ∙ starts) f.begun.so
-
-    operates : is_operator c ≡ true → p.class ≡ operator
-    operates h = at starts.Operator (operator_ascii c h) (start-operator c h)
+    at : (j : ByteClass) → c < 128 → is_of_class j c ≡ true → OfStart (start_by j c) p.class
+    at j low h = subst (λ (t : Start). OfStart t p.class) (ap start_of (f.low low) ∙ starts_by j c low h) f.begun.so
 
     go : (j : ByteClass) → is_of_class j c ≡ true → OfByte j p.class
-    go class.Word h = at _ (word_byte_low c h) (start-word c (word_byte_starts c (word_byte_low c h) ∙ h))
+    go class.Word h = at class.Word (word_byte_low c h) h
     go class.Wide h = ⊎_elim (λ is. is.0) (λ low. absurd (omega (arith, low, f.high (grind (arith, nat_tests))))) f.begun.low
-    go class.Space h = at (starts.Open modes.Space) (space_low c h) (start-space c h)
-    go class.Operator h = operates (and_parts (is_operator c) _ h).0
-    go class.Opening h = operates (opening_operator c h)
-    go class.Closing h = operates (closing-operator c h)
-    go class.Quote h = at (starts.Open (modes.Opened c)) (quote_ascii c h) (start-quote c h)
-    go class.LineFeed h = at starts.LineEnd (omega (arith, feed_is c h)) (start-feed c h)
-    go class.Return h = at (starts.Open modes.Return) (omega (arith, return_is c h)) (start-return c h)
-    go class.Hash h = at (starts.Open modes.Comment) (omega (arith, hash_is c h)) (start-hash c h)
-    go class.Backslash h = at (starts.Open modes.Backslash) (omega (arith, slash_is c h)) (start-slash c h)
-    go class.Other h = let none = nothing_starts c h in at starts.Nothing none.0 none.1
+    go class.Space h = at class.Space (space_low c h) h
+    go class.Operator h = at class.Operator (operator_ascii c (and_parts (is_operator c) _ h).0) h
+    go class.Opening h = at class.Opening (operator_ascii c (opening_operator c h)) h
+    go class.Closing h = at class.Closing (operator_ascii c (closing-operator c h)) h
+    go class.Quote h = at class.Quote (quote_ascii c h) h
+    go class.LineFeed h = at class.LineFeed (omega (arith, feed_is c h)) h
+    go class.Return h = at class.Return (omega (arith, return_is c h)) h
+    go class.Hash h = at class.Hash (omega (arith, hash_is c h)) h
+    go class.Backslash h = at class.Backslash (omega (arith, slash_is c h)) h
+    go class.Other h = at class.Other (nothing_low c h) h
 
 pub class_is : {bytes : List ℕ} {p : Piece} {j k : ByteClass} → BeginWithPiece bytes p → is_of_class j (slice_index bytes 0) ≡ true → j ≡ k
     → OfByte k p.class
 class_is {bytes = bytes} {p = p} {j = j} b so is = subst (λ (i : ByteClass). OfByte i p.class) is (class_told bytes p j b so)
-
--- bytes begin with one of their first byte's class
-first_passes : (passes : ℕ → Bool) (bytes : List ℕ) → 0 < length bytes → passes (slice_index bytes 0) ≡ true → begins passes bytes ≡ true
-first_passes passes [] some h = absurd (omega (arith, some))
-first_passes passes (b ∷ bs) some h = h
-
-pub begins_class : {bytes : List ℕ} {p : Piece} {j k : ByteClass} → BeginWithPiece bytes p → is_of_class j (slice_index bytes 0) ≡ true
-    → j ≡ k
-    → begins (is_of_class k) bytes ≡ true
-begins_class {bytes = bytes} {p = p} {k = k} b so is =
-    first_passes (is_of_class k) bytes (first_of bytes p b).some (ap (λ (i : ByteClass). is_of_class i (slice_index bytes 0)) (sym is) ∙ so)
-
--- bytes of words begin as words do
-pub wide_begins : {bytes : List ℕ} {p : Piece} {j : ByteClass} → BeginWithPiece bytes p → is_of_class j (slice_index bytes 0) ≡ true
-    → (j ≡ class.Word) ⊎ (j ≡ class.Wide) → begins is_wide_word bytes ≡ true
-wide_begins {bytes = bytes} b so how = go bytes (⊎_elim (λ is. inl (begins_class b so is)) (λ is. inr (begins_class b so is)) how)
-  where
-    go : (cs : List ℕ) → (begins is_ascii_word cs ≡ true) ⊎ (begins (nat_le 128) cs ≡ true) → begins is_wide_word cs ≡ true
-    go [] h = ⊎_elim (λ none. none) (λ none. none) h
-    go (c ∷ cs) h = ⊎_elim (or_left (is_ascii_word c) (nat_le 128 c)) (or_right (is_ascii_word c) (nat_le 128 c)) h
 
 -- what begins a word goes on with one, if it isn't ASCII
 start_continues : (c : ℕ) → 128 ≤ c → is_word_start c ≡ true → is_word_character c ≡ true

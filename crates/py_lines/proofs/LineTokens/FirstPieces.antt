@@ -1,10 +1,9 @@
 -- The piece that bytes begin with, where it is no string, as its line takes it: how long it is, and what tells a word from a prefix.
 use Rattle.std.proofs.Common.{◌≡◌, ℕ, zero, suc, ◌≤◌, Bool, true, false, List, [], ◌∷◌, ◌++◌, length, refl, ap, ◌∙◌, arith, zero-add, ⊎_elim, ◌+◌, ◌<◌, ◌⊎◌, inl, inr, ◌&&◌, drop, slice_index, sym, subst, take, append_assoc}
-use Rattle.std.specs.Prelude.{encode_utf8, encode_utf8_all, not, codes, nat_le}
+use Rattle.std.specs.Prelude.{encode_utf8_all, not, codes, nat_le}
 use Rattle.std.specs.List.{list_all, list_any}
 use Rattle.std.specs.Char.{is_ascii_digit}
 use Rattle.std.proofs.lemmas.Bool.{and_from, and_parts, both_ways, cases_lt, false_from_ne_true, or_parts, or_cases}
-use Rattle.std.proofs.lemmas.List.Folds.{list_all-append}
 use Rattle.std.proofs.Math.Utf8.{encode}
 use Rattle.std.proofs.lemmas.Bool.Decides.{nat_tests}
 use Rattle.std.proofs.lemmas.Str.{encodes-append}
@@ -15,22 +14,22 @@ use Rattle.py_lines.specs.PieceGrammar.{IsLineEnd, feed, return_feed, return}
 use Rattle.py_lines.specs.Fields.{InClass, MayPrecede, fielded}
 use Rattle.py_lines.specs.LogicalLine.{byte_len, first_or_zero, line_ends}
 use Rattle.py_lines.specs.declared.token.TokKind.TheVariants as kind
-use Rattle.py_lines.specs.declared.mode.Mode.TheVariants as modes
 use Rattle.py_lines.specs.declared.line_tokens.Role.TheVariants as roles
 use Rattle.py_lines.specs.declared.line_tokens.LinePiece.{LinePiece}
 use Rattle.py_lines.specs.declared.class.Class.TheVariants as class
 use Rattle.py_lines.specs.declared.token.TokKind.{TokKind}
 use Rattle.py_lines.specs.Private.Run.{IsRunOf, is_comment_byte, is_ascii_word, is_wide_word, word_spelling}
-use Rattle.py_lines.specs.Private.LineTokens.{BeginWithPiece, IsTakenFor, line_end_len, role_of, token_piece, ends_prefix, is_prefix_word, word_kind}
+use Rattle.py_lines.specs.Private.LineTokens.{BeginWithPiece, IsTakenFor, line_end_len, role_of, token_piece, ends_prefix, word_kind}
 use Rattle.py_lines.specs.Private.ScanMachine.{begins_string}
-use Rattle.py_lines.proofs.Text.CharacterTests.{Each, feed_is, operator_ascii, none_of}
+use Rattle.py_lines.proofs.Text.CharacterTests.{feed_is, operator_ascii, none_of}
+use Rattle.py_lines.proofs.Text.HighBytes.{IsEvenAbove, encoded_begins, encoded_passes, low_even}
+use Rattle.py_lines.proofs.Text.LineEnds.{unbroken}
 use Rattle.py_lines.proofs.Text.Utf8Shapes.{one}
-use Rattle.py_lines.proofs.LineTokens.Spellings.{high_bytes, fielded_spelling, prefix_encoded}
+use Rattle.py_lines.proofs.LineTokens.Spellings.{fielded_spelling, prefix_encoded}
 use Rattle.py_lines.proofs.Lexings.LineEnds.{line_text}
 use Rattle.py_lines.proofs.FieldScans.TextLengths.{rest_is, rest_of}
 use Rattle.py_lines.proofs.LogicalLines.NextLine.{begins-prefix}
-use Rattle.py_lines.proofs.LineScan.Runs.{all_no_break, break_low, line_ends-run, space_low, quote_ascii}
-use Rattle.py_lines.proofs.LineScan.AsciiRuns.{word_byte_continues, word_byte_starts, operator-no_break}
+use Rattle.py_lines.proofs.LineScan.AsciiRuns.{break_low, space_low, quote_ascii, word_byte_continues, word_byte_starts, operator-no_break}
 use Rattle.py_lines.proofs.LineTokens.FirstCharacters.{hash_is, slash_is, spelled_bytes, IsQuoted, class_told, first_of, prefix_is_word, quoted, word_ends}
 
 -- what passes one test passes another, where each number does
@@ -54,37 +53,6 @@ run_length passes (x ∷ xs) ys (suc n) run all ends =
       ends = λ less. run.ends (omega (arith, less));
     }) (and_parts (passes x) (list_all passes xs) all).1 ends)
 
--- whether a test makes no difference between numbers from 128 on
-abbrev pub IsEvenAbove : (ℕ → Bool) → Type 0
-IsEvenAbove passes = (c b : ℕ) → 128 ≤ c → 128 ≤ b → passes c ≡ passes b
-
--- then the bytes of a character pass where it does
-high_pass : (passes : ℕ → Bool) → IsEvenAbove passes → (c : ℕ) → 128 ≤ c → passes c ≡ true → (bs : List ℕ) → Each (λ b. 128 ≤ b) bs
-    → list_all passes bs ≡ true
-high_pass passes even c high h [] each = refl
-high_pass passes even c high h (b ∷ bs) each = and_from (passes b) _ (even b c each.0 high ∙ h) (high_pass passes even c high h bs each.1)
-
-character_passes : (passes : ℕ → Bool) → IsEvenAbove passes → (c : ℕ) → passes c ≡ true → list_all passes (encode_utf8 c) ≡ true
-character_passes passes even c h = ⊎_elim (λ low. ap (list_all passes) (one c low) ∙ and_from (passes c) true h refl)
-    (λ high.
-    let bytes = high_bytes c high in
-    ap (list_all passes) bytes.is ∙ high_pass passes even c high h (bytes.first ∷ bytes.others) bytes.high) (cases_lt c 128)
-
-pub encoded_passes : (passes : ℕ → Bool) → IsEvenAbove passes → (cs : List ℕ) → list_all passes cs ≡ true
-    → list_all passes (encode_utf8_all cs) ≡ true
-encoded_passes passes even [] h = refl
-encoded_passes passes even (c ∷ cs) h =
-    let parts = and_parts (passes c) (list_all passes cs) h in
-    list_all-append passes (encode_utf8 c) (encode_utf8_all cs)
-    ∙ and_from _ _ (character_passes passes even c parts.0) (encoded_passes passes even cs parts.1)
-
-pub encoded_begins : (passes : ℕ → Bool) → IsEvenAbove passes → (cs : List ℕ) → begins passes (encode_utf8_all cs) ≡ begins passes cs
-encoded_begins passes even [] = refl
-encoded_begins passes even (c ∷ cs) = ⊎_elim (λ low. ap (λ t. begins passes (t ++ encode_utf8_all cs)) (one c low))
-    (λ high.
-    let bytes = high_bytes c high in
-    ap (λ t. begins passes (t ++ encode_utf8_all cs)) bytes.is ∙ even bytes.first c bytes.high.0 high) (cases_lt c 128)
-
 -- so a run of characters is a run of their bytes
 pub encoded_length : (passes : ℕ → Bool) (cs rest : List ℕ) (n : ℕ) → IsEvenAbove passes
     → IsRunOf passes (encode_utf8_all cs ++ encode_utf8_all rest) n → list_all passes cs ≡ true → begins passes rest ≡ false
@@ -93,19 +61,12 @@ encoded_length passes cs rest n even run all ends =
     run_length passes (encode_utf8_all cs) (encode_utf8_all rest) n run (encoded_passes passes even cs all)
     (encoded_begins passes even rest ∙ ends)
 
--- a test that ASCII alone passes
-pub low_even : (passes : ℕ → Bool) → ((c : ℕ) → passes c ≡ true → c < 128) → IsEvenAbove passes
-low_even passes low c b one two = none c one ∙ sym (none b two)
-  where
-    none : (d : ℕ) → 128 ≤ d → passes d ≡ false
-    none d high = false_from_ne_true _ (λ h. omega (arith, high, low d h))
-
 comment_even : IsEvenAbove is_comment_byte
 comment_even c b one two = ap not (low_even is_break break_low c b one two)
 
--- characters without a line end
-pub unbroken : (cs : List ℕ) → list_all (λ d. not (is_break d)) cs ≡ true → 0 ≡ line_ends cs
-unbroken cs all = sym (line_ends-run [] cs all)
+space_unbroken : (c : ℕ) → is_space c ≡ true → not (is_break c) ≡ true
+unfolding is_space is_break
+space_unbroken c h = ap not (none_of is_break (codes " \t" ++ 12 ∷ []) c refl h)
 
 all_other : (cs : List ℕ) → list_any is_break cs ≡ false → list_all is_comment_byte cs ≡ true
 all_other [] none = refl
@@ -170,7 +131,7 @@ module _ {bytes : List ℕ} {p : Piece} (b : BeginWithPiece bytes p) where
       let all : list_all is_space p.text ≡ true = shape.3 in
       taken space _ is refl
       (run_taken is_space n (low_even is_space space_low) run all (begins-prefix is_space rest b.text.after (precedes space is)))
-      (unbroken p.text (all_no_break modes.Space p.text all))
+      (unbroken p.text (all_also is_space (λ d. not (is_break d)) space_unbroken p.text all))
 
   -- the bytes after the first, which is ASCII
   pub after_first : (c : ℕ) (cs : List ℕ) → p.text ≡ c ∷ cs → c < 128 → bytes ≡ c ∷ (encode_utf8_all cs ++ encode_utf8_all rest)
@@ -258,7 +219,7 @@ break_not_wide : (c : ℕ) → is_break c ≡ true → is_wide_word c ≡ false
 unfolding is_break is_ascii_word
 break_not_wide c h = none_of is_wide_word (codes "\n\r") c refl h
 
-pub wide_unbroken : (cs : List ℕ) → list_all is_wide_word cs ≡ true → list_all (λ d. not (is_break d)) cs ≡ true
+wide_unbroken : (cs : List ℕ) → list_all is_wide_word cs ≡ true → list_all (λ d. not (is_break d)) cs ≡ true
 wide_unbroken =
     all_also is_wide_word (λ d. not (is_break d)) (λ c wide. ap not (false_from_ne_true _ (λ breaks. both_ways _ (break_not_wide c breaks) wide)))
 
@@ -269,11 +230,6 @@ first_byte passes (b ∷ bs) h = h
 -- where bytes are cut that begin with these
 cut_at : (bytes xs ys : List ℕ) (n : ℕ) → bytes ≡ xs ++ ys → n ≡ length xs → (take n bytes ≡ xs) × (drop n bytes ≡ ys)
 cut_at bytes xs ys n is size = rw (is, size) (take-append_seam xs ys, drop-append_seam xs ys)
-
--- a word whose spelling begins a string is a prefix
-pub prefix_word : (word : List ℕ) → begins_string (word_spelling word) ≡ true → is_prefix_word word ≡ true
-prefix_word [] begun = refl
-prefix_word (c ∷ cs) begun = begun
 
 -- the spelling of the word
 prefix_told : (prefix : List ℕ) (c : ℕ) (cs : List ℕ) → prefix ≡ c ∷ cs

@@ -14,7 +14,7 @@ use Rattle.py_lines.specs.Character.{is_digit, is_mark, is_space, is_line_feed, 
 use Rattle.py_lines.specs.Piece.{Class, mark, word, Piece, begins, spelled, space, begins_marked, is_mark_class}
 use Rattle.py_lines.specs.Balance.{depth_after}
 use Rattle.py_lines.specs.LogicalLine.{byte_len, is_code_class, is_comment_class, line_ends, tokens_of_piece, indent_of, kind_of, space_len, tokens_from}
-use Rattle.py_lines.specs.Fields.{InClass}
+use Rattle.py_lines.specs.Fields.{AreReadBefore, InClass}
 use Rattle.py_lines.specs.declared.line_tokens.LinePiece.{LinePiece}
 use Rattle.py_lines.specs.declared.line_tokens.LineTokens.{LineTokens}
 use Rattle.py_lines.specs.declared.line_tokens.Role.TheVariants as roles
@@ -29,10 +29,11 @@ use Rattle.py_lines.proofs.LogicalLines.Cuts.{byte_len-append}
 use Rattle.py_lines.proofs.Lexings.FirstLines.{piece_some}
 use Rattle.py_lines.proofs.LineScan.LineCount.{line_ends-bytes}
 use Rattle.py_lines.proofs.Text.CharacterTests.{mark_is}
-use Rattle.py_lines.proofs.LogicalLines.NextLine.{begins-prefix}
-use Rattle.py_lines.proofs.LineScan.Runs.{space_low}
+use Rattle.py_lines.proofs.Text.HighBytes.{low_even}
+use Rattle.py_lines.proofs.LogicalLines.NextLine.{begins-prefix, line_ends-spelled}
+use Rattle.py_lines.proofs.LineScan.AsciiRuns.{space_low}
 use Rattle.py_lines.proofs.LineTokens.FirstCharacters.{begins_so, class_told, unmarked_first}
-use Rattle.py_lines.proofs.LineTokens.FirstPieces.{in_class, low_even, precedes, run_taken}
+use Rattle.py_lines.proofs.LineTokens.FirstPieces.{in_class, precedes, run_taken}
 
 -- what a line holds, with code or without, and with comments or without: with one more piece, and with more of them
 abbrev kind_by : Bool → Bool → UnitKind
@@ -87,16 +88,22 @@ pub record IsTakenNext (text : List ℕ) (pieces : List Piece) (first start line
   pub more : (u : LineTokens) → AddsPiece t piece start line u
       → (left : List Piece) × HaveReadOf text pieces left first (start + piece.len) (line + piece.line_ends) u
 
+-- the line ends of pieces are those of the first and of the others
+line_ends-first : (p : Piece) (ps : List Piece) (after : List ℕ) → AreReadBefore (p ∷ ps) after
+    → line_ends (spelled (p ∷ ps)) ≡ line_ends p.text + line_ends (spelled ps)
+line_ends-first p ps after fit = omega (arith, line_ends-spelled (p ∷ ps) after fit, line_ends-spelled ps after fit.3)
+
 -- the next piece of a line that isn't read to its end
 pub record HasNext (text : List ℕ) (pieces : List Piece) (first start line : ℕ) (t : LineTokens) : Type 0 where
   pub p : Piece
   pub begin : BeginWithPiece (rest_of text start) p
   pub taken : (piece : LinePiece) → IsTakenFor p piece → IsTakenNext text pieces first start line t piece
 
-pub has_next : {text : List ℕ} {pieces : List Piece} {first start line : ℕ} {t : LineTokens} (left : List Piece)
+pub has_next : {text : List ℕ} {pieces : List Piece} {first start line : ℕ} {t : LineTokens} (left : List Piece) → AreLineText text pieces
     → HaveReadOf text pieces left first start line t → start < length text → HasNext text pieces first start line t
-has_next {text = text} {start = start} [] h inside = absurd (omega (arith, inside, ap length h.are.spell, length-drop start text))
-has_next {text = text} {first = first} {start = start} {line = line} {t = t} (p ∷ qs) h inside =
+has_next {text = text} {start = start} [] is h inside = absurd (omega (arith, inside, ap length h.are.spell, length-drop start text))
+has_next {text = text} {pieces = pieces} {first = first} {start = start} {line = line} {t = t} (p ∷ qs) is h inside =
+    let lines : line_ends (spelled (p ∷ qs)) ≡ line_ends p.text + line_ends (spelled qs) = line_ends-first p qs h.are.after h.are.fit in
     let some : 0 < byte_len p.text = omega (arith, piece_some p.class p.text h.are.fit.0, length-le-encodes p.text) in
     let within : start + byte_len p.text ≤ length text
     = omega (arith, inside, ap length h.are.spell, byte_len-append p.text (spelled qs), length-drop start text) in
@@ -111,7 +118,7 @@ has_next {text = text} {first = first} {start = start} {line = line} {t = t} (p 
       taken = λ piece taken. record {
         some = omega (arith, some, taken.len);
         within = omega (arith, within, taken.len);
-        lines = omega (arith, within, h.number, taken.line_ends, line_ends-bytes p.text);
+        lines = omega (arith, h.lines, lines, taken.line_ends, line_ends-bytes (spelled pieces), ap length is.spell);
         more = λ u adds. (
           qs,
           record {
@@ -120,7 +127,7 @@ has_next {text = text} {first = first} {start = start} {line = line} {t = t} (p 
             are = subst (λ (l : List ℕ). AreTextAt (depth_after h.depth p) l qs)
                 (drop-drop (byte_len p.text) start text ∙ ap (λ (n : ℕ). drop (start + n) text) (sym taken.len))
                 (text_after h.depth (drop start text) p qs h.are);
-            number = omega (arith, h.number, taken.len, taken.line_ends, line_ends-bytes p.text);
+            lines = omega (arith, h.lines, lines, taken.line_ends);
             kind = h.kind ∙ ap (λ k. kind_on k qs) (sym (adds.kind ∙ ap (λ r. kind_with t.kind r) taken.role));
             indent = adds.indent ∙ h.indent;
             tokens = h.tokens ∙ rw (adds.tokens, taken.role, taken.len, taken.line_ends, append_assoc, own_token p.class p.text);
@@ -131,8 +138,10 @@ has_next {text = text} {first = first} {start = start} {line = line} {t = t} (p 
 
 -- a line that is read to its end
 pub whole_read : {text : List ℕ} {pieces : List Piece} {first start line : ℕ} {t : LineTokens} (left : List Piece)
-    → HaveReadOf text pieces left first start line t → length text ≤ start → AreTokensOf pieces first t
-whole_read [] h end = record { kind = sym h.kind; indent = h.indent; tokens = sym (h.tokens ∙ append-nil _) }
+    → HaveReadOf text pieces left first start line t → length text ≤ start
+    → AreTokensOf pieces first t × (line ≡ first + line_ends (spelled pieces))
+whole_read {line = line} [] h end =
+    (record { kind = sym h.kind; indent = h.indent; tokens = sym (h.tokens ∙ append-nil _) }, sym (add-zero line) ∙ h.lines)
 whole_read {text = text} {start = start} (p ∷ qs) h end =
     let some = piece_some p.class p.text h.are.fit.0 in
     let left = ap length h.are.spell ∙ length-drop start text in
@@ -222,14 +231,15 @@ module _ (text : List ℕ) (start n first : ℕ) (t : LineTokens) (begins : star
     (blank : t.kind ≡ unit_kind.Blank) (indent : t.indent ≡ n) (none : t.tokens.items ≡ []) where
   begun_before : (pieces left : List Piece) (depth : ℕ) → AreTextAt depth (drop start text) left → begins_marked left ≡ false
       → kind_of pieces ≡ kind_of left → tokens_from 0 first pieces ≡ tokens_from start first left → indent_of pieces ≡ first_space left
+      → line_ends (spelled left) ≡ line_ends (spelled pieces)
       → (others : List Piece) × HaveReadOf text pieces others first start first t
-  begun_before pieces left depth are unmarked kind tokens indent_is = (
+  begun_before pieces left depth are unmarked kind tokens indent_is lines = (
     left,
     record {
       unmarked = unmarked;
       depth = depth;
       are = are;
-      number = omega arith;
+      lines = ap (λ (n : ℕ). first + n) lines;
       kind = kind ∙ kinds_on false false left ∙ ap (λ k. kind_on k left) (sym blank);
       indent = indent ∙ first_read _ depth left n are unmarked (subst (λ l. IsRunOf is_space l n) (rest_is text start) run) ∙ sym indent_is;
       tokens = tokens ∙ ap (λ l. l ++ tokens_from start first left) (sym none);
@@ -246,14 +256,14 @@ module _ (text : List ℕ) (start n first : ℕ) (t : LineTokens) (begins : star
       (ap (λ (k : Class). kind_of (record { class = k; text = p.text } ∷ ps)) class_is)
       (ap (λ (k : Class). tokens_from 0 first (record { class = k; text = p.text } ∷ ps)) class_is
       ∙ rw (zero-add (byte_len p.text), place, counted, add-zero first))
-      (marked_indent p ps class_is)
+      (marked_indent p ps class_is) (omega (arith, line_ends-first p ps is.after is.fit, counted))
 
   begun_unmarked : (ps : List Piece) → AreLineText text ps → begins_marked ps ≡ false
       → (left : List Piece) × HaveReadOf text ps left first start first t
   begun_unmarked ps is unmarked =
       let place = sym (begins ∙ no_mark text ps is unmarked) in
       begun_before ps ps 0 (subst (λ k. AreTextAt 0 (drop k text) ps) place is) unmarked refl
-      (ap (λ k. tokens_from k first ps) place) (unmarked_indent ps unmarked)
+      (ap (λ k. tokens_from k first ps) place) (unmarked_indent ps unmarked) refl
 
   pub begun : HaveRead text first start first t
   begun [] is = begun_unmarked [] is refl

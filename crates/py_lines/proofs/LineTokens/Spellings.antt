@@ -1,6 +1,6 @@
 -- The spelling of a word, also as its bytes have it, says whether the word is the prefix of a string.
 use Rattle.std.proofs.Common.{◌≡◌, ℕ, ◌≤◌, true, false, Bool, ◌||◌, List, [], ◌∷◌, refl, sym, ap, ◌∙◌, arith, ⊎_elim}
-use Rattle.std.specs.Prelude.{codes, encode_utf8, encode_utf8_all, nat_le}
+use Rattle.std.specs.Prelude.{codes, encode_utf8_all, nat_le}
 use Rattle.std.specs.List.{list_all, list_any}
 use Rattle.std.proofs.Math.Bool.{and-false, or-false}
 use Rattle.std.proofs.lemmas.Bool.{and_from, or_right, both_ways, cases_lt, cases_Bool, leb-false, lt-ltb, false_from_ne_true}
@@ -14,8 +14,8 @@ use Rattle.py_lines.specs.declared.mode.Spelling.TheVariants as spellings
 use Rattle.py_lines.specs.Private.Machine.{first_spelling, spelling_on}
 use Rattle.py_lines.specs.Private.ScanMachine.{begins_string, is_field_spelling}
 use Rattle.py_lines.specs.Private.Run.{word_spelling}
-use Rattle.py_lines.proofs.Text.CharacterTests.{Each, none_of}
-use Rattle.py_lines.proofs.Text.Utf8Shapes.{two, three, four}
+use Rattle.py_lines.proofs.Text.CharacterTests.{none_of}
+pub use Rattle.py_lines.proofs.Text.HighBytes.{high_bytes}
 use Rattle.py_lines.proofs.LineScan.AsciiRuns.{is_low, low_encodes, low_is}
 use Rattle.py_lines.proofs.Machine.Spellings.{prefix_spelling, other_begins, word_tells}
 
@@ -63,22 +63,6 @@ prefix_low (a ∷ cs) begun = by cs (fielded_spelling a cs ∙ begun)
         and_from (is_low a) _ (low_unless a (λ no. both_ways _ (rw (no.0, no.1, no.2, no.3)) is))
         (and_from (is_low b) true (low_unless b (λ no. both_ways _ (simp (no.0, no.1, no.2, no.3, and-false)) is)) refl)
     by (b ∷ c ∷ others) is = absurd (both_ways _ refl is)
-
--- the bytes of a character that isn't ASCII
-pub record HighBytes (c : ℕ) : Type 0 where
-  pub first : ℕ
-  pub others : List ℕ
-  pub is : encode_utf8 c ≡ first ∷ others
-  pub high : Each (λ b. 128 ≤ b) (first ∷ others)
-
-pub high_bytes : (c : ℕ) → 128 ≤ c → HighBytes c
-high_bytes c high = ⊎_elim
-    (λ short. record { first = _; others = _; is = two c high short; high = (omega arith, (omega arith, tt)) })
-    (λ long. ⊎_elim
-    (λ short. record { first = _; others = _; is = three c long short; high = (omega arith, (omega arith, (omega arith, tt))) })
-    (λ longer. record { first = _; others = _; is = four c longer; high = (omega arith, (omega arith, (omega arith, (omega arith, tt)))) })
-    (cases_lt c 65536))
-    (cases_lt c 2048)
 
 -- bytes of ASCII are the characters that they spell
 low_encoded : (cs : List ℕ) → list_all is_low (encode_utf8_all cs) ≡ true → encode_utf8_all cs ≡ cs

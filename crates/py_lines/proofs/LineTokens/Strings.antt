@@ -4,32 +4,30 @@ use Rattle.std.specs.Prelude.{encode_utf8_all, if◌then◌else◌}
 use Rattle.std.specs.Str.{all_scalars, StartsWithNoChar}
 use Rattle.std.specs.Char.{len_utf8}
 use Rattle.std.specs.List.{list_all}
-use Rattle.std.proofs.lemmas.Bool.{both_ways, cases_Bool, lt-ltb, cases_lt, false_from_ne_true, not-true, and_parts}
-use Rattle.std.proofs.lemmas.List.{append_cancel_left, append_cancel_right, length-take-le, take-append-drop, drop_all}
+use Rattle.std.proofs.lemmas.Bool.{and_from, both_ways, cases_Bool, lt-ltb, cases_lt, false_from_ne_true, not-true, and_parts}
+use Rattle.std.proofs.lemmas.List.{append_cancel_left, length-take-le, take-append-drop, drop_all}
+use Rattle.std.proofs.Math.Seq.{take-append_seam}
 use Rattle.std.proofs.lemmas.Str.{cons_from_encodes, encodes_same, length-le-encodes, encodes-append}
-use Rattle.py_lines.specs.Character.{is_line_feed, is_break, is_mark, is_quote, is_word_character, is_word_start}
+use Rattle.py_lines.specs.Character.{is_line_feed, is_mark, is_quote, is_word_character, is_word_start}
 use Rattle.py_lines.specs.Piece.{Class, operator, line_end, string, Piece, spelled, begins}
 use Rattle.py_lines.specs.Fields.{InClass, ShallowFields}
-use Rattle.py_lines.specs.LogicalLine.{byte_len, line_ends}
+use Rattle.py_lines.specs.LogicalLine.{byte_len}
 use Rattle.py_lines.specs.declared.mode.Mode.{Mode}
 use Rattle.py_lines.specs.declared.mode.Mode.TheVariants as modes
 use Rattle.py_lines.specs.declared.mode.Move.{Move}
 use Rattle.py_lines.specs.declared.mode.Move.TheVariants as moves
 use Rattle.py_lines.specs.declared.mode.Start.{Start}
 use Rattle.py_lines.specs.declared.mode.Start.TheVariants as starts
-use Rattle.py_lines.specs.declared.field_scan.Progress.{Progress}
-use Rattle.py_lines.specs.declared.field_scan.Progress.TheVariants as progress
+use Rattle.py_lines.specs.declared.scan.Progress.{Progress}
+use Rattle.py_lines.specs.declared.scan.Progress.TheVariants as progress
 use Rattle.py_lines.specs.declared.scan.Scan.{Scan}
 use Rattle.py_lines.specs.declared.mode.Spelling.{Spelling}
-use Rattle.py_lines.specs.declared.plain_strings.Passed.{Passed}
-use Rattle.py_lines.specs.declared.token.TokKind.TheVariants as kind
-use Rattle.py_lines.specs.Private.FieldMachine.{FieldScanned, field_steps_from}
 use Rattle.py_lines.specs.Private.Machine.{Scanned, fresh, text_start, class_of, closed, started, moved, move_of, start_of, Bracket, brackets_of, first_spelling, spelling_on}
-use Rattle.py_lines.specs.Private.ScanMachine.{IsScanSound, StringsFit, line_begun, meet_of, move_at, scan_step, scan_steps, begins_string as opens_string, is_field_spelling}
-use Rattle.py_lines.specs.Private.FieldScan.{IsInPlace, ends_piece_before, is_settled, line_pieces}
-use Rattle.py_lines.specs.Private.Scan.{Counts, HasBegun, IsAtLineEnd, IsUnderWay, Takes, TakesNext, is_return_mode, none_open, stack_if, line_start}
-use Rattle.py_lines.specs.Private.Run.{BeginsWith, HoldsRun, Reached, is_free, word_spelling}
-use Rattle.py_lines.specs.Private.LineTokens.{AreTextAt, BeginWithPiece, IsFirstString, is_prefix_word, role_of, string_piece, token_piece}
+use Rattle.py_lines.specs.Private.ScanMachine.{IsScanSound, StringsFit, meet_of, move_at, scan_step, scan_steps, begins_string as opens_string, is_field_spelling}
+use Rattle.py_lines.specs.Private.Scan.{HoldsRun, IsInPlace, ends_piece_before, is_settled}
+use Rattle.py_lines.specs.Private.LineScan.{HasBegun, IsAtLineEnd, IsUnderWay, Takes, TakesNext, none_open, stack_if, line_start}
+use Rattle.py_lines.specs.Private.Run.{BeginsWith, Reached, is_free, word_spelling}
+use Rattle.py_lines.specs.Private.LineTokens.{AreTextAt, BeginWithPiece, IsStringLen, is_prefix_word}
 use Rattle.py_lines.specs.Private.FieldText.{IsQuotedText}
 use Rattle.py_lines.specs.Private.Outline.{BeforePiece, HasClosedString, HasString, IsInPieceAfter, Passes, PassesString, StringBegins, StringEnds}
 use Rattle.py_lines.proofs.Text.Incomplete.{text_none}
@@ -41,7 +39,6 @@ use Rattle.py_lines.proofs.Fields.Nesting.{string_map}
 use Rattle.py_lines.proofs.Machine.EarlierPieces.{closed_grows, started_grows}
 use Rattle.py_lines.proofs.Machine.LiveTexts.{keeps}
 use Rattle.py_lines.proofs.Machine.PieceSteps.{pieces_at, steps_by-append, scanned, word_by}
-use Rattle.py_lines.proofs.FieldSoundness.LiveTexts.{steps-append}
 use Rattle.py_lines.proofs.ScanMachine.Advance.{steps_push}
 use Rattle.py_lines.proofs.ScanMachine.Follows.{some_is}
 use Rattle.py_lines.proofs.ScanMachine.Reaching.{reach}
@@ -51,19 +48,19 @@ use Rattle.py_lines.proofs.ScanMachine.Steps.{StopsBefore, begun, stops-free, gr
 use Rattle.py_lines.proofs.Lexings.FirstLines.{piece_some}
 use Rattle.py_lines.proofs.Lexings.LinePrefix.{found_on, kept_on}
 use Rattle.py_lines.proofs.LineScan.PieceEnd.{closed_text, no_class_bracket}
-use Rattle.py_lines.proofs.LineScan.LineSteps.{begun_way, sound_steps, way_placed, way_reached, way_returned, way_tied}
+use Rattle.py_lines.proofs.LineScan.LineSteps.{begun_way, sound_steps, way_placed, way_reached, way_returned, way_stop, way_tied}
+use Rattle.py_lines.proofs.LineScan.NextCharacter.{is_return_mode}
 use Rattle.py_lines.proofs.LineScan.LineStops.{Stands, stands_reached}
-use Rattle.py_lines.proofs.LineScan.Runs.{goes_through, reached_run, tied_pieces, ends-run, line_ends-run, quote_ascii}
+use Rattle.py_lines.proofs.LineScan.Runs.{reached_run, tied_pieces}
 use Rattle.py_lines.proofs.LineScan.TextSteps.{begun_sound, begins_any}
-use Rattle.py_lines.proofs.LineTokens.FirstCharacters.{begins_so, unmarked_first, as_word}
+use Rattle.py_lines.proofs.LineTokens.FirstCharacters.{begins_so, unmarked_first, as_word, spelled_bytes}
 use Rattle.py_lines.proofs.Machine.Starts.{start-quote, start-word}
-use Rattle.py_lines.proofs.LineScan.AsciiRuns.{is_low, low_encodes, low_is, quote-no_break}
-use Rattle.py_lines.proofs.SimpleLines.Code.{holds_one, one_unreturned}
+use Rattle.py_lines.proofs.LineScan.AsciiRuns.{ascii_scalar, is_low, low_encodes, low_is, quote_ascii}
 use Rattle.py_lines.proofs.SimpleLines.FieldStrings.{fields_passed, fields_some}
 use Rattle.py_lines.proofs.SimpleLines.Strings.{after_word}
 use Rattle.py_lines.proofs.LineScan.OpenPieces.{breaks_ends, ends_breaks, free_settled, settled_free}
 use Rattle.py_lines.proofs.LineTokens.Spellings.{fielded_spelling, prefix_low}
-use Rattle.py_lines.proofs.LineTokens.FirstPieces.{first_byte, wide_unbroken, word_wide}
+use Rattle.py_lines.proofs.LineTokens.FirstPieces.{first_byte}
 use Rattle.py_lines.proofs.FieldScans.TextLengths.{rest_is, rest_of}
 
 -- the machine comes from a line's start to this state
@@ -304,19 +301,19 @@ one_closed s c none on = go (move_at s c) refl
 
 -- the scan of the bytes has come to these, and has closed nothing
 pub record InFirst (bytes : List ℕ) (scan : Scan) (rest : List ℕ) : Type 0 where
-  pub reached : Reached modes.Free 1 bytes scan rest
+  pub reached : Reached modes.Free bytes scan rest
   pub none : reached.way.state.done ≡ []
 
 -- it has taken this text
 abbrev pub HasPassed : List ℕ → Scan → Type 0
-HasPassed text scan = (scan.stop ≡ byte_len text) × (scan.count.line ≡ 1 + line_ends text)
+HasPassed text scan = scan.stop ≡ byte_len text
 
 -- at a line's start
-pub at_start : (bytes : List ℕ) {scan : Scan} → HasBegun modes.Free scan → scan.line ≡ 1 → InFirst bytes scan bytes
-at_start bytes {scan} begins line =
+pub at_start : (bytes : List ℕ) {scan : Scan} → HasBegun modes.Free scan → InFirst bytes scan bytes
+at_start bytes {scan} begins =
     let way = begun_way begins (begun_sound 1) in
     record {
-      reached = record { read = []; way = way; spell = refl; scalars = refl; line = line };
+      reached = record { read = []; way = way; spell = refl; scalars = refl };
       none = ap (λ (t : Scanned). t.done) (sym (some_is (line_start modes.Free) way.state way.steps));
     }
 
@@ -330,11 +327,6 @@ closed_few : (m : Mode) (done : List Piece) (held : List ℕ) → done ≡ [] �
 closed_few modes.Start done held none = omega (arith, ap length none)
 closed_few modes.Free done held none = omega (arith, ap length none)
 closed_few m done held none = omega (arith, ap length none, length-append done (piece (class_of m) held ∷ []))
-
--- what is counted of what was read
-counted : (new : Scan) (read text : List ℕ) → Counts new read → new.line ≡ 1 → read ≡ text → HasPassed text new
-counted new read text counts line is =
-    (counts.stop ∙ ap byte_len is, counts.here ∙ ap (λ (n : ℕ). n + line_ends read) line ∙ ap (λ t. 1 + line_ends t) is)
 
 -- after CR nothing but LF goes on
 not_returned : (m : Mode) (c : ℕ) (b : Bool) → (is_free m ≡ false → meet_of m c ≡ moves.Breaks → ⊥)
@@ -358,10 +350,10 @@ module _ {bytes : List ℕ} {scan : Scan} {rest : List ℕ} (at : InFirst bytes 
   bare = some_is way.brackets [] (sym way.stacked ∙ ap brackets_of at.none)
 
   -- what this tells of the scan
-  pub first_stands : Stands 1 bytes scan rest
-  first_stands = stands_reached modes.Free 1 bytes scan rest (begun_sound 1) at.reached
+  pub first_stands : Stands bytes scan rest
+  first_stands = stands_reached modes.Free bytes scan rest (begun_sound 1) at.reached
 
-  pub first_placed : IsInPlace scan.inside
+  pub first_placed : IsInPlace scan
   first_placed = way_placed way (begun_sound 1)
 
   module _ {text : List ℕ} (b : BeginsString bytes text) where
@@ -371,8 +363,8 @@ module _ {bytes : List ℕ} {scan : Scan} {rest : List ℕ} (at : InFirst bytes 
     -- where the machine may stop
     passed_there : (y : List ℕ) → text ++ b.more ≡ read ++ y → 0 < length read → MayStop s.mode y → HasPassed text scan
     passed_there y cut some stops =
-        counted scan read text way.counts at.reached.line
-        (whole_read b read y s cut way.steps way.stacked (closed_few s.mode s.done s.held at.none)
+        way_stop way (begun_sound 1)
+        ∙ ap byte_len (whole_read b read y s cut way.steps way.stacked (closed_few s.mode s.done s.held at.none)
         (omega (arith, some, length-le-encodes read)) stops)
 
     -- no character follows
@@ -391,19 +383,19 @@ module _ {bytes : List ℕ} {scan : Scan} {rest : List ℕ} (at : InFirst bytes 
         (z, cut ∙ ap (λ t. read ++ t) begins)
 
     -- the next character comes after the open piece
-    pub passed_before : {c : ℕ} → BeginsWith rest c → ends_piece_before scan.inside c ≡ true → HasPassed text scan
+    pub passed_before : {c : ℕ} → BeginsWith rest c → ends_piece_before scan c ≡ true → HasPassed text scan
     passed_before {c = c} next ends =
         let (y, cut) = next_is c next in
         let (other, stops) = ends_breaks way (begun_sound 1) c ends in
         passed_there (c ∷ y) cut (some_read read s way.steps other) stops
 
   -- a character that doesn't, and what it comes to
-  module _ {c : ℕ} (p : Progress) (new : Scan) (next : BeginsWith rest c) (on : ends_piece_before scan.inside c ≡ false)
+  module _ {c : ℕ} (p : Progress) (new : Scan) (next : BeginsWith rest c) (on : ends_piece_before scan c ≡ false)
       (to : TakesNext scan c p new) where
     goes_on : is_free s.mode ≡ false → meet_of s.mode c ≡ moves.Breaks → ⊥
     goes_on other ends = both_ways _ on (breaks_ends way (begun_sound 1) c bare other ends)
 
-    takes : Takes modes.Free read s scan c p new × (new.line ≡ scan.line)
+    takes : Takes modes.Free read s scan c p new
     takes = to modes.Free read (begun_sound 1) way
         (ap (λ b. b && not (is_line_feed c)) (way_returned way (begun_sound 1)) ∙ not_returned s.mode c (none_open way.brackets) goes_on)
 
@@ -443,29 +435,28 @@ module _ {bytes : List ℕ} {scan : Scan} {rest : List ℕ} (at : InFirst bytes 
       going progress.Refused (refused, same) = absurd (never refused)
 
       abbrev on_way : IsUnderWay modes.Free new more
-      on_way = going p takes.0
+      on_way = going p takes
 
       full : 0 < byte_len more
       full = omega (arith, some, length-le-encodes more)
 
       -- it ends the string, where nothing is open after it
-      pub passed_with : is_settled new.inside ≡ true → HasPassed text new
+      pub passed_with : is_settled new ≡ true → HasPassed text new
       passed_with settled =
           let (y, cut) = after in
           let free = settled_free on_way (begun_sound 1) settled in
-          counted new more text on_way.counts (takes.1 ∙ at.reached.line)
-          (whole_read b more y on_way.state cut on_way.steps on_way.stacked (one_piece on_way.state on_way.steps) full
+          way_stop on_way (begun_sound 1)
+          ∙ ap byte_len (whole_read b more y on_way.state cut on_way.steps on_way.stacked (one_piece on_way.state on_way.steps) full
           (free_stops on_way.state.mode y free))
 
       -- any other goes on in it
-      pub still_first : is_settled new.inside ≡ false → InFirst bytes new (drop (len_utf8 c) rest)
+      pub still_first : is_settled new ≡ false → InFirst bytes new (drop (len_utf8 c) rest)
       still_first on_in = record {
         reached = record {
           read = more;
           way = on_way;
           spell = spell_more read (drop (len_utf8 c) rest) bytes c (ap (λ t. encode_utf8_all read ++ t) next.spell ∙ at.reached.spell);
           scalars = scalars_more read c at.reached.scalars next.scalar;
-          line = takes.1 ∙ at.reached.line;
         };
         none = ⊎_elim (λ nothing. nothing) (λ one. absurd (shut one.0 one.1)) (closes_one on_way.state on_way.steps);
       }
@@ -485,23 +476,14 @@ module _ {bytes : List ℕ} {scan : Scan} {rest : List ℕ} (at : InFirst bytes 
 -- so does a run that is held, over which the line's own pieces stay
 pub first_run : {bytes : List ℕ} {old new : Scan} {mid rest : List ℕ} → InFirst bytes old mid → HoldsRun old mid rest new
     → InFirst bytes new rest
-first_run {bytes = bytes} {old = old} {new = new} {mid = mid} {rest = rest} at held =
-    let r = at.reached in
-    let run = held.holds.run in
-    let (u, goes, follows, same) = held.holds.stay r.read r.way.field (way_reached r.way (begun_sound 1)) r.way.counts.stop r.way.follows in
-    let reached = reached_run modes.Free 1 bytes old new mid rest r (begun_sound 1) held in
-    let spell : encode_utf8_all (r.read ++ run) ++ rest ≡ bytes
-    = ap (λ t. t ++ rest) (encodes-append r.read run) ∙ append_assoc (encode_utf8_all r.read) (encode_utf8_all run) rest
-    ∙ ap (λ t. encode_utf8_all r.read ++ t) (ap (λ t. encode_utf8_all run ++ t) held.rest_is ∙ held.holds.spell) ∙ r.spell in
-    let read : reached.read ≡ r.read ++ run
-    = encodes_same reached.read (r.read ++ run) (append_cancel_right _ _ rest (reached.spell ∙ sym spell)) in
-    let field : reached.way.field ≡ u
-    = some_is reached.way.field u
-    (sym reached.way.field_steps ∙ ap (field_steps_from (Some (line_begun modes.Free))) read ∙ steps-append (Some (line_begun modes.Free)) r.read run
-    ∙ ap (λ o. field_steps_from o run) r.way.field_steps ∙ (goes_through r.way.field run u goes).steps) in
-    let pieces = tied_pieces (way_tied reached.way (begun_sound 1)) ∙ ap (λ (t : FieldScanned). line_pieces t.outer t.done) field ∙ same
-    ∙ sym (tied_pieces (way_tied r.way (begun_sound 1))) in
-    record { reached = reached; none = pieces ∙ at.none }
+first_run {bytes} {old} {new} {mid} {rest} at held =
+    let way = at.reached.way in
+    let reached = reached_run modes.Free bytes old new mid rest at.reached (begun_sound 1) held in
+    let stays = held.1.stay at.reached.read way.field (way_reached way (begun_sound 1)) way.follows in
+    record {
+      reached = reached;
+      none = tied_pieces (way_tied reached.way (begun_sound 1)) ∙ stays.3 ∙ sym (tied_pieces (way_tied way (begun_sound 1))) ∙ at.none;
+    }
 
 -- a line's start
 abbrev start : BeforePiece
@@ -523,10 +505,7 @@ module _ (c : ℕ) (cs : List ℕ) (begins : opens_string (spelling_on (first_sp
       begun (line_start modes.Free) c cs cs _ (stops-free prefix) (start-word c word.0)
       ∙ word_by move_at [] (λ t held. grow-word t) (first_spelling c) (c ∷ []) cs word.1
 
-  prefix_unbroken : list_all (λ e. not (is_break e)) prefix ≡ true
-  prefix_unbroken = wide_unbroken prefix (word_wide c cs word.0 word.1)
-
-  in_prefix : IsInPieceAfter (modes.Word spelling) start prefix 0 []
+  in_prefix : IsInPieceAfter (modes.Word spelling) start prefix []
   in_prefix = record {
     held = prefix;
     come = record {
@@ -534,9 +513,8 @@ module _ (c : ℕ) (cs : List ℕ) (begins : opens_string (spelling_on (first_sp
       steps = over_prefix;
       stacked = refl;
       one_line = tt;
-      holds = record { scalars = (low_encodes is_low prefix low_is (prefix_low prefix begins)).1; count = line_ends-run [] prefix prefix_unbroken };
+      scalars = (low_encodes is_low prefix low_is (prefix_low prefix begins)).1;
     };
-    unreturned = ends-run [] prefix tt prefix_unbroken;
   }
 
 -- a quote after so many bytes
@@ -544,16 +522,13 @@ quote_within : (bs : List ℕ) (k : ℕ) → begins is_quote (drop k bs) ≡ tru
 quote_within bs k h =
     ⊎_elim (λ (over : length bs < k). absurd (both_ways _ (ap (begins is_quote) (drop_all k bs (omega arith))) h)) (λ within. within) (cases_lt (length bs) k)
 
-pub quote_of_rest : (bytes : List ℕ) (n : ℕ) → begins is_quote (drop n bytes) ≡ true → is_quote (slice_index (rest_of bytes n) 0) ≡ true
-quote_of_rest bytes n quotes = ap (λ t. is_quote (slice_index t 0)) (rest_is bytes n) ∙ first_byte is_quote (drop n bytes) quotes
-
 -- a string that was passed, after a prefix or none
 word_low : (word : List ℕ) → is_prefix_word word ≡ true → encode_utf8_all word ≡ word
 word_low [] is = refl
 word_low (c ∷ cs) is = (low_encodes is_low (c ∷ cs) low_is (prefix_low (c ∷ cs) is)).0
 
 begins_after : (q : ℕ) (word : List ℕ) → is_quote q ≡ true → is_prefix_word word ≡ true → is_field_spelling (word_spelling word) ≡ false
-    → StringBegins q start word 0 []
+    → StringBegins q start word []
 begins_after q [] quote is plain = record {
   held = q ∷ [];
   come = record {
@@ -561,62 +536,64 @@ begins_after q [] quote is plain = record {
     steps = begun (line_start modes.Free) q [] [] _ (stops-free (q ∷ [])) (start-quote q quote);
     stacked = refl;
     one_line = tt;
-    holds = holds_one [] q 0 (record { scalars = refl; count = refl }) (quote_ascii q quote) (quote-no_break q quote);
+    scalars = and_from _ _ (ascii_scalar q (quote_ascii q quote)) refl;
   };
-  unreturned = one_unreturned [] q (quote-no_break q quote);
 }
 begins_after q (c ∷ cs) quote is plain =
-    after_word q quote (spelling_on (first_spelling c) cs) start (c ∷ cs) 0 [] (rw (plain, is)) (in_prefix c cs is)
+    after_word q quote (spelling_on (first_spelling c) cs) start (c ∷ cs) [] (rw (plain, is)) (in_prefix c cs is)
 
 -- a string that was passed after its prefix, or with none, from where it begins so
-string_taken : {begins : BeforePiece → List ℕ → ℕ → List Bracket → Type 0} (bytes : List ℕ) (n : ℕ) (p : Passed) → n ≤ length bytes → 2 < p.len → encode_utf8_all (take n bytes) ≡ take n bytes
-    → PassesString begins (drop n bytes) p → begins start (take n bytes) 0 [] → IsFirstString bytes (string_piece (n + p.len) p.line_ends)
-string_taken {begins} bytes n p within some low has begun q string_is first =
+string_taken : {begins : BeforePiece → List ℕ → List Bracket → Type 0} (bytes : List ℕ) (n len : ℕ) → n ≤ length bytes → 2 < len
+    → encode_utf8_all (take n bytes) ≡ take n bytes → PassesString begins (drop n bytes) len → begins start (take n bytes) []
+    → IsStringLen bytes (n + len)
+string_taken {begins} bytes n len within some low has begun q string_is first =
     let word = take n bytes in
     let rest = drop n bytes in
-    let after = drop p.len rest in
-    let is : Passes rest p begins HasClosedString = subst (λ (b : Bool). Passes rest p begins (StringEnds b after)) (lt-ltb 2 p.len some) has in
+    let after = drop len rest in
+    let is : Passes rest len begins HasClosedString = subst (λ (b : Bool). Passes rest len begins (StringEnds b after)) (lt-ltb 2 len some) has in
     let whole = word ++ is.part.run in
-    let ended = is.part.leads start word 0 [] begun in
-    let encodes : encode_utf8_all whole ≡ word ++ take p.len rest
+    let ended = is.part.leads start word [] begun in
+    let encodes : encode_utf8_all whole ≡ word ++ take len rest
     = encodes-append word is.part.run ∙ ap (λ t. t ++ encode_utf8_all is.part.run) low ∙ ap (λ t. word ++ t) is.part.spell in
     let spell : encode_utf8_all whole ++ after ≡ bytes
-    = ap (λ t. t ++ after) encodes ∙ append_assoc word (take p.len rest) after
-    ∙ ap (λ t. word ++ t) (take-append-drop p.len rest) ∙ take-append-drop n bytes in
+    = ap (λ t. t ++ after) encodes ∙ append_assoc word (take len rest) after
+    ∙ ap (λ t. word ++ t) (take-append-drop len rest) ∙ take-append-drop n bytes in
     let b = begins_string bytes q string_is first in
     let (y, cut, spells) = prefix_chars whole (q.text ++ b.more) after (b.spell ∙ sym spell) in
-    let size : byte_len whole ≡ n + p.len
-    = ap length encodes ∙ length-append word (take p.len rest)
-    ∙ omega (arith, length-take-le n bytes within, length-take-le p.len rest is.part.within) in
+    let size : byte_len whole ≡ n + len
+    = ap length encodes ∙ length-append word (take len rest)
+    ∙ omega (arith, length-take-le n bytes within, length-take-le len rest is.part.within) in
     let same : whole ≡ q.text
     = whole_read b whole y (fresh (piece string ended.text ∷ [])) cut ended.come.steps ended.come.stacked (omega arith)
     (omega (arith, size, some)) (free_stops modes.Free y refl) in
-    record {
-      role = ap (λ k. role_of k q.text) (sym string_is);
-      len = sym size ∙ ap byte_len same;
-      line_ends = omega (arith, ap line_ends same, ended.come.holds.count);
-    }
+    sym size ∙ ap byte_len same
 
 -- one without fields
-pub plain_taken : (bytes : List ℕ) (n : ℕ) (p : Passed) → begins is_quote (drop n bytes) ≡ true → is_prefix_word (take n bytes) ≡ true
-    → is_field_spelling (word_spelling (take n bytes)) ≡ false → 2 < p.len → HasString (rest_of bytes n) (Some p)
-    → IsFirstString bytes (string_piece (n + p.len) p.line_ends)
-plain_taken bytes n p quotes is plain some has =
-    string_taken bytes n p (quote_within bytes n quotes) some (word_low (take n bytes) is)
-    (subst (λ t. HasString t (Some p)) (rest_is bytes n) has)
+pub plain_taken : (bytes : List ℕ) (n len : ℕ) → begins is_quote (drop n bytes) ≡ true → is_prefix_word (take n bytes) ≡ true
+    → is_field_spelling (word_spelling (take n bytes)) ≡ false → 2 < len → HasString (rest_of bytes n) (Some len)
+    → IsStringLen bytes (n + len)
+plain_taken bytes n len quotes is plain some has =
+    string_taken bytes n len (quote_within bytes n quotes) some (word_low (take n bytes) is)
+    (subst (λ t. HasString t (Some len)) (rest_is bytes n) has)
     (begins_after (slice_index (drop n bytes) 0) (take n bytes) (first_byte is_quote (drop n bytes) quotes) is plain)
 
 -- one with fields
 pub fields_taken : (bytes : List ℕ) (n len : ℕ) → begins is_quote (drop n bytes) ≡ true → is_prefix_word (take n bytes) ≡ true
-    → is_field_spelling (word_spelling (take n bytes)) ≡ true → IsQuotedText (rest_of bytes n) len
-    → IsFirstString bytes (token_piece kind.Str (n + len))
+    → is_field_spelling (word_spelling (take n bytes)) ≡ true → IsQuotedText (rest_of bytes n) len → IsStringLen bytes (n + len)
 fields_taken bytes n len quotes is field text =
     let has = subst (λ t. IsQuotedText t len) (rest_is bytes n) text in
-    string_taken bytes n (record { len = len; line_ends = 0 }) (quote_within bytes n quotes) (fields_some (drop n bytes) len has)
-    (word_low (take n bytes) is) (fields_passed (drop n bytes) len (word_spelling (take n bytes)) field has)
-    (omega arith, on (take n bytes) is field)
+    string_taken bytes n len (quote_within bytes n quotes) (fields_some (drop n bytes) len has) (word_low (take n bytes) is)
+    (fields_passed (drop n bytes) len (word_spelling (take n bytes)) field has) (omega arith, on (take n bytes) is field)
   where
     on : (word : List ℕ) → is_prefix_word word ≡ true → is_field_spelling (word_spelling word) ≡ true
-        → IsInPieceAfter (modes.Word (word_spelling word)) start word 0 []
+        → IsInPieceAfter (modes.Word (word_spelling word)) start word []
     on [] is field = absurd (both_ways _ refl field)
     on (c ∷ cs) is field = in_prefix c cs is
+
+-- so many bytes are its text
+pub string_within : (bytes : List ℕ) (p : Piece) → BeginWithPiece bytes p → byte_len p.text ≤ length bytes
+string_within bytes p b = omega (arith, ap length (spelled_bytes bytes p b), length-append (encode_utf8_all p.text) (encode_utf8_all (spelled b.others)))
+
+pub string_text : (bytes : List ℕ) (p : Piece) (len : ℕ) → BeginWithPiece bytes p → len ≡ byte_len p.text → encode_utf8_all p.text ≡ take len bytes
+string_text bytes p len b is =
+    sym (rw (spelled_bytes bytes p b, is) (take-append_seam (encode_utf8_all p.text) (encode_utf8_all (spelled b.others))))

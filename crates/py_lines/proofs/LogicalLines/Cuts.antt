@@ -17,7 +17,7 @@ use Rattle.py_lines.proofs.Text.CharacterTests.{none_of, return_is}
 use Rattle.py_lines.proofs.WordBreaks.{word-unbroken}
 use Rattle.py_lines.proofs.Fields.Prefixes.{none_in}
 use Rattle.py_lines.proofs.Text.Splits.{Either, either}
-use Rattle.py_lines.specs.Private.Scan.{EndsNoLine}
+use Rattle.py_lines.specs.Private.LineScan.{EndsNoLine}
 
 -- a CR at the end of a piece belongs to no LF after it
 pub ends-last : (p : ℕ → Bool) (text : List ℕ) (c : ℕ) → ends p (text ++ c ∷ []) ≡ p c

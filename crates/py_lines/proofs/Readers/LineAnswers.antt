@@ -30,13 +30,15 @@ use Rattle.py_lines.specs.declared.source.Source.{Source}
 use Rattle.py_lines.specs.declared.fault.FaultKind.TheVariants.{BadUtf8}
 use Rattle.py_lines.specs.declared.fault.LexError.{LexError}
 use Rattle.py_lines.specs.declared.mode.Mode.TheVariants as modes
+use Rattle.py_lines.specs.declared.field_mode.FieldMode.TheVariants as field_modes
 use Rattle.py_lines.specs.declared.scan.LineFault.{LineFault}
 use Rattle.py_lines.specs.declared.fault.FaultKind.{FaultKind}
 use Rattle.py_lines.specs.Private.Machine.{Scanned, brackets_of, closed, is_final}
 use Rattle.py_lines.specs.Private.ScanMachine.{scan_steps, StringsFit, IsScanSound}
-use Rattle.py_lines.specs.Private.Scan.{IsAtLineEnd, line_start, IsUnderWay, EndsNoLine, none_open, is_return_mode}
-use Rattle.py_lines.specs.Private.FieldScan.{EndsField, RefusesField}
+use Rattle.py_lines.specs.Private.LineScan.{IsAtLineEnd, line_start, IsUnderWay, EndsNoLine, none_open}
+use Rattle.py_lines.specs.Private.Scan.{EndsField, RefusesField, is_returned_mode}
 use Rattle.py_lines.specs.Private.LineState.{first_mode, IsFaultAfter}
+use Rattle.py_lines.specs.Private.FieldFaults.{here}
 use Rattle.py_lines.specs.Private.LineTokens.{AreLineText}
 use Rattle.py_lines.specs.Private.Source.{line_of_source, scanned_text, GivesTokens, HasScanned, FailsAfter}
 use Rattle.py_lines.proofs.Lexings.Existence.{first_at}
@@ -45,9 +47,9 @@ use Rattle.py_lines.proofs.Pieces.PieceLists.{spelled-append, AreReadIn-append, 
 use Rattle.py_lines.proofs.LogicalLines.TokenPlaces.{each_after}
 use Rattle.py_lines.proofs.LogicalLines.Cuts.{byte_len-append, one_line, line_depth, one_part}
 use Rattle.py_lines.proofs.LineScan.LineCount.{line_ends-bytes}
+use Rattle.py_lines.proofs.LineScan.LineSteps.{way_stop}
 use Rattle.py_lines.proofs.LineScan.TextSteps.{follows_base, begun_sound}
 use Rattle.py_lines.proofs.Lexings.FirstLines.{base_lines, ends_for_good, given_begin, piece_some}
-use Rattle.py_lines.proofs.Feeds.Known as of
 use Rattle.py_lines.proofs.Feeds.Known.{IsKnown, is_known}
 use Rattle.py_lines.proofs.Pieces.OpenBrackets.{balanced_depth, depth_through-append, stands}
 use Rattle.py_lines.proofs.Pieces.ShallowPieces.{IsShallow-append, fits_reading}
@@ -55,6 +57,7 @@ use Rattle.py_lines.proofs.LineScan.PieceEnd.{no_class_bracket, closed_text}
 use Rattle.py_lines.proofs.Readers.LineFaults.{Within, unfinished_within, refused_within}
 use Rattle.py_lines.proofs.Machine.PieceSteps.{scanned, pieces_at}
 use Rattle.py_lines.proofs.Machine.LiveTexts.{stack_closed}
+use Rattle.py_lines.proofs.ScanMachine.Follows.{some_is}
 use Rattle.py_lines.proofs.ScanMachine.Soundness.{StandsSound, stands_sound, end_sound}
 use Rattle.py_lines.proofs.LineScan.NextCharacter.{closed_one_line, one_return}
 use Rattle.py_lines.proofs.Feeds.DecidedSoFar.{way_open, by_character}
@@ -75,7 +78,6 @@ pub record IsReadLine (m : Scanned) (read : List ℕ) (u : List Piece) : Type 0 
 pub record IsScannedLine (m : Scanned) (scan : Scan) (read : List ℕ) (end_len : ℕ) (u : List Piece) : Type 0 where
   pub line : IsReadLine m read u
   pub stop : scan.stop ≡ byte_len read
-  pub here : scan.count.line ≡ scan.line + line_ends read
   pub ends : end_len ≡ end_len_of u
   pub after : List ℕ
   pub fit : AreReadBefore u after
@@ -129,7 +131,7 @@ is_line_text s stop has end_len u line = subst (λ t. AreLineText t u) (sym (sca
 given_line : (old new : Source) (stop : Stop) (has : HasScanned old stop) (end_len : ℕ) (u : List Piece) → IsScannedLine (line_start (first_mode old.state.place)) old.state.scan has.scans.read end_len u → GivesTokens old end_len new → line_of_source new ≡ line_of old.state.place old.state.line u
 given_line old new stop has end_len u line gives =
     let start = gives.start in
-    let number : new.state.scan.line ≡ old.state.line = ap (λ (s : LineState). s.scan.line) gives.state ∙ has.line in
+    let number = gives.line in
     let size : new.state.place - new.start ≡ old.state.scan.stop = omega (arith, ap (λ (s : LineState). s.place) gives.state, start) in
     let text : take (new.state.place - new.start) (drop new.start new.characters.now) ≡ encode_utf8_all (spelled u)
     = ap (λ (n : ℕ). take n (drop new.start new.characters.now)) size ∙ ap (λ (n : ℕ). take old.state.scan.stop (drop n new.characters.now)) start ∙ ap (λ (b : Bor (List ℕ)). take old.state.scan.stop (drop old.state.place b.now)) gives.characters
@@ -239,7 +241,7 @@ module _ (old : Source) (stop : Stop) (has : HasScanned old stop) where
       let text : new.bytes.now ≡ old.bytes.now = ap (λ (b : Bor (List ℕ)). b.now) gives.bytes in
       let here : new.state.place ≡ old.state.place + byte_len read = ap (λ (s : LineState). s.place) gives.state ∙ ap (λ (n : ℕ). old.state.place + n) line.stop in
       let no_fault : new.state.fault ≡ None = ap (λ (s : LineState). s.fault) gives.state ∙ has.no_fault in
-      let reached : new.state.line ≡ old.state.line + line_ends read = ap (λ (s : LineState). s.line) gives.state ∙ line.here ∙ ap (λ (n : ℕ). n + line_ends read) has.line in
+      let reached : new.state.line ≡ old.state.line + line_ends read = gives.after u (is_line_text old stop has end_len u line) ∙ ap (λ t. old.state.line + line_ends t) line.line.spell in
       let size : byte_len (spelled u) ≡ byte_len read = ap byte_len line.line.spell in
       let given : (lines : List LogicalLine) → HasGiven (reader_of old) lines → HasGiven (reader_of new) (lines ++ next ∷ []) = λ lines had.
       let k = known lines had in
@@ -283,8 +285,7 @@ line_at_end m scan read rest len at after is =
         strings = at.strings;
         some = full_line at.body at.last read at.are.class at.spell (AreReadBefore-second at.body (at.last ∷ []) after (at.fit after is)).0;
       };
-      stop = at.counts.stop;
-      here = at.counts.here;
+      stop = at.stop;
       ends = at.are.size ∙ sym (end_len-push at.body at.last at.are.class);
       after = after;
       fit = at.fit after is;
@@ -300,11 +301,6 @@ pub continues_line : (old new : Source) (len : ℕ) (has : HasScanned old (stops
 continues_line old new len has gives =
     let at = has.scans.stops in
     continues old (stops.LineEnd len) has new len (at.body ++ at.last ∷ []) (line_ended old len has) gives (λ after is. (at.fit after is, IsEnded.by_line at.body at.last refl at.are.class at.are.level))
-
-pub few_lines_line : (old : Source) (len : ℕ) (has : HasScanned old (stops.LineEnd len)) → old.state.scan.count.line ≤ old.state.place + old.state.scan.stop + 1
-few_lines_line old len has =
-    let line = line_ended old len has in
-    omega (arith, line.here, line.stop, line_ends-bytes has.scans.read, has.line, old.few_lines)
 
 -- a reader at the text's start has given no line
 pub start_given : (s : Source) → s.state.place ≡ 0 → s.state.line ≡ 1 → s.state.fault ≡ None → HasGiven (reader_of s) []
@@ -355,10 +351,10 @@ module _ (old : Source) (stop : Stop) (has : HasScanned old stop) where
       subst (λ b. IsFaultAfter old.state kind offset b at.keeps.fault) taken at.keeps.at
 
 -- the next character was refused
-pub refused_place_within : (old : Source) (c : ℕ) (has : HasScanned old (stops.Refused c)) (line_fault : LineFault) → RefusesField old.state.scan.inside c old.state.scan.stop line_fault → Within has.scans.read line_fault.place
+pub refused_place_within : (old : Source) (c : ℕ) (has : HasScanned old (stops.Refused c)) (line_fault : LineFault) → RefusesField old.state.scan c line_fault → Within has.scans.read line_fault.place
 refused_place_within old c has line_fault is = refused_within old.state.place old.state.scan has.scans.read has.scans.stops.0 c has.scans.stops.3 line_fault is
 
-pub fails_at_character : (old new : Source) (c : ℕ) (line_fault : LineFault) (error : LexError) (has : HasScanned old (stops.Refused c)) (at : FailsAfter old line_fault.kind line_fault.place error new) → RefusesField old.state.scan.inside c old.state.scan.stop line_fault → Fails (reader_of old) at.keeps.fault (reader_of new)
+pub fails_at_character : (old new : Source) (c : ℕ) (line_fault : LineFault) (error : LexError) (has : HasScanned old (stops.Refused c)) (at : FailsAfter old line_fault.kind line_fault.place error new) → RefusesField old.state.scan c line_fault → Fails (reader_of old) at.keeps.fault (reader_of new)
 fails_at_character old new c line_fault error has at is_line_fault =
     let stop : Stop = stops.Refused c in
     let read = has.scans.read in
@@ -383,6 +379,10 @@ one_or : (ps : List Piece) → EndsNoLine 0 ps → (ps ≡ [] → ⊥) → cut 0
 one_or [] none some = absurd (some refl)
 one_or (p ∷ ps) none some = one_part 0 p ps none
 
+-- where the machine stands soundly in a line, the scan has stopped after what was read
+close_stop : {m : Mode} {scan : Scan} {read : List ℕ} (way : IsUnderWay m scan read) → StandsSound m read way.state way.brackets → scan.stop ≡ byte_len read
+close_stop way sound = way.follows.stop ∙ ap here (some_is way.field sound.state (sym way.field_steps ∙ sound.steps)) ∙ ap byte_len sound.field.spell
+
 -- the text's last line: its pieces, with the open one, are one line
 line_at_close : (m : Mode) (scan : Scan) (read : List ℕ) (way : IsUnderWay m scan read) → StandsSound m read way.state way.brackets → is_final way.state.mode ≡ true → way.brackets ≡ [] → 0 < byte_len read → (end_len : ℕ) → cut 0 (pieces_at way.state) ≡ pieces_at way.state ∷ [] → end_len ≡ end_len_of (pieces_at way.state) → IsScannedLine (line_start m) scan read end_len (pieces_at way.state)
 line_at_close m scan read way sound final empty some end_len whole ends =
@@ -398,8 +398,7 @@ line_at_close m scan read way sound final empty some end_len whole ends =
         strings = ended.strings;
         some = some;
       };
-      stop = way.counts.stop;
-      here = way.counts.here;
+      stop = close_stop way sound;
       ends = ends;
       after = [];
       fit = ended.fit;
@@ -415,15 +414,15 @@ line_at_text_end m scan read way sound final open_yet empty some =
     line_at_close m scan read way sound final empty some 0 (one_or (pieces_at s) none (λ e. omega (arith, some, ap byte_len (sym spell ∙ ap spelled e)))) (sym (end_len-none 0 (pieces_at s) none (stands (pieces_at s) [] stacked).depth))
 
 -- CR closes it
-return_pieces : (mode : Mode) (done : List Piece) (held read : List ℕ) → IsScanSound (scanned done mode held) read → is_return_mode mode ≡ true → EndsNoLine 0 done → depth_through 0 done ≡ 0 → (cut 0 (closed mode done held) ≡ closed mode done held ∷ []) × (1 ≡ end_len_of (closed mode done held))
+return_pieces : (mode : Mode) (done : List Piece) (held read : List ℕ) → IsScanSound (scanned done mode held) read → is_returned_mode (field_modes.Code mode) ≡ true → EndsNoLine 0 done → depth_through 0 done ≡ 0 → (cut 0 (closed mode done held) ≡ closed mode done held ∷ []) × (1 ≡ end_len_of (closed mode done held))
 return_pieces modes.Return done held read sound is none deep = (one_line 0 done (piece line_end held) none refl deep, one_return sound.holds.0.0 sound.holds.0.2 ∙ ap byte_len (sym sound.holds.0.1) ∙ sym (end_len-push done (piece line_end held) refl))
 return_pieces mode done held read sound is none deep = absurd (both_ways _ refl is)
 
-pub returned_final : (m : Mode) → is_return_mode m ≡ true → is_final m ≡ true
+pub returned_final : (m : Mode) → is_returned_mode (field_modes.Code m) ≡ true → is_final m ≡ true
 returned_final modes.Return returned = refl
 returned_final m returned = absurd (both_ways _ refl returned)
 
-pub line_at_return : (m : Mode) (scan : Scan) (read : List ℕ) (way : IsUnderWay m scan read) → StandsSound m read way.state way.brackets → is_return_mode way.state.mode ≡ true → way.brackets ≡ [] → 0 < byte_len read → IsScannedLine (line_start m) scan read 1 (pieces_at way.state)
+pub line_at_return : (m : Mode) (scan : Scan) (read : List ℕ) (way : IsUnderWay m scan read) → StandsSound m read way.state way.brackets → is_returned_mode (field_modes.Code way.state.mode) ≡ true → way.brackets ≡ [] → 0 < byte_len read → IsScannedLine (line_start m) scan read 1 (pieces_at way.state)
 line_at_return m scan read way sound returned empty some =
     let s = way.state in
     let both = return_pieces s.mode s.done s.held read sound.scan returned way.one_line (stands s.done [] (way.stacked ∙ ap (λ l. Some l) empty)).depth in
@@ -431,7 +430,7 @@ line_at_return m scan read way sound returned empty some =
 
 module _ (old : Source) (has : HasScanned old stops.TextEnd) where
   pub stop_size : old.state.scan.stop ≡ byte_len has.scans.read
-  stop_size = has.scans.stops.0.counts.stop
+  stop_size = way_stop has.scans.stops.0 (begun_sound old.state.place)
 
   some_text : length old.bytes.now ≤ length old.characters.now → 0 < byte_len has.scans.read
   some_text full = omega (arith, ap length has.scans.spell, length-append (encode_utf8_all has.scans.read) has.scans.rest, ap length has.scans.stops.1, length-drop old.state.place old.characters.now, has.more, full)
@@ -448,11 +447,11 @@ module _ (old : Source) (has : HasScanned old stops.TextEnd) where
       ended_bytes old.bytes.now old.state lines read (left old stops.TextEnd has) (known old stops.TextEnd has lines given) (whole old stops.TextEnd has) has.scans.stops.0 has.scans.stops.2 (omega (arith, left_size, more))
       at.keeps.fault (fault_in old stops.TextEnd has new BadUtf8 old.state.scan.stop error at w) bad)
 
-  pub end_within : length old.bytes.now ≤ length old.characters.now → (line_fault : LineFault) → EndsField old.state.scan.inside old.state.scan.stop (Some line_fault) → Within has.scans.read line_fault.place
+  pub end_within : length old.bytes.now ≤ length old.characters.now → (line_fault : LineFault) → EndsField old.state.scan (Some line_fault) → Within has.scans.read line_fault.place
   end_within full line_fault is = unfinished_within old.state.place old.state.scan has.scans.read has.scans.stops.0 (some_text full) line_fault is
 
   -- the text's end where it may not end
-  pub fails_at_end : (new : Source) (line_fault : LineFault) (error : LexError) (at : FailsAfter old line_fault.kind line_fault.place error new) → EndsField old.state.scan.inside old.state.scan.stop (Some line_fault) → length old.bytes.now ≤ length old.characters.now → Fails (reader_of old) at.keeps.fault (reader_of new)
+  pub fails_at_end : (new : Source) (line_fault : LineFault) (error : LexError) (at : FailsAfter old line_fault.kind line_fault.place error new) → EndsField old.state.scan (Some line_fault) → length old.bytes.now ≤ length old.characters.now → Fails (reader_of old) at.keeps.fault (reader_of new)
   fails_at_end new line_fault error at is_line_fault full = fails old new line_fault.kind line_fault.place error at has.no_fault has.more (λ lines given.
       let w = end_within full line_fault is_line_fault in
       let none = nil_from_length (left old stops.TextEnd has) (omega (arith, left_size, full)) in
@@ -478,6 +477,3 @@ module _ (old : Source) (has : HasScanned old stops.TextEnd) where
         subst (AreReadBefore (pieces_at s)) (sym none) (end_sound (first_mode old.state.place) has.scans.read s has.scans.stops.0.brackets way_sound final).fit,
         IsEnded.by_text (λ i. none i ++ drop_all (length old.characters.now) old.bytes.now full i),
       ))
-
-  pub few_lines_text : old.state.scan.count.line ≤ old.state.place + old.state.scan.stop + 1
-  few_lines_text = omega (arith, stop_size, has.scans.stops.0.counts.here, line_ends-bytes has.scans.read, has.line, old.few_lines)

@@ -1,38 +1,37 @@
 -- Lines that were passed over are the text's next.
-use Rattle.std.proofs.Common.{◌≡◌, ℕ, zero, suc, ◌+◌, ◌-◌, ◌<◌, ◌≤◌, inl, inr, true, false, None, Some, List, [], ◌∷◌, ◌++◌, length, take, drop, refl, sym, ap, ◌∙◌, subst, append_assoc, append-nil, arith, length-append, ⊎_elim}
+use Rattle.std.proofs.Common.{◌≡◌, ℕ, zero, suc, ◌+◌, ◌-◌, ◌<◌, ◌≤◌, ◌&&◌, inl, inr, true, false, None, Some, List, [], ◌∷◌, ◌++◌, length, take, drop, refl, sym, ap, ◌∙◌, subst, append_assoc, append-nil, arith, length-append, ⊎_elim}
 use Rattle.std.specs.Prelude.{encode_utf8_all, flat_map}
 use Rattle.std.specs.Str.{all_scalars, IsCharBoundary, IsUtf8}
 use Rattle.std.proofs.lemmas.List.{drop-drop, length-append, length-take-le, length-drop, take-append-drop, take-append-le, take_all}
 use Rattle.std.proofs.lemmas.Str.{IsCharBoundary-from_rest, IsCharBoundary-from_take, IsUtf8-drop, IsUtf8-had, encodes-append, length-le-encodes}
 use Rattle.std.proofs.Math.Seq.{drop-append_seam, take-append_seam}
-use Rattle.std.proofs.lemmas.Bool.{cond_both, both_ways, cases_Bool}
+use Rattle.std.proofs.lemmas.Bool.{and_parts, cond_both, both_ways, cases_Bool, false_from_ne_true}
 use Rattle.py_lines.specs.Character.{is_line_feed, is_mark, is_return}
 use Rattle.py_lines.specs.Fields.{AreReadBefore}
 use Rattle.py_lines.specs.Piece.{line_end, Piece, begins, ends, spelled}
-use Rattle.py_lines.specs.LogicalLine.{LogicalLine, byte_len, line_of}
+use Rattle.py_lines.specs.LogicalLine.{LogicalLine, byte_len, line_ends, line_of}
 use Rattle.py_lines.specs.Lines.{PassesUpTo}
 use Rattle.py_lines.specs.Reader.{Reader, PassesLine, PassesLines, HasGiven}
 use Rattle.py_lines.specs.Reader.View.{reader_of}
 use Rattle.py_lines.specs.declared.mode.Mode.TheVariants as modes
 use Rattle.py_lines.specs.declared.mode.Move.{Move}
 use Rattle.py_lines.specs.declared.mode.Move.TheVariants as moves
-use Rattle.py_lines.specs.declared.plain_strings.Passed.{Passed}
 use Rattle.py_lines.specs.declared.source.Source.{Source}
 use Rattle.py_lines.specs.Private.LineState.{first_mode}
 use Rattle.py_lines.specs.Private.Machine.{Scanned, moved, move_of, started}
 use Rattle.py_lines.specs.Private.ScanMachine.{IsScanSound, StringsFit, meet_of, scan_steps}
-use Rattle.py_lines.specs.Private.Scan.{line_start, EndsWhole}
+use Rattle.py_lines.specs.Private.LineScan.{line_start, EndsWhole}
 use Rattle.py_lines.specs.Private.Outline.{AreWholeLines, BeginWithLines, IsEndedBy, IsWholeLine}
 use Rattle.py_lines.proofs.Pieces.PieceLists.{piece, spelled-push}
 use Rattle.py_lines.proofs.Machine.Starts.{start-mark}
 use Rattle.py_lines.proofs.Lexings.LineEnds.{line_string, return_returns}
-use Rattle.py_lines.proofs.LineScan.LineCount.{ends-last}
+use Rattle.py_lines.proofs.LineScan.LineCount.{line_ends-bytes}
 use Rattle.py_lines.proofs.LineScan.LineSteps.{follows_whole, returned_fit, sound_steps}
 use Rattle.py_lines.proofs.LineScan.PieceEnd.{no_class_bracket}
 use Rattle.py_lines.proofs.LineScan.TextSteps.{begun_sound}
-use Rattle.py_lines.proofs.LogicalLines.Cuts.{one_line}
+use Rattle.py_lines.proofs.LogicalLines.Cuts.{ends-last, line_ends-append, one_line}
 use Rattle.py_lines.proofs.SimpleLines.Tails.{ended_stack}
-use Rattle.py_lines.proofs.SimpleLines.Lines.{lines_few, lines_scalars}
+use Rattle.py_lines.proofs.SimpleLines.Lines.{lines_scalars}
 use Rattle.py_lines.proofs.Readers.LineAnswers.{IsReadLine, text_from}
 use Rattle.py_lines.proofs.Feeds.Known.{IsKnown, goes_with_first, is_known}
 use Rattle.py_lines.proofs.Feeds.SettledSoFar.{IsNextLine, settled_ready}
@@ -48,8 +47,8 @@ pub record IsPassedLine (read : List ℕ) (pieces : List Piece) : Type 0 where
   pub strings : StringsFit 0 pieces
   pub fit : (more : List ℕ) → (ends is_return read ≡ true → begins is_line_feed more ≡ false) → AreReadBefore pieces more
 
-pub passed_line : (read : List ℕ) (n : ℕ) (after : List ℕ) (line : IsWholeLine read n after) → IsPassedLine read (line.body ++ line.last ∷ [])
-passed_line read n after line = by line.ended
+pub passed_line : (read after : List ℕ) (line : IsWholeLine read after) → IsPassedLine read (line.body ++ line.last ∷ [])
+passed_line read after line = by line.ended
   where
     sound : IsScanSound line.state read
     sound = sound_steps modes.Free read line.state (begun_sound 1) line.steps (ended_stack line.state line.body line.last line.are line.ended)
@@ -82,9 +81,9 @@ first_steps zero (c ∷ cs) s some steps =
     (λ marks. let stuck : None ≡ Some s = ap (λ st. scan_steps (started [] c st) cs) (sym (start-mark c marks)) ∙ steps in absurd (cc))
     (λ other. steps)
 
-pub whole_read : (place : ℕ) (read : List ℕ) (n : ℕ) (after : List ℕ) → 0 < length read → (line : IsWholeLine read n after) → IsReadLine (line_start (first_mode place)) read (line.body ++ line.last ∷ [])
-whole_read place read n after some line =
-    let passed = passed_line read n after line in
+pub whole_read : (place : ℕ) (read after : List ℕ) → 0 < length read → (line : IsWholeLine read after) → IsReadLine (line_start (first_mode place)) read (line.body ++ line.last ∷ [])
+whole_read place read after some line =
+    let passed = passed_line read after line in
     record {
       to = line.state;
       steps = first_steps place read line.state some line.steps;
@@ -108,17 +107,17 @@ whole_boundary s len room utf8 =
     IsCharBoundary-from_rest s.characters.now s.state.place len place (IsCharBoundary-from_take rest len (IsUtf8-drop s.characters.now s.state.place (IsUtf8-had _ s.text) s.boundary) size utf8)
 
 -- the logical lines of the lines that were found, from this byte and line of a text on
-abbrev pub lines_at : (texts : List (List ℕ)) (place line : ℕ) (read : List ℕ) (n : ℕ) (after : List ℕ) → AreWholeLines texts read n after → List LogicalLine
-lines_at [] place line read n after are = []
-lines_at (t ∷ texts) place line read n after are = line_of place line (are.whole.body ++ are.whole.last ∷ []) ∷ lines_at texts (place + byte_len t) (line + are.own) are.later are.more after are.lines
+abbrev pub lines_at : (texts : List (List ℕ)) (place line : ℕ) (read after : List ℕ) → AreWholeLines texts read after → List LogicalLine
+lines_at [] place line read after are = []
+lines_at (t ∷ texts) place line read after are = line_of place line (are.whole.body ++ are.whole.last ∷ []) ∷ lines_at texts (place + byte_len t) (line + line_ends t) are.later after are.lines
 
 -- what they spell
-pub lines_spell : (texts : List (List ℕ)) (place line : ℕ) (read : List ℕ) (n : ℕ) (after : List ℕ) (are : AreWholeLines texts read n after) → flat_map (λ (l : LogicalLine). l.text) (lines_at texts place line read n after are) ≡ encode_utf8_all read
-lines_spell [] place line read n after are = ap encode_utf8_all (sym are.0)
-lines_spell (t ∷ texts) place line read n after are =
-    let others = flat_map (λ (l : LogicalLine). l.text) (lines_at texts (place + byte_len t) (line + are.own) are.later are.more after are.lines) in
-    ap (λ u. u ++ others) (ap encode_utf8_all (passed_line t are.own (encode_utf8_all are.later ++ after) are.whole).spell)
-    ∙ ap (λ u. encode_utf8_all t ++ u) (lines_spell texts (place + byte_len t) (line + are.own) are.later are.more after are.lines)
+pub lines_spell : (texts : List (List ℕ)) (place line : ℕ) (read after : List ℕ) (are : AreWholeLines texts read after) → flat_map (λ (l : LogicalLine). l.text) (lines_at texts place line read after are) ≡ encode_utf8_all read
+lines_spell [] place line read after are = ap encode_utf8_all (sym are)
+lines_spell (t ∷ texts) place line read after are =
+    let others = flat_map (λ (l : LogicalLine). l.text) (lines_at texts (place + byte_len t) (line + line_ends t) are.later after are.lines) in
+    ap (λ u. u ++ others) (ap encode_utf8_all (passed_line t (encode_utf8_all are.later ++ after) are.whole).spell)
+    ∙ ap (λ u. encode_utf8_all t ++ u) (lines_spell texts (place + byte_len t) (line + line_ends t) are.later after are.lines)
     ∙ sym (ap encode_utf8_all are.spell ∙ encodes-append t are.later)
 
 -- after a line these bytes are known, which show that it has ended, and then come these
@@ -143,15 +142,15 @@ abbrev pub AreSettledAt : List ℕ → ℕ → ℕ → ℕ → List LogicalLine 
 AreSettledAt text place line known lines = AreFirstLines text place line lines × IsSettled (take (place + known) text) lines
 
 -- a line that the text goes on with, and what is known after it
-module _ (text : List ℕ) (place line : ℕ) (given : List LogicalLine) (first : AreFirstLines text place line given) (read more : List ℕ) (n : ℕ) (some : 0 < length read) (goes : GoesOnWith text place (encode_utf8_all read ++ more)) (exact : EndsExactly read more) (after : List ℕ) (whole : IsWholeLine read n after) where
+module _ (text : List ℕ) (place line : ℕ) (given : List LogicalLine) (first : AreFirstLines text place line given) (read more : List ℕ) (some : 0 < length read) (goes : GoesOnWith text place (encode_utf8_all read ++ more)) (exact : EndsExactly read more) (after : List ℕ) (whole : IsWholeLine read after) where
   abbrev pieces : List Piece
   pieces = whole.body ++ whole.last ∷ []
 
   known : IsKnown text place line given read more
-  known = is_known text place line given read more first whole.holds.scalars goes (omega (arith, some, length-le-encodes read, length-append (encode_utf8_all read) more))
+  known = is_known text place line given read more first whole.scalars goes (omega (arith, some, length-le-encodes read, length-append (encode_utf8_all read) more))
 
   as_line : IsReadLine (line_start (first_mode place)) read pieces
-  as_line = whole_read place read n after some whole
+  as_line = whole_read place read after some whole
 
   next : IsNextLine place read known.more pieces
   next = record {
@@ -160,18 +159,17 @@ module _ (text : List ℕ) (place line : ℕ) (given : List LogicalLine) (first 
     is = refl;
     class = whole.are.class;
     level = whole.are.level;
-    fit = (passed_line read n after whole).fit known.more (follows_whole read more known.more known.tail known.beyond (exactly_whole read more exact) known.follow);
+    fit = (passed_line read after whole).fit known.more (follows_whole read more known.more known.tail known.beyond (exactly_whole read more exact) known.follow);
     line = as_line;
   }
 
   settled : IsSettled (take (place + length (encode_utf8_all read ++ more)) text) (given ++ line_of place line pieces ∷ [])
   settled = settled_ready text place line given read more known pieces next exact
 
-  pub line_settled : AreSettledAt text (place + byte_len read) (line + n) (length more) (given ++ line_of place line pieces ∷ [])
+  pub line_settled : AreSettledAt text (place + byte_len read) (line + line_ends read) (length more) (given ++ line_of place line pieces ∷ [])
   line_settled =
       let sizes : place + length (encode_utf8_all read ++ more) ≡ place + byte_len read + length more = omega (arith, length-append (encode_utf8_all read) more) in (
-        subst (λ (m : ℕ). AreFirstLines text (place + byte_len read) (line + m) (given ++ line_of place line pieces ∷ [])) whole.holds.count
-            (released first read (line_of place line pieces) (ap encode_utf8_all as_line.spell) (place + length (encode_utf8_all read ++ more)) settled),
+        released first read (line_of place line pieces) (ap encode_utf8_all as_line.spell) (place + length (encode_utf8_all read ++ more)) settled,
         subst (λ (m : ℕ). IsSettled (take m text) (given ++ line_of place line pieces ∷ [])) sizes settled,
       )
 
@@ -180,20 +178,20 @@ abbrev pub further : Reader → ℕ → ℕ → Reader
 further r len feeds = record { text = r.text; place = r.place + len; line = r.line + feeds; fault = r.fault }
 
 -- a line whose bytes those after the reader's place begin with
-passes_line : (r : Reader) → r.fault ≡ None → (read : List ℕ) (n : ℕ) (after beyond : List ℕ) → 0 < length read → encode_utf8_all read ++ (after ++ beyond) ≡ drop r.place r.text → (line : IsWholeLine read n after)
-    → PassesLine r (line_of r.place r.line (line.body ++ line.last ∷ [])) (further r (byte_len read) n)
-passes_line r no_fault read n after beyond some split line =
+passes_line : (r : Reader) → r.fault ≡ None → (read after beyond : List ℕ) → 0 < length read → encode_utf8_all read ++ (after ++ beyond) ≡ drop r.place r.text → (line : IsWholeLine read after)
+    → PassesLine r (line_of r.place r.line (line.body ++ line.last ∷ [])) (further r (byte_len read) (line_ends read))
+passes_line r no_fault read after beyond some split line =
     let bytes = encode_utf8_all read in
     let u = line.body ++ line.last ∷ [] in
-    let new = further r (byte_len read) n in
-    let as_line = whole_read r.place read n after some line in
+    let new = further r (byte_len read) (line_ends read) in
+    let as_line = whole_read r.place read after some line in
     let spell : encode_utf8_all (spelled u) ≡ bytes = ap encode_utf8_all as_line.spell in
     let own = shown read after line.whole in
     let parts : (bytes ++ own.more) ++ (own.unseen ++ beyond) ≡ drop r.place r.text
     = append_assoc bytes own.more (own.unseen ++ beyond) ∙ ap (λ t. bytes ++ t) (sym (append_assoc own.more own.unseen beyond) ∙ ap (λ t. t ++ beyond) (sym own.spell)) ∙ split in
     let near : GoesOnWith r.text r.place (bytes ++ own.more) = goes_with_first r.text r.place (bytes ++ own.more) (own.unseen ++ beyond) (subst (GoesOnWith r.text r.place) (sym parts) (take_all (length (drop r.place r.text)) (drop r.place r.text) (omega arith))) in
     let given : (lines : List LogicalLine) → HasGiven r lines → HasGiven new (lines ++ line_of r.place r.line u ∷ [])
-    = λ lines h. record { first = (line_settled r.text r.place r.line lines h.first read own.more n some near own.exact after line).0; no_fault = no_fault } in
+    = λ lines h. record { first = (line_settled r.text r.place r.line lines h.first read own.more some near own.exact after line).0; no_fault = no_fault } in
     let long : byte_len read ≡ r.place + byte_len read - r.place = omega arith in
     record {
       continues = record {
@@ -207,16 +205,22 @@ passes_line r no_fault read n after beyond some split line =
         no_fault = no_fault;
       };
       text = spell ∙ sym (ap (take (byte_len read)) (sym split) ∙ take-append_seam bytes (after ++ beyond)) ∙ ap (λ (k : ℕ). take k (drop r.place r.text)) long;
-      utf8 = (spelled u, (ap all_scalars as_line.spell ∙ line.holds.scalars, refl));
+      utf8 = (spelled u, (ap all_scalars as_line.spell ∙ line.scalars, refl));
     }
 
+-- CR at the end of a line that was passed has no LF after it
+pub apart : (line later after : List ℕ) → EndsWhole line (encode_utf8_all later ++ after) → ends is_return line && begins is_line_feed later ≡ false
+apart line later after whole = false_from_ne_true _ (λ both.
+    let parts = and_parts _ _ both in
+    both_ways _ (follows_whole line (encode_utf8_all later ++ after) later after [] whole (sym (append-nil (encode_utf8_all later ++ after))) parts.0) parts.1)
+
 -- lines that they begin with
-passes_all : (texts : List (List ℕ)) (r : Reader) (read : List ℕ) (n : ℕ) (after beyond : List ℕ) → r.fault ≡ None → encode_utf8_all read ++ (after ++ beyond) ≡ drop r.place r.text → (are : AreWholeLines texts read n after) → PassesLines r (lines_at texts r.place r.line read n after are) (further r (byte_len read) n)
-passes_all [] r read n after beyond no_fault split are =
-    let place : r.place + byte_len read ≡ r.place = omega (arith, ap byte_len are.0) in
-    let line : r.line + n ≡ r.line = omega (arith, are.1) in
+passes_all : (texts : List (List ℕ)) (r : Reader) (read after beyond : List ℕ) → r.fault ≡ None → encode_utf8_all read ++ (after ++ beyond) ≡ drop r.place r.text → (are : AreWholeLines texts read after) → PassesLines r (lines_at texts r.place r.line read after are) (further r (byte_len read) (line_ends read))
+passes_all [] r read after beyond no_fault split are =
+    let place : r.place + byte_len read ≡ r.place = omega (arith, ap byte_len are) in
+    let line : r.line + line_ends read ≡ r.line = omega (arith, ap line_ends are) in
     λ i. record { text = r.text; place = place i; line = line i; fault = r.fault }
-passes_all (t ∷ texts) r read n after beyond no_fault split are =
+passes_all (t ∷ texts) r read after beyond no_fault split are =
     let own_bytes = encode_utf8_all t in
     let later_bytes = encode_utf8_all are.later in
     let all : encode_utf8_all read ≡ own_bytes ++ later_bytes = ap encode_utf8_all are.spell ∙ encodes-append t are.later in
@@ -224,41 +228,38 @@ passes_all (t ∷ texts) r read n after beyond no_fault split are =
     ap (λ u. own_bytes ++ u) (append_assoc later_bytes after beyond) ∙ sym (append_assoc own_bytes later_bytes (after ++ beyond)) ∙ ap (λ u. u ++ (after ++ beyond)) (sym all) ∙ split in
     let later_split : later_bytes ++ (after ++ beyond) ≡ drop (r.place + byte_len t) r.text =
     sym (append_assoc later_bytes after beyond) ∙ sym (drop-append_seam own_bytes ((later_bytes ++ after) ++ beyond)) ∙ ap (drop (byte_len t)) parts ∙ drop-drop (byte_len t) r.place r.text in
-    let mid = further r (byte_len t) are.own in
+    let mid = further r (byte_len t) (line_ends t) in
     let place : r.place + byte_len read ≡ r.place + byte_len t + byte_len are.later = omega (arith, ap length all, length-append own_bytes later_bytes) in
-    let line : r.line + n ≡ r.line + are.own + are.more = omega (arith, are.count) in (
+    let line : r.line + line_ends read ≡ r.line + line_ends t + line_ends are.later = omega (arith, ap line_ends are.spell, line_ends-append t are.later (apart t are.later after are.whole.whole)) in (
       mid,
-      passes_line r no_fault t are.own (later_bytes ++ after) beyond are.some parts are.whole,
-      subst (PassesLines mid (lines_at texts mid.place mid.line are.later are.more after are.lines)) (sym (λ i. record { text = r.text; place = place i; line = line i; fault = r.fault }))
-          (passes_all texts mid are.later are.more after beyond no_fault later_split are.lines),
+      passes_line r no_fault t (later_bytes ++ after) beyond are.some parts are.whole,
+      subst (PassesLines mid (lines_at texts mid.place mid.line are.later after are.lines)) (sym (λ i. record { text = r.text; place = place i; line = line i; fault = r.fault }))
+          (passes_all texts mid are.later after beyond no_fault later_split are.lines),
     )
 
 -- the lines that the code has found
 module _ (s : Source) (no_fault : s.state.fault ≡ None) (before : ℕ) (ordered : s.state.place < before) (within : before ≤ length s.characters.now)
-    (p : Passed) (found : BeginWithLines (take (before - s.state.place) (drop s.state.place s.characters.now)) p) where
+    (len : ℕ) (found : BeginWithLines (take (before - s.state.place) (drop s.state.place s.characters.now)) len) where
   abbrev read : List ℕ
   read = found.read
 
   slice_size : length (take (before - s.state.place) (drop s.state.place s.characters.now)) ≡ before - s.state.place
   slice_size = length-take-le (before - s.state.place) (drop s.state.place s.characters.now) (omega (arith, length-drop s.state.place s.characters.now, within, ordered))
 
-  pub room : s.state.place + p.len ≤ before
+  pub room : s.state.place + len ≤ before
   room = omega (arith, found.within, slice_size, ordered)
 
   abbrev after : List ℕ
-  after = drop p.len (take (before - s.state.place) (drop s.state.place s.characters.now))
+  after = drop len (take (before - s.state.place) (drop s.state.place s.characters.now))
 
-  spell : take p.len (drop s.state.place s.characters.now) ≡ encode_utf8_all read
-  spell = sym (found.spell ∙ take_slice (drop s.state.place s.characters.now) p.len (before - s.state.place) found.within)
+  spell : take len (drop s.state.place s.characters.now) ≡ encode_utf8_all read
+  spell = sym (found.spell ∙ take_slice (drop s.state.place s.characters.now) len (before - s.state.place) found.within)
 
-  size : byte_len read ≡ p.len
-  size = sym (ap length spell) ∙ length-take-le p.len (drop s.state.place s.characters.now) (omega (arith, room, within, ordered, length-drop s.state.place s.characters.now))
+  size : byte_len read ≡ len
+  size = sym (ap length spell) ∙ length-take-le len (drop s.state.place s.characters.now) (omega (arith, room, within, ordered, length-drop s.state.place s.characters.now))
 
-  pub few : p.line_ends ≤ p.len
-  few = omega (arith, lines_few found.texts read p.line_ends after found.whole, size)
-
-  pub boundary : IsCharBoundary s.characters.now (s.state.place + p.len)
-  boundary = whole_boundary s p.len (omega (arith, room, within)) (read, (lines_scalars found.texts read p.line_ends after found.whole, sym spell))
+  pub boundary : IsCharBoundary s.characters.now (s.state.place + len)
+  boundary = whole_boundary s len (omega (arith, room, within)) (read, (lines_scalars found.texts read after found.whole, sym spell))
 
   abbrev beyond : List ℕ
   beyond = drop (before - s.state.place) (drop s.state.place s.characters.now) ++ drop (length s.characters.now) s.bytes.now
@@ -269,22 +270,22 @@ module _ (s : Source) (no_fault : s.state.fault ≡ None) (before : ℕ) (ordere
       let slice = take (before - s.state.place) characters in
       let rest = drop (before - s.state.place) characters in
       let tail = drop (length s.characters.now) s.bytes.now in
-      sym (append_assoc (encode_utf8_all found.read) (drop p.len slice) (rest ++ tail))
-      ∙ ap (λ t. (t ++ drop p.len slice) ++ (rest ++ tail)) found.spell
-      ∙ ap (λ t. t ++ (rest ++ tail)) (take-append-drop p.len slice)
+      sym (append_assoc (encode_utf8_all found.read) (drop len slice) (rest ++ tail))
+      ∙ ap (λ t. (t ++ drop len slice) ++ (rest ++ tail)) found.spell
+      ∙ ap (λ t. t ++ (rest ++ tail)) (take-append-drop len slice)
       ∙ sym (append_assoc slice rest tail)
       ∙ ap (λ t. t ++ tail) (take-append-drop (before - s.state.place) characters)
       ∙ text_from s
 
-  pub passes_up_to : PassesUpTo (reader_of s) before p.len (further (reader_of s) p.len p.line_ends)
+  pub passes_up_to : PassesUpTo (reader_of s) before len (further (reader_of s) len (line_ends read))
   passes_up_to = record {
-    lines = lines_at found.texts s.state.place s.state.line read p.line_ends after found.whole;
-    passes = subst (λ (k : ℕ). PassesLines (reader_of s) (lines_at found.texts s.state.place s.state.line read p.line_ends after found.whole) (further (reader_of s) k p.line_ends)) size
-        (passes_all found.texts (reader_of s) read p.line_ends after beyond no_fault split found.whole);
+    lines = lines_at found.texts s.state.place s.state.line read after found.whole;
+    passes = subst (λ (k : ℕ). PassesLines (reader_of s) (lines_at found.texts s.state.place s.state.line read after found.whole) (further (reader_of s) k (line_ends read))) size
+        (passes_all found.texts (reader_of s) read after beyond no_fault split found.whole);
     place = refl;
     within = λ some. room;
     same = λ none.
-        let place : s.state.place + p.len ≡ s.state.place = omega (arith, none) in
-        let line : s.state.line + p.line_ends ≡ s.state.line = omega (arith, none, few) in
+        let place : s.state.place + len ≡ s.state.place = omega (arith, none) in
+        let line : s.state.line + line_ends read ≡ s.state.line = omega (arith, none, size, line_ends-bytes read) in
         λ i. record { text = s.bytes.now; place = place i; line = line i; fault = s.state.fault };
   }

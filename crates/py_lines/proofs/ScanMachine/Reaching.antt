@@ -11,7 +11,7 @@ use Rattle.py_lines.specs.LogicalLine.{first_or_zero}
 use Rattle.py_lines.specs.Private.Machine.{Mode, Scanned, text_start, closed, move_of, is_final, Bracket, brackets_of}
 use Rattle.py_lines.specs.Private.FieldMachine.{FieldScanned, field_state, field_text_start, field_pieces, openers_through, may_end, field_step, field_steps_from, has_room, have_room, roomy}
 use Rattle.py_lines.specs.Private.ScanMachine.{meet_of, move_at, StringsFit, scan_step, scan_steps}
-use Rattle.py_lines.specs.Private.FieldScan.{bracket_openers}
+use Rattle.py_lines.specs.Private.Scan.{bracket_openers}
 use Rattle.py_lines.proofs.Pieces.OpenBrackets.{StandsAt, level, inside, stands}
 use Rattle.py_lines.proofs.Pieces.ShallowPieces.{shallow_both, fits_reading}
 use Rattle.py_lines.proofs.Machine.PieceSteps.{pieces_at}

@@ -9,7 +9,7 @@ use Rattle.py_lines.specs.FieldStrings.{Host}
 use Rattle.py_lines.specs.Private.FieldMachine.{FieldMode, FieldMove, grows, begins_code, FieldScanned, field_state, field_text_start, field_move, field_moved, field_step, field_steps_from, frames, has_room_at}
 use Rattle.py_lines.specs.Private.ScanMachine.{string_state, has_room_in, have_room_in}
 use Rattle.py_lines.proofs.Fields.Nesting.{Within, field_map, string_map}
-use Rattle.py_lines.proofs.FieldMachine.Runs.{HasRoomFor, Goes, StopsAt}
+use Rattle.py_lines.proofs.FieldMachine.Runs.{HasRoomFor, Goes}
 use Rattle.py_lines.proofs.FieldMachine.Runs as runs_of
 use Rattle.py_lines.proofs.FieldSoundness.LiveTexts.{steps-append}
 

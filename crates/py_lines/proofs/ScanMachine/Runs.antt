@@ -8,7 +8,7 @@ use Rattle.py_lines.specs.FieldStrings.{Host, Place}
 use Rattle.py_lines.specs.Private.Machine.{Mode, Move, Scanned, fresh, moved, Bracket, brackets_of}
 use Rattle.py_lines.specs.Private.FieldMachine.{At, FieldMode, FieldMove, grows, closes, breaks, Level, FieldScanned, field_fresh, field_text_start, field_class_of, field_move, field_step, frames, has_room, has_room_at, text_place, before, roomy}
 use Rattle.py_lines.specs.Private.ScanMachine.{meet_of, string_move, has_room_in, fielded_move, move_at, IsInString}
-use Rattle.py_lines.specs.Private.FieldScan.{bracket_openers}
+use Rattle.py_lines.specs.Private.Scan.{bracket_openers}
 use Rattle.py_lines.proofs.Pieces.PieceLists.{piece}
 use Rattle.py_lines.proofs.Pieces.OpenBrackets.{stands}
 use Rattle.py_lines.proofs.Machine.PieceSteps.{scanned}

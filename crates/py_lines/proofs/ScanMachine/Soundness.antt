@@ -8,7 +8,7 @@ use Rattle.py_lines.specs.Fields.{AreReadBefore}
 use Rattle.py_lines.specs.Private.Machine.{Mode, Move, Start, Scanned, text_start, closed, started, moved, start_of, is_final, Bracket, brackets_of}
 use Rattle.py_lines.specs.Private.FieldMachine.{FieldMode, plain, opened, empty, Level, FieldScanned, field_state, field_text_start, field_step, field_steps_from, frames, has_room, have_room, roomy}
 use Rattle.py_lines.specs.Private.ScanMachine.{host_in, move_at, scan_step, scan_steps, IsBare, HoldsOpen, StringsFit, IsScanSound, line_begun, line_start}
-use Rattle.py_lines.specs.Private.FieldScan.{bracket_openers}
+use Rattle.py_lines.specs.Private.Scan.{bracket_openers}
 use Rattle.py_lines.proofs.Pieces.ShallowPieces.{strings_shallow}
 use Rattle.py_lines.proofs.Machine.Starts.{StartsSo, starts_so}
 use Rattle.py_lines.proofs.Machine.EarlierPieces.{stack_at}

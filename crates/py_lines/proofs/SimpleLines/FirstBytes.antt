@@ -1,8 +1,7 @@
 -- The bytes that a slice begins with: one, two or three of them, or a line end.
-use Rattle.std.proofs.Common.{◌≡◌, ℕ, ◌+◌, ◌<◌, inl, inr, Bool, true, false, Option, None, Some, List, [], ◌∷◌, ◌++◌, length, take, drop, slice_index, refl, ap, ◌∙◌, arith, add-zero, suc, sym, subst, get_or-drop}
+use Rattle.std.proofs.Common.{◌≡◌, ℕ, ◌+◌, ◌<◌, inl, inr, Bool, true, false, Some, List, [], ◌∷◌, length, take, drop, slice_index, refl, ap, ◌∙◌, arith, add-zero, suc, sym, subst, get_or-drop}
 use Rattle.std.specs.List.{list_all}
-use Rattle.std.proofs.Math.Seq.{take-add}
-use Rattle.py_lines.specs.Private.Outline.{HasLineEnd, HasOuterEnd, IsOuterEnd, line_end_of, PassesFirst}
+use Rattle.py_lines.specs.Private.Outline.{HasOuterEnd, IsOuterEnd, line_end_of, PassesFirst}
 use Rattle.py_lines.proofs.LineScan.AsciiRuns.{is_low}
 
 pub first_later : (bytes : List ℕ) (at : ℕ) → slice_index (drop at bytes) 0 ≡ slice_index bytes at
@@ -16,19 +15,7 @@ pub taken_two : (bytes : List ℕ) → 1 < length bytes → take 2 bytes ≡ sli
 taken_two [] within = absurd (omega (arith, within))
 taken_two (b ∷ bs) within = ap (λ t. b ∷ t) (taken_one bs (omega (arith, within)))
 
--- one byte, and some after it
-pub first_then : (bytes : List ℕ) (c len : ℕ) → 0 < length bytes → slice_index bytes 0 ≡ c → take (1 + len) bytes ≡ c ∷ take len (drop 1 bytes)
-first_then bytes c len some is = take-add 1 len bytes ∙ ap (λ t. t ++ take len (drop 1 bytes)) (taken_one bytes some ∙ ap (λ (d : ℕ). d ∷ []) is)
-
 -- a line end
-pub feed_found : (bytes : List ℕ) → 0 < length bytes → slice_index bytes 0 ≡ 10 → HasLineEnd bytes (Some 1)
-feed_found bytes within is = record {
-  some = omega arith;
-  within = within;
-  returned = false;
-  spell = taken_one bytes within ∙ ap (λ (c : ℕ). c ∷ []) is;
-}
-
 pub line_end_low : (returned : Bool) → list_all is_low (line_end_of returned) ≡ true
 line_end_low true = refl
 line_end_low false = refl
@@ -38,24 +25,16 @@ pub outer_end_low : (text after : List ℕ) → IsOuterEnd text after → list_a
 outer_end_low text after (inl (returned, is)) = ap (list_all is_low) is ∙ line_end_low returned
 outer_end_low text after (inr (is, other)) = ap (list_all is_low) is
 
-pub outer_found : (bytes : List ℕ) (found : Option ℕ) → HasLineEnd bytes found → HasOuterEnd bytes found
-outer_found bytes None has = tt
-outer_found bytes (Some len) has = record { some = has.some; within = has.within; is = inl (has.returned, has.spell) }
-
-pub return_found : (bytes : List ℕ) → 1 < length bytes → slice_index bytes 0 ≡ 13 → (slice_index bytes 1 ≡ 10 → ⊥) → HasOuterEnd bytes (Some 1)
-return_found [] within first other = absurd (omega (arith, within))
-return_found (b ∷ []) within first other = absurd (omega (arith, within))
-return_found (b ∷ c ∷ cs) within first other = record {
+pub feed_found : (bytes : List ℕ) → 0 < length bytes → slice_index bytes 0 ≡ 10 → HasOuterEnd bytes (Some 1)
+feed_found bytes within is = record {
   some = omega arith;
-  within = omega arith;
-  is = inr (ap (λ (d : ℕ). d ∷ []) first, other);
+  within = within;
+  is = inl (false, taken_one bytes within ∙ ap (λ (c : ℕ). c ∷ []) is);
 }
 
 -- a piece that begins with this byte
-pub passed_from : (bytes : List ℕ) (c len feeds : ℕ) (closes : Bool) → 0 < length bytes → slice_index bytes 0 ≡ c → PassesFirst (c ∷ drop 1 bytes) (record { len = suc len; line_ends = feeds }) closes
-    → PassesFirst bytes (record { len = 1 + len; line_ends = feeds }) closes
-passed_from [] c len feeds closes some is passes = absurd (omega (arith, some))
-passed_from (b ∷ cs) c len feeds closes some is passes =
+pub passed_from : (bytes : List ℕ) (c len : ℕ) (closes : Bool) → 0 < length bytes → slice_index bytes 0 ≡ c → PassesFirst (c ∷ drop 1 bytes) (suc len) closes → PassesFirst bytes (1 + len) closes
+passed_from [] c len closes some is passes = absurd (omega (arith, some))
+passed_from (b ∷ cs) c len closes some is passes =
     let size : suc len ≡ 1 + len = omega arith in
-    subst (λ (k : ℕ). PassesFirst (b ∷ cs) (record { len = k; line_ends = feeds }) closes) size
-    (subst (λ (d : ℕ). PassesFirst (d ∷ cs) (record { len = suc len; line_ends = feeds }) closes) (sym is) passes)
+    subst (λ (k : ℕ). PassesFirst (b ∷ cs) k closes) size (subst (λ (d : ℕ). PassesFirst (d ∷ cs) (suc len) closes) (sym is) passes)

@@ -2,7 +2,7 @@
 use Rattle.std.proofs.Common.{◌≡◌, ℕ, ◌+◌, ◌-◌, ◌<◌, inl, inr, Bool, true, false, Some, List, [], ◌∷◌, ◌++◌, length, take, drop, slice_index, ◌==◌, ◌∙◌, ap, sym, refl, subst, append_assoc, arith, lit<}
 use Rattle.std.proofs.lemmas.Bool.{both_ways}
 use Rattle.std.proofs.lemmas.List.{get_or-take, length-take-le}
-use Rattle.py_lines.specs.Character.{is_backslash, is_break, is_line_feed, is_quote, is_return, is_space}
+use Rattle.py_lines.specs.Character.{is_backslash, is_line_feed, is_quote, is_return, is_space}
 use Rattle.py_lines.specs.Piece.{Piece, join}
 use Rattle.py_lines.proofs.Pieces.PieceLists.{piece}
 use Rattle.py_lines.specs.declared.mode.Mode.{Mode}
@@ -10,79 +10,70 @@ use Rattle.py_lines.specs.declared.mode.Mode.TheVariants as modes
 use Rattle.py_lines.specs.declared.mode.Start.TheVariants as starts
 use Rattle.py_lines.specs.Private.Machine.{Bracket, fresh, move_of}
 use Rattle.py_lines.specs.Private.ScanMachine.{meet_of, scan_steps}
-use Rattle.py_lines.specs.Private.Scan.{line_start}
+use Rattle.py_lines.specs.Private.LineScan.{line_start}
 use Rattle.py_lines.specs.Private.Run.{is_ascii_word}
-use Rattle.py_lines.specs.Private.Outline.{BeginsOuterEnd, EndsBefore, HasCome, HasOuterEnd, HoldsLineEnds, IsFreeAfter, IsOuterEnd, PassesFirst, StandsClosed, line_end_of}
+use Rattle.py_lines.specs.Private.Outline.{BeginsOuterEnd, EndsBefore, HasCome, HasOuterEnd, IsFreeAfter, IsOuterEnd, PassesFirst, StandsClosed, line_end_of}
 use Rattle.py_lines.proofs.Machine.LiveTexts.{keeps}
 use Rattle.py_lines.proofs.Machine.PieceSteps.{scanned}
 use Rattle.py_lines.proofs.Machine.Starts.{start-slash}
-use Rattle.py_lines.proofs.LineScan.AsciiRuns.{is_low, low_encodes, low_is}
-use Rattle.py_lines.proofs.SimpleLines.Code.{return_waits, begins_as, closes_with, code_ends, grown, holds_line_end, holds_one, holds_return, no_tail_return, one_unreturned, opens, pieces}
+use Rattle.py_lines.proofs.LineScan.AsciiRuns.{ascii_scalar, is_low, low_encodes, low_is}
+use Rattle.py_lines.proofs.SimpleLines.Code.{return_waits, begins_as, closes_with, code_ends, grown, no_tail_return, opens, pieces}
 use Rattle.py_lines.proofs.LineTokens.FirstCharacters.{slash_is}
 use Rattle.py_lines.proofs.SimpleLines.Tails.{free_closed}
-use Rattle.py_lines.proofs.SimpleLines.FirstBytes.{outer_end_low, passed_from}
+use Rattle.py_lines.proofs.SimpleLines.FirstBytes.{line_end_low, outer_end_low, passed_from}
 use Rattle.py_lines.proofs.FieldScans.TextLengths.{later, rest_is}
 
-pub slash-not-break : is_break 92 ≡ false
-unfolding is_break
-slash-not-break = refl
-
-module _ (initial : Mode) (read : List ℕ) (n : ℕ) (st : List Bracket) (on : EndsBefore 92 initial read n st) where
+module _ (initial : Mode) (read : List ℕ) (st : List Bracket) (on : EndsBefore 92 initial read st) where
   abbrev done : List Piece
-  done = pieces initial read n st 92 on
+  done = pieces initial read st 92 on
 
-  opened : HasCome initial (read ++ 92 ∷ []) n st (scanned done modes.Backslash (92 ∷ []))
+  opened : HasCome initial (read ++ 92 ∷ []) st (scanned done modes.Backslash (92 ∷ []))
   unfolding is_backslash
-  opened = opens initial read n st 92 on modes.Backslash (start-slash 92 refl) (holds_one read 92 n on.come.holds (omega arith) slash-not-break)
+  opened = opens initial read st 92 on modes.Backslash (start-slash 92 refl) (lit< tt)
 
-  returned : HasCome initial ((read ++ 92 ∷ []) ++ 13 ∷ []) (n + 1) st (scanned done modes.JoinReturn (92 ∷ 13 ∷ []))
+  returned : HasCome initial ((read ++ 92 ∷ []) ++ 13 ∷ []) st (scanned done modes.JoinReturn (92 ∷ 13 ∷ []))
   unfolding meet_of move_of is_line_feed is_return
-  returned = grown modes.JoinReturn 13 opened refl (holds_return (read ++ 92 ∷ []) n opened.holds)
+  returned = grown modes.JoinReturn 13 opened refl (ascii_scalar 13 (lit< tt))
 
   join_steps : (returned : Bool) → scan_steps (Some (line_start initial)) (read ++ 92 ∷ line_end_of returned) ≡ Some (fresh (done ++ piece join (92 ∷ line_end_of returned) ∷ []))
   unfolding meet_of move_of is_backslash is_line_feed is_return
-  join_steps false = begins_as initial read n st 92 on (10 ∷ []) (starts.Open modes.Backslash) (start-slash 92 refl)
-  join_steps true = begins_as initial read n st 92 on (13 ∷ 10 ∷ []) (starts.Open modes.Backslash) (start-slash 92 refl)
+  join_steps false = begins_as initial read st 92 on (10 ∷ []) (starts.Open modes.Backslash) (start-slash 92 refl)
+  join_steps true = begins_as initial read st 92 on (13 ∷ 10 ∷ []) (starts.Open modes.Backslash) (start-slash 92 refl)
 
-  join_leads : (returned : Bool) → IsFreeAfter initial (read ++ 92 ∷ line_end_of returned) (n + 1) st
+  join_leads : (returned : Bool) → IsFreeAfter initial (read ++ 92 ∷ line_end_of returned) st
   join_leads returned =
-      let p = piece join (92 ∷ line_end_of returned) in
-      closes_with initial read n st 92 on (92 ∷ line_end_of returned) p (join_steps returned) (keeps done p st refl refl opened.stacked) refl
-      (subst (λ (t : List ℕ). HoldsLineEnds t (n + 1)) (append_assoc read (92 ∷ []) (line_end_of returned))
-      (holds_line_end returned (read ++ 92 ∷ []) n opened.holds (λ feeds. one_unreturned read 92 slash-not-break)))
+      let text : List ℕ = 92 ∷ line_end_of returned in
+      closes_with initial read st 92 on text (piece join text) (join_steps returned) (keeps done (piece join text) st refl refl opened.stacked) refl
+      (low_encodes is_low text low_is (line_end_low returned)).1
 
   -- CR alone, before another byte
-  return_leads : (c : ℕ) → (c ≡ 10 → ⊥) → EndsBefore c initial ((read ++ 92 ∷ []) ++ 13 ∷ []) (n + 1) st
+  return_leads : (c : ℕ) → (c ≡ 10 → ⊥) → EndsBefore c initial ((read ++ 92 ∷ []) ++ 13 ∷ []) st
   return_leads c other = record {
     state = scanned done modes.JoinReturn (92 ∷ 13 ∷ []);
     come = returned;
     breaks = (return_waits c other).1;
-    parted = λ feeds. absurd (other feeds);
     inside = λ is. absurd (cc);
     tail = λ begins. no_tail_return (read ++ 92 ∷ []);
   }
 
   -- after either: no piece is open, unless CR alone ends it
-  joined : (closes : Bool) (text after : List ℕ) → IsOuterEnd text after → (closes ≡ true → text ≡ 13 ∷ [] → ⊥) → StandsClosed closes after initial (read ++ 92 ∷ text) (n + 1) st
-  joined closes text after (inl (returned, is)) fed = rw is (free_closed closes after initial (read ++ 92 ∷ line_end_of returned) (n + 1) st (join_leads returned))
+  joined : (closes : Bool) (text after : List ℕ) → IsOuterEnd text after → (closes ≡ true → text ≡ 13 ∷ [] → ⊥) → StandsClosed closes after initial (read ++ 92 ∷ text) st
+  joined closes text after (inl (returned, is)) fed = rw is (free_closed closes after initial (read ++ 92 ∷ line_end_of returned) st (join_leads returned))
   joined true text after (inr (is, other)) fed = absurd (fed refl is)
   joined false text [] (inr (is, other)) fed = absurd other
   joined false text (c ∷ cs) (inr (is, other)) fed =
-      rw is (inr (subst (λ (t : List ℕ). EndsBefore c initial t (n + 1) st) (append_assoc read (92 ∷ []) (13 ∷ [])) (return_leads c other)))
+      rw is (inr (subst (λ (t : List ℕ). EndsBefore c initial t st) (append_assoc read (92 ∷ []) (13 ∷ [])) (return_leads c other)))
 
-pub join_passed : (bytes : List ℕ) (len : ℕ) → 0 < length bytes → is_backslash (slice_index bytes 0) ≡ true → HasOuterEnd (take (length bytes - 1) (drop 1 bytes)) (Some len)
-    → PassesFirst bytes (record { len = 1 + len; line_ends = 1 }) (slice_index bytes len == 10)
+pub join_passed : (bytes : List ℕ) (len : ℕ) → 0 < length bytes → is_backslash (slice_index bytes 0) ≡ true → HasOuterEnd (take (length bytes - 1) (drop 1 bytes)) (Some len) → PassesFirst bytes (1 + len) (slice_index bytes len == 10)
 unfolding is_ascii_word is_quote is_space
 join_passed bytes len some slash found =
-    passed_from bytes 92 len 1 (slice_index bytes len == 10) some (slash_is (slice_index bytes 0) slash) (record {
+    passed_from bytes 92 len (slice_index bytes len == 10) some (slash_is (slice_index bytes 0) slash) (record {
       some = omega arith;
-      few = omega arith;
       part = record {
         within = omega (arith, ends.within);
         run = 92 ∷ text;
         spell = (low_encodes is_low (92 ∷ text) low_is (outer_end_low text (drop len cs) ends.is)).0;
-        leads = λ initial read n st on.
-            joined initial read n st (code_ends cs initial read n st 92 (lit< tt) refl on) (slice_index bytes len == 10) text (drop len cs) ends.is fed;
+        leads = λ initial read st on. joined initial read st (code_ends cs initial read st 92 (lit< tt) refl on) (slice_index bytes len == 10) text (drop len cs) ends.is fed;
       };
     })
   where

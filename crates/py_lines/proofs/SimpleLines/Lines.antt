@@ -1,5 +1,5 @@
 -- Simple lines follow one another: from one byte that is not plain to the next, and from line end to line end.
-use Rattle.std.proofs.Common.{◌≡◌, ℕ, ◌+◌, ◌-◌, ◌<◌, ◌≤◌, ◌==◌, inl, inr, Bool, true, false, not, ◌&&◌, ◌||◌, Option, None, Some, List, [], ◌∷◌, ◌++◌, length, take, drop, slice_index, refl, sym, ap, ◌∙◌, subst, append_assoc, append-nil, arith, length-drop, ⊎_elim}
+use Rattle.std.proofs.Common.{◌≡◌, ℕ, ◌+◌, ◌-◌, ◌<◌, ◌≤◌, inl, inr, Bool, true, false, not, ◌&&◌, ◌||◌, Option, None, List, [], ◌∷◌, ◌++◌, length, take, drop, slice_index, refl, sym, ap, ◌∙◌, subst, append_assoc, append-nil, arith, length-drop, ⊎_elim}
 use Rattle.std.specs.List.{list_all}
 use Rattle.std.specs.Str.{all_scalars}
 use Rattle.std.proofs.lemmas.Bool.{and_parts, or_cases, or_parts, not-true}
@@ -8,8 +8,7 @@ use Rattle.std.proofs.lemmas.Str.{encodes-append}
 use Rattle.std.proofs.Math.Seq.{take-add}
 use Rattle.std.specs.Prelude.{encode_utf8_all}
 use Rattle.py_lines.specs.Balance.{is_closing, is_opening}
-use Rattle.py_lines.specs.Character.{is_operator, is_return, is_space}
-use Rattle.py_lines.specs.Piece.{ends}
+use Rattle.py_lines.specs.Character.{is_operator, is_space}
 use Rattle.py_lines.specs.LogicalLine.{byte_len}
 use Rattle.py_lines.specs.declared.frames.Frame.{Frame}
 use Rattle.py_lines.specs.declared.marks.Marks.{Marks}
@@ -17,25 +16,23 @@ use Rattle.py_lines.specs.declared.mode.Mode.{Mode}
 use Rattle.py_lines.specs.declared.mode.Mode.TheVariants as modes
 use Rattle.py_lines.specs.declared.mode.Spelling.{Spelling}
 use Rattle.py_lines.specs.declared.passing.Passing.{Passing}
-use Rattle.py_lines.specs.declared.plain_strings.Passed.{Passed}
 use Rattle.py_lines.specs.Private.Machine.{Bracket}
 use Rattle.py_lines.specs.Private.Marks.{FindsNext, HasMarks, is_plain}
 use Rattle.py_lines.specs.Private.Run.{is_ascii_word}
-use Rattle.py_lines.specs.Private.FieldScan.{frames_of}
-use Rattle.py_lines.specs.Private.Scan.{none_open}
+use Rattle.py_lines.specs.Private.Scan.{frames_of}
+use Rattle.py_lines.specs.Private.LineScan.{none_open}
 use Rattle.py_lines.specs.Private.Outline.{AreWholeLines, BeginWithLines, BeginsOuterEnd, IsLine, IsWholeLine, StandsBefore, StandsClosed, tail_of, tail_on}
 use Rattle.py_lines.specs.Private.Passing.{EndsLineSo, PassesOver, PassesSo, nothing_passed}
 use Rattle.py_lines.proofs.FieldScans.TextLengths.{later}
 use Rattle.py_lines.proofs.LineScan.BracketStack.{none_framed}
-use Rattle.py_lines.proofs.LineScan.LineCount.{line_ends-bytes}
 use Rattle.py_lines.proofs.LineScan.NextCharacter.{empty_stack}
 use Rattle.py_lines.proofs.LineScan.AsciiRuns.{all_pass, low_encodes}
 use Rattle.py_lines.proofs.LogicalLines.Cuts.{byte_len-append}
 use Rattle.py_lines.proofs.Text.Utf8Prefixes.{all_scalars-append}
-use Rattle.py_lines.proofs.SimpleLines.Code.{IsCodeByte, begun, code_low, code_run, outer_end_returns, outer_end_whole, tail-encoded}
-use Rattle.py_lines.proofs.SimpleLines.Tails.{closed_stands, stands, tail_on-append, stands_holds}
-use Rattle.py_lines.proofs.SimpleLines.FirstBytes.{feed_found, outer_found, first_later}
-use Rattle.py_lines.proofs.SimpleLines.Passing.{end_is, end_last, end_spells, end_split, end_within, passed_further}
+use Rattle.py_lines.proofs.SimpleLines.Code.{IsCodeByte, begun, code_low, code_run, outer_end_whole, tail-encoded}
+use Rattle.py_lines.proofs.SimpleLines.Tails.{closed_stands, stands, tail_on-append}
+use Rattle.py_lines.proofs.SimpleLines.FirstBytes.{feed_found, first_later}
+use Rattle.py_lines.proofs.SimpleLines.Passing.{end_is, end_spells, end_split, end_within, passed_further}
 
 -- a plain byte is one of code
 pub plain_code : (c : ℕ) → is_plain c ≡ true → IsCodeByte c
@@ -51,95 +48,74 @@ plain_code c h = ⊎_elim (λ word. inl word)
         (parts.0, none.0, none.1)
 
 -- one more line after others
-line_push : (texts : List (List ℕ)) (read line : List ℕ) (n k : ℕ) (after : List ℕ) → AreWholeLines texts read n (encode_utf8_all line ++ after) → 0 < length line → IsWholeLine line k after → AreWholeLines (texts ++ line ∷ []) (read ++ line) (n + k) after
-line_push [] read line n k after are some whole = record {
-  later = [];
-  own = k;
-  more = 0;
-  some = some;
-  spell = ap (λ t. t ++ line) are.0 ∙ sym (append-nil line);
-  count = omega (arith, are.1);
-  whole = whole;
-  lines = (refl, refl);
-}
-line_push (t ∷ texts) read line n k after are some whole = record {
+line_push : (texts : List (List ℕ)) (read line after : List ℕ) → AreWholeLines texts read (encode_utf8_all line ++ after) → 0 < length line → IsWholeLine line after → AreWholeLines (texts ++ line ∷ []) (read ++ line) after
+line_push [] read line after are some whole = record { later = []; some = some; spell = ap (λ t. t ++ line) are ∙ sym (append-nil line); whole = whole; lines = refl }
+line_push (t ∷ texts) read line after are some whole = record {
   later = are.later ++ line;
-  own = are.own;
-  more = are.more + k;
   some = are.some;
   spell = ap (λ u. u ++ line) are.spell ∙ append_assoc t are.later line;
-  count = omega (arith, are.count);
-  whole =
-      subst (IsWholeLine t are.own) (sym (append_assoc (encode_utf8_all are.later) (encode_utf8_all line) after) ∙ ap (λ u. u ++ after) (sym (encodes-append are.later line)))
-      are.whole;
-  lines = line_push texts are.later line are.more k after are.lines some whole;
+  whole = subst (IsWholeLine t) (sym (append_assoc (encode_utf8_all are.later) (encode_utf8_all line) after) ∙ ap (λ u. u ++ after) (sym (encodes-append are.later line))) are.whole;
+  lines = line_push texts are.later line after are.lines some whole;
 }
 
--- lines end with no word, and have no more line ends than bytes
-lines_tail : (texts : List (List ℕ)) (read : List ℕ) (n : ℕ) (after : List ℕ) → AreWholeLines texts read n after → tail_of read ≡ None
-lines_tail [] read n after are = ap tail_of are.0
-lines_tail (t ∷ texts) read n after are =
-    ap tail_of are.spell ∙ tail_on-append None t are.later ∙ ap (λ (o : Option Spelling). tail_on o are.later) are.whole.tail ∙ lines_tail texts are.later are.more after are.lines
+-- lines end with no word
+lines_tail : (texts : List (List ℕ)) (read after : List ℕ) → AreWholeLines texts read after → tail_of read ≡ None
+lines_tail [] read after are = ap tail_of are
+lines_tail (t ∷ texts) read after are =
+    ap tail_of are.spell ∙ tail_on-append None t are.later ∙ ap (λ (o : Option Spelling). tail_on o are.later) are.whole.tail ∙ lines_tail texts are.later after are.lines
 
-pub lines_scalars : (texts : List (List ℕ)) (read : List ℕ) (n : ℕ) (after : List ℕ) → AreWholeLines texts read n after → all_scalars read ≡ true
-lines_scalars [] read n after are = ap all_scalars are.0
-lines_scalars (t ∷ texts) read n after are =
-    ap all_scalars are.spell ∙ all_scalars-append t are.later are.whole.holds.scalars (lines_scalars texts are.later are.more after are.lines)
-
-pub lines_few : (texts : List (List ℕ)) (read : List ℕ) (n : ℕ) (after : List ℕ) → AreWholeLines texts read n after → n ≤ byte_len read
-lines_few [] read n after are = omega (arith, are.1)
-lines_few (t ∷ texts) read n after are =
-    omega (arith, are.count, lines_few texts are.later are.more after are.lines, are.whole.holds.count, line_ends-bytes t, ap byte_len are.spell, byte_len-append t are.later)
+pub lines_scalars : (texts : List (List ℕ)) (read after : List ℕ) → AreWholeLines texts read after → all_scalars read ≡ true
+lines_scalars [] read after are = ap all_scalars are
+lines_scalars (t ∷ texts) read after are = ap all_scalars are.spell ∙ all_scalars-append t are.later are.whole.scalars (lines_scalars texts are.later after are.lines)
 
 -- the line end that the bytes have at a byte
 pub feed_ends : (bytes : List ℕ) (at : ℕ) → at < length bytes → slice_index bytes at ≡ 10 → BeginsOuterEnd (drop at bytes) 1
 feed_ends bytes at within is =
-    outer_found (drop at bytes) (Some 1) (feed_found (drop at bytes) (omega (arith, within, length-drop at bytes)) (first_later bytes at ∙ is))
+    feed_found (drop at bytes) (omega (arith, within, length-drop at bytes)) (first_later bytes at ∙ is)
 
 -- no line was passed
-none_passed : (bytes : List ℕ) → BeginWithLines bytes (record { len = 0; line_ends = 0 })
-none_passed bytes = record { within = omega arith; read = []; spell = refl; texts = []; whole = (refl, refl) }
+none_passed : (bytes : List ℕ) → BeginWithLines bytes 0
+none_passed bytes = record { within = omega arith; read = []; spell = refl; texts = []; whole = refl }
 
 -- how a line stands, in such a mode, after such characters
 abbrev pub Stand : Type 1
-Stand = Mode → List ℕ → ℕ → List Bracket → Type 0
+Stand = Mode → List ℕ → List Bracket → Type 0
 
 -- the bytes up to this one spell characters of earlier lines, and more, after which a line stands so that has begun with others
-pub record ComesTo (bytes : List ℕ) (m : Mode) (past before : List ℕ) (at n : ℕ) (st : List Bracket) (holds : Stand) : Type 0 where
+pub record ComesTo (bytes : List ℕ) (m : Mode) (past before : List ℕ) (at : ℕ) (st : List Bracket) (holds : Stand) : Type 0 where
   pub within : at ≤ length bytes
   pub run : List ℕ
   pub spell : encode_utf8_all (past ++ run) ≡ take at bytes
-  pub stands : holds m (before ++ run) n st
+  pub stands : holds m (before ++ run) st
 
--- a line has ended after these characters, with so many bytes of them, of which CR may be the last
-pub record EndsSo (len : ℕ) (after : List ℕ) (returned : Bool) (m : Mode) (read : List ℕ) (n : ℕ) (st : List Bracket) : Type 0 where
-  pub line : IsLine m read n after
+-- a line has ended after these characters, with so many bytes of them
+pub record EndsSo (len : ℕ) (after : List ℕ) (m : Mode) (read : List ℕ) (st : List Bracket) : Type 0 where
+  pub line : IsLine m read after
   pub size : line.len ≡ len
-  pub returns : returned ≡ ends is_return read
 
 module _ (bytes : List ℕ) (m : Mode) (past before : List ℕ) where
-  abbrev pub Comes : ℕ → ℕ → List Bracket → Stand → Type 0
-  Comes at n st stands = ComesTo bytes m past before at n st stands
+  abbrev pub Comes : ℕ → List Bracket → Stand → Type 0
+  Comes at st stands = ComesTo bytes m past before at st stands
 
-  abbrev pub ComesBefore : ℕ → ℕ → List Bracket → Type 0
-  ComesBefore at n st = Comes at n st (StandsBefore (drop at bytes))
+  abbrev pub ComesBefore : ℕ → List Bracket → Type 0
+  ComesBefore at st = Comes at st (StandsBefore (drop at bytes))
 
   -- the line comes so many bytes further
-  further : (at len n k : ℕ) (st after : List Bracket) (stands comes : Stand) → (c : Comes at n st stands) → at + len ≤ length bytes
-      → (run : List ℕ) → encode_utf8_all run ≡ take len (drop at bytes) → comes m ((before ++ c.run) ++ run) k after
-      → Comes (at + len) k after comes
-  further at len n k st after stands comes c room run spell on = record {
+  further : (at len : ℕ) (st after : List Bracket) (stands comes : Stand) → (c : Comes at st stands) → at + len ≤ length bytes
+      → (run : List ℕ) → encode_utf8_all run ≡ take len (drop at bytes) → comes m ((before ++ c.run) ++ run) after
+      → Comes (at + len) after comes
+  further at len st after stands comes c room run spell on = record {
     within = room;
     run = c.run ++ run;
     spell = ap encode_utf8_all (sym (append_assoc past c.run run)) ∙ encodes-append (past ++ c.run) run
         ∙ ap (λ t. t ++ encode_utf8_all run) c.spell ∙ ap (λ t. take at bytes ++ t) spell ∙ sym (take-add at len bytes);
-    stands = subst (λ (t : List ℕ). comes m t k after) (append_assoc before c.run run) on;
+    stands = subst (λ (t : List ℕ). comes m t after) (append_assoc before c.run run) on;
   }
 
   -- over plain bytes
-  pub plain_further : (from at n : ℕ) (st : List Bracket) → ComesBefore from n st → from ≤ at → at ≤ length bytes
-      → ((i : ℕ) → from ≤ i → i < at → is_plain (slice_index bytes i) ≡ true) → ComesBefore at n st
-  plain_further from at n st come after within plain =
+  pub plain_further : (from at : ℕ) (st : List Bracket) → ComesBefore from st → from ≤ at → at ≤ length bytes
+      → ((i : ℕ) → from ≤ i → i < at → is_plain (slice_index bytes i) ≡ true) → ComesBefore at st
+  plain_further from at st come after within plain =
       let len = at - from in
       let there : from + len ≡ at = omega (arith, after) in
       let run = take len (drop from bytes) in
@@ -148,54 +124,47 @@ module _ (bytes : List ℕ) (m : Mode) (past before : List ℕ) where
       let spell = (low_encodes is_plain run (λ c is. code_low c (plain_code c is)) all).0 in
       let split : drop from bytes ≡ run ++ drop (from + len) bytes =
       sym (take-append-drop len (drop from bytes)) ∙ ap (λ t. run ++ t) (drop-drop len from bytes) in
-      subst (λ (k : ℕ). ComesBefore k n st) there
-      (further from len n n st st (StandsBefore (drop from bytes)) (StandsBefore (drop (from + len) bytes)) come (omega (arith, there, within)) run spell
-      (code_run is_plain m (before ++ come.run) run (drop (from + len) bytes) n st plain_code all
-      (subst (λ (t : List ℕ). StandsBefore t m (before ++ come.run) n st) split come.stands)))
+      subst (λ (k : ℕ). ComesBefore k st) there
+      (further from len st st (StandsBefore (drop from bytes)) (StandsBefore (drop (from + len) bytes)) come (omega (arith, there, within)) run spell
+      (code_run is_plain m (before ++ come.run) run (drop (from + len) bytes) st plain_code all
+      (subst (λ (t : List ℕ). StandsBefore t m (before ++ come.run) st) split come.stands)))
 
   -- over what is passed at a byte that isn't plain
-  pub over_further : (at place len more n : ℕ) (closes : Bool) (st after : List Bracket) → tail_of past ≡ None → tail_of before ≡ None
-      → (c : ComesBefore at n st) → byte_len (before ++ c.run) ≡ place → PassesOver bytes at place len more closes st after
-      → Comes (at + len) (n + more) after (StandsClosed closes (drop (at + len) bytes))
-  over_further at place len more n closes st after none apart c here over =
+  pub over_further : (at place len : ℕ) (closes : Bool) (st after : List Bracket) → tail_of past ≡ None → tail_of before ≡ None
+      → (c : ComesBefore at st) → byte_len (before ++ c.run) ≡ place → PassesOver bytes at place len closes st after
+      → Comes (at + len) after (StandsClosed closes (drop (at + len) bytes))
+  over_further at place len closes st after none apart c here over =
       let tail : tail_of (before ++ c.run) ≡ tail_of (take at bytes) =
       tail_on-append None before c.run ∙ ap (λ (o : Option Spelling). tail_on o c.run) (apart ∙ sym none) ∙ sym (tail_on-append None past c.run)
       ∙ sym (tail-encoded None (past ++ c.run)) ∙ ap tail_of c.spell in
-      further at len n (n + more) st after (StandsBefore (drop at bytes)) (StandsClosed closes (drop (at + len) bytes)) c over.within
-      over.run over.spell (over.leads m (before ++ c.run) n tail here c.stands)
+      further at len st after (StandsBefore (drop at bytes)) (StandsClosed closes (drop (at + len) bytes)) c over.within
+      over.run over.spell (over.leads m (before ++ c.run) tail here c.stands)
 
-  pub stands_there : (at n : ℕ) (st : List Bracket) (closes : Bool) → Comes at n st (StandsClosed closes (drop at bytes)) → ComesBefore at n st
-  stands_there at n st closes c = record {
+  pub stands_there : (at : ℕ) (st : List Bracket) (closes : Bool) → Comes at st (StandsClosed closes (drop at bytes)) → ComesBefore at st
+  stands_there at st closes c = record {
     within = c.within;
     run = c.run;
     spell = c.spell;
-    stands = closed_stands closes (drop at bytes) m (before ++ c.run) n st c.stands;
+    stands = closed_stands closes (drop at bytes) m (before ++ c.run) st c.stands;
   }
 
   -- over a line end that ends the line
-  pub end_further : (at len n : ℕ) (st : List Bracket) → ComesBefore at n st → at < length bytes → BeginsOuterEnd (drop at bytes) len
-      → none_open st ≡ true → Comes (at + len) (n + 1) [] (EndsSo len (drop (at + len) bytes) (slice_index bytes (at + len - 1) == 13))
-  end_further at len n st come within found none =
+  pub end_further : (at len : ℕ) (st : List Bracket) → ComesBefore at st → at < length bytes → BeginsOuterEnd (drop at bytes) len
+      → none_open st ≡ true → Comes (at + len) [] (EndsSo len (drop (at + len) bytes))
+  end_further at len st come within found none =
       let text = take len (drop at bytes) in
       let after = drop (at + len) bytes in
-      let read = before ++ come.run in
-      let is = end_is bytes at within len found in
       let spell = end_spells bytes at within len found in
-      let line_is = outer_end_whole text after m read n is (rw (← empty_stack st none, ← end_split bytes at within len found) come.stands) in
-      further at len n (n + 1) st [] (StandsBefore (drop at bytes)) (EndsSo len after (slice_index bytes (at + len - 1) == 13)) come
-      (end_within bytes at within len found) text spell (record {
-        line = line_is.0;
-        size = line_is.1 ∙ ap length spell ∙ length-take-le len (drop at bytes) found.within;
-        returns = ap (λ (c : ℕ). c == 13) (end_last bytes at within len found) ∙ outer_end_returns text after read is;
-      })
+      let line_is = outer_end_whole text after m (before ++ come.run) (end_is bytes at within len found)
+      (rw (← empty_stack st none, ← end_split bytes at within len found) come.stands) in
+      further at len st [] (StandsBefore (drop at bytes)) (EndsSo len after) come (end_within bytes at within len found) text spell
+      (record { line = line_is.0; size = line_is.1 ∙ ap length spell ∙ length-take-le len (drop at bytes) found.within })
 
--- after such lines the next has come to this byte; so many line ends stand before it, and these brackets are open
-pub record HasComeTo (bytes : List ℕ) (lines : Passed) (at n : ℕ) (st : List Bracket) : Type 0 where
-  pub ordered : lines.len ≤ at
+-- after such lines the next has come to this byte, where these brackets are open
+pub record HasComeTo (bytes : List ℕ) (lines at : ℕ) (st : List Bracket) : Type 0 where
+  pub ordered : lines ≤ at
   pub lines_are : BeginWithLines bytes lines
-  more : ℕ
-  count : n ≡ lines.line_ends + more
-  come : ComesTo bytes modes.Free lines_are.read [] at more st (StandsBefore (drop at bytes))
+  come : ComesTo bytes modes.Free lines_are.read [] at st (StandsBefore (drop at bytes))
 
 some_characters : (cs : List ℕ) → 0 < byte_len cs → 0 < length cs
 some_characters [] some = absurd (omega (arith, some))
@@ -203,169 +172,134 @@ some_characters (c ∷ cs) some = omega arith
 
 module _ (bytes : List ℕ) where
   -- the next line begins after such lines
-  line_begins : (lines : Passed) → BeginWithLines bytes lines → HasComeTo bytes lines lines.len lines.line_ends []
+  line_begins : (lines : ℕ) → BeginWithLines bytes lines → HasComeTo bytes lines lines []
   line_begins lines are = record {
     ordered = omega arith;
     lines_are = are;
-    more = 0;
-    count = omega arith;
     come = record {
       within = are.within;
       run = [];
       spell = ap encode_utf8_all (append-nil are.read) ∙ are.spell;
-      stands = stands (drop lines.len bytes) modes.Free [] 0 [] begun;
+      stands = stands (drop lines bytes) modes.Free [] [] begun;
     };
   }
 
   -- the bytes of the lines, and its own
-  line_size : (lines : Passed) (at more : ℕ) (st : List Bracket) (stands : Stand) (are : BeginWithLines bytes lines)
-      → (c : ComesTo bytes modes.Free are.read [] at more st stands) → lines.len + byte_len c.run ≡ at
-  line_size lines at more st stands are c =
-      omega (arith, byte_len-append are.read c.run, ap length c.spell, length-take-le at bytes c.within, ap length are.spell, length-take-le lines.len bytes are.within)
+  line_size : (lines at : ℕ) (st : List Bracket) (stands : Stand) (are : BeginWithLines bytes lines)
+      → (c : ComesTo bytes modes.Free are.read [] at st stands) → lines + byte_len c.run ≡ at
+  line_size lines at st stands are c =
+      omega (arith, byte_len-append are.read c.run, ap length c.spell, length-take-le at bytes c.within, ap length are.spell, length-take-le lines bytes are.within)
 
   -- over plain bytes
-  plain_on : (lines : Passed) (from at n : ℕ) (st : List Bracket) (marks : Marks) → HasComeTo bytes lines from n st → FindsNext bytes from at marks → HasComeTo bytes lines at n st
-  plain_on lines from at n st marks on next = record {
+  plain_on : (lines from at : ℕ) (st : List Bracket) (marks : Marks) → HasComeTo bytes lines from st → FindsNext bytes from at marks → HasComeTo bytes lines at st
+  plain_on lines from at st marks on next = record {
     ordered = omega (arith, on.ordered, next.after);
     lines_are = on.lines_are;
-    more = on.more;
-    count = on.count;
-    come = plain_further bytes modes.Free on.lines_are.read [] from at on.more st on.come next.after next.within next.plain;
+    come = plain_further bytes modes.Free on.lines_are.read [] from at st on.come next.after next.within next.plain;
   }
 
   -- over what is passed at a byte that isn't plain
-  passed_on : (lines : Passed) (at n len more : ℕ) (closes : Bool) (st after : List Bracket) → HasComeTo bytes lines at n st
-      → PassesOver bytes at (at - lines.len) len more closes st after → HasComeTo bytes lines (at + len) (n + more) after
-  passed_on lines at n len more closes st after on over =
+  passed_on : (lines at len : ℕ) (closes : Bool) (st after : List Bracket) → HasComeTo bytes lines at st
+      → PassesOver bytes at (at - lines) len closes st after → HasComeTo bytes lines (at + len) after
+  passed_on lines at len closes st after on over =
       let past = on.lines_are in
       record {
         ordered = omega (arith, on.ordered);
         lines_are = past;
-        more = on.more + more;
-        count = omega (arith, on.count);
-        come = stands_there bytes modes.Free past.read [] (at + len) (on.more + more) after closes
-            (over_further bytes modes.Free past.read [] at (at - lines.len) len more on.more closes st after
-            (lines_tail past.texts past.read lines.line_ends (drop lines.len bytes) past.whole) refl on.come
-            (omega (arith, line_size lines at on.more st (StandsBefore (drop at bytes)) past on.come)) over);
+        come = stands_there bytes modes.Free past.read [] (at + len) after closes
+            (over_further bytes modes.Free past.read [] at (at - lines) len closes st after
+            (lines_tail past.texts past.read (drop lines bytes) past.whole) refl on.come
+            (omega (arith, line_size lines at st (StandsBefore (drop at bytes)) past on.come)) over);
       }
 
   -- over a line end that ends the line
-  line_end_ends_line : (lines : Passed) (at n len : ℕ) (st : List Bracket) → HasComeTo bytes lines at n st → at < length bytes
-      → BeginsOuterEnd (drop at bytes) len → none_open st ≡ true → HasComeTo bytes (record { len = at + len; line_ends = n + 1 }) (at + len) (n + 1) st
-  line_end_ends_line lines at n len st on within found none =
+  line_end_ends_line : (lines at len : ℕ) (st : List Bracket) → HasComeTo bytes lines at st → at < length bytes
+      → BeginsOuterEnd (drop at bytes) len → none_open st ≡ true → HasComeTo bytes (at + len) (at + len) st
+  line_end_ends_line lines at len st on within found none =
       let past = on.lines_are in
       let after = drop (at + len) bytes in
-      let holds : Stand = EndsSo len after (slice_index bytes (at + len - 1) == 13) in
-      let c = end_further bytes modes.Free past.read [] at len on.more st on.come within found none in
-      let size = line_size lines (at + len) (on.more + 1) [] holds past c in
-      let count : lines.line_ends + (on.more + 1) ≡ n + 1 = omega (arith, on.count) in
+      let c = end_further bytes modes.Free past.read [] at len st on.come within found none in
+      let size = line_size lines (at + len) [] (EndsSo len after) past c in
       let some : 0 < length c.run = some_characters c.run (omega (arith, size, on.ordered, found.some)) in
-      let split : drop lines.len bytes ≡ encode_utf8_all c.run ++ after =
-      append_cancel_left (take lines.len bytes) _ _ (take-append-drop lines.len bytes ∙ sym (take-append-drop (at + len) bytes)
+      let split : drop lines bytes ≡ encode_utf8_all c.run ++ after =
+      append_cancel_left (take lines bytes) _ _ (take-append-drop lines bytes ∙ sym (take-append-drop (at + len) bytes)
       ∙ ap (λ t. t ++ after) (sym c.spell ∙ encodes-append past.read c.run ∙ ap (λ t. t ++ encode_utf8_all c.run) past.spell)
-      ∙ append_assoc (take lines.len bytes) (encode_utf8_all c.run) after) in
-      let pushed = line_push past.texts past.read c.run lines.line_ends (on.more + 1) after (subst (AreWholeLines past.texts past.read lines.line_ends) split past.whole) some c.stands.line in
-      rw (empty_stack st none) (line_begins (record { len = at + len; line_ends = n + 1 }) (record {
+      ∙ append_assoc (take lines bytes) (encode_utf8_all c.run) after) in
+      rw (empty_stack st none) (line_begins (at + len) (record {
         within = c.within;
         read = past.read ++ c.run;
         spell = c.spell;
         texts = past.texts ++ c.run ∷ [];
-        whole = subst (λ (k : ℕ). AreWholeLines (past.texts ++ c.run ∷ []) (past.read ++ c.run) k after) count pushed;
+        whole = line_push past.texts past.read c.run after (subst (AreWholeLines past.texts past.read) split past.whole) some c.stands.line;
       }))
 
-  -- the line ends are no more than the bytes
-  few_ends : (lines : Passed) (at n : ℕ) (st : List Bracket) → HasComeTo bytes lines at n st → n ≤ at
-  few_ends lines at n st on =
-      let past = on.lines_are in
-      let before = lines_few past.texts past.read lines.line_ends (drop lines.len bytes) past.whole in
-      let holds = stands_holds (drop at bytes) modes.Free on.come.run on.more st on.come.stands in
-      omega (
-        arith,
-        on.count,
-        before,
-        holds.count,
-        line_ends-bytes on.come.run,
-        line_size lines at on.more st (StandsBefore (drop at bytes)) past on.come,
-        ap length past.spell,
-        length-take-le lines.len bytes past.within,
-      )
-
 -- where these frames are open, which are its brackets
-pub record HasComeWith (bytes : List ℕ) (lines : Passed) (at n : ℕ) (b : List Frame) : Type 0 where
+pub record HasComeWith (bytes : List ℕ) (lines at : ℕ) (b : List Frame) : Type 0 where
   pub stack : List Bracket
   pub frames : b ≡ frames_of stack
-  pub come : HasComeTo bytes lines at n stack
+  pub come : HasComeTo bytes lines at stack
 
 -- the line that is open after these lines has come to this byte, which isn't plain, or the bytes end there
-pub record StandsAt (bytes : List ℕ) (lines : Passed) (at : ℕ) (p : Passing) (b : List Frame) : Type 0 where
-  pub come : HasComeWith bytes lines at p.all.line_ends b
+pub record StandsAt (bytes : List ℕ) (lines at : ℕ) (p : Passing) (b : List Frame) : Type 0 where
+  pub come : HasComeWith bytes lines at b
   pub marked : at < length bytes → HasMarks bytes (at + 1) p.marks
 
 -- it has come further than this byte, after bytes that were passed
-pub record HasComeFurther (bytes : List ℕ) (lines : Passed) (at : ℕ) (p : Passing) (b : List Frame) : Type 0 where
-  pub further : at < p.all.len
-  pub come : HasComeWith bytes lines p.all.len p.all.line_ends b
-  pub marked : HasMarks bytes p.all.len p.marks
+pub record HasComeFurther (bytes : List ℕ) (lines at : ℕ) (p : Passing) (b : List Frame) : Type 0 where
+  pub further : at < p.all
+  pub come : HasComeWith bytes lines p.all b
+  pub marked : HasMarks bytes p.all p.marks
 
 -- from where bytes were passed to the next one that isn't plain
-pub next_at : (bytes : List ℕ) (lines : Passed) (at : ℕ) (p : Passing) (marks : Marks) (b : List Frame)
-    → HasComeWith bytes lines p.all.len p.all.line_ends b → FindsNext bytes p.all.len at marks
-    → StandsAt bytes lines at (record p { marks = marks }) b
+pub next_at : (bytes : List ℕ) (lines at : ℕ) (p : Passing) (marks : Marks) (b : List Frame)
+    → HasComeWith bytes lines p.all b → FindsNext bytes p.all at marks → StandsAt bytes lines at (record p { marks = marks }) b
 next_at bytes lines at p marks b on next = record {
-  come = record {
-    stack = on.stack;
-    frames = on.frames;
-    come = plain_on bytes lines p.all.len at p.all.line_ends on.stack marks on.come next;
-  };
+  come = record { stack = on.stack; frames = on.frames; come = plain_on bytes lines p.all at on.stack marks on.come next };
   marked = next.rest;
 }
 
 pub begins_at : (bytes : List ℕ) (at : ℕ) (p : Passing) (marks : Marks) (b : List Frame) → b ≡ []
-    → p ≡ nothing_passed p.marks → FindsNext bytes 0 at marks → StandsAt bytes p.all at (record p { marks = marks }) b
+    → p ≡ nothing_passed p.marks → FindsNext bytes 0 at marks → StandsAt bytes 0 at (record p { marks = marks }) b
 begins_at bytes at p marks b none nothing next =
-    let start = sym (ap (λ (q : Passing). q.all) nothing) in
-    next_at bytes p.all at p marks b
+    let start : 0 ≡ p.all = sym (ap (λ (q : Passing). q.all) nothing) in
+    next_at bytes 0 at p marks b
     (record {
       stack = [];
       frames = none;
-      come = subst (λ (q : Passed). HasComeTo bytes q q.len q.line_ends []) start (line_begins bytes _ (none_passed bytes));
+      come = subst (λ (k : ℕ). HasComeTo bytes 0 k []) start (line_begins bytes 0 (none_passed bytes));
     })
-    (subst (λ (q : Passed). FindsNext bytes q.len at marks) start next)
+    (subst (λ (k : ℕ). FindsNext bytes k at marks) start next)
 
-module _ (bytes : List ℕ) (lines : Passed) (at : ℕ) (p : Passing) (b : List Frame) (on : StandsAt bytes lines at p b) where
+module _ (bytes : List ℕ) (lines at : ℕ) (p : Passing) (b : List Frame) (on : StandsAt bytes lines at p b) where
   abbrev stack : List Bracket
   stack = on.come.stack
 
-  pub own_few : p.all.line_ends ≤ at
-  own_few = few_ends bytes lines at p.all.line_ends stack on.come.come
-
   -- over what was passed there
-  pub goes_on : (q : Passing) (c : List Frame) → PassesSo bytes at (at - lines.len) p.all p.closed b q c → HasComeFurther bytes lines at q c
+  pub goes_on : (q : Passing) (c : List Frame) → PassesSo bytes at (at - lines) p b q c → HasComeFurther bytes lines at q c
   goes_on q c so =
-      let far = passed_further bytes at (at - lines.len) p.all p.closed b q c so in
+      let far = passed_further bytes at (at - lines) p b q c so in
       let (later, frames, over) = so.over stack on.come.frames in
       record {
         further = far.0;
         come = record {
           stack = later;
           frames = frames;
-          come = subst (λ (x : Passing). HasComeTo bytes lines x.all.len x.all.line_ends later) (sym so.is)
-              (passed_on bytes lines at p.all.line_ends so.len so.more so.closes stack later on.come.come over);
+          come = subst (λ (x : Passing). HasComeTo bytes lines x.all later) (sym so.is)
+              (passed_on bytes lines at so.len so.closes stack later on.come.come over);
         };
         marked = far.1;
       }
 
-  pub ends_line : (len : ℕ) (q : Passing) (c : List Frame) → at < length bytes → EndsLineSo bytes at p.all b len q c
+  pub ends_line : (len : ℕ) (q : Passing) (c : List Frame) → at < length bytes → EndsLineSo bytes at p b len q c
       → HasComeFurther bytes q.all at q c
   ends_line len q c within so =
-      let size : q.all.len ≡ at + len = ap (λ (x : Passed). x.len) so.is in
       record {
-        further = omega (arith, so.ends.some, size);
+        further = omega (arith, so.ends.some, so.is);
         come = record {
           stack = stack;
           frames = so.kept ∙ on.come.frames;
-          come = subst (λ (x : Passed). HasComeTo bytes x x.len x.line_ends stack) (sym so.is)
-              (line_end_ends_line bytes lines at p.all.line_ends len stack on.come.come within so.ends (none_framed b stack on.come.frames so.none));
+          come = subst (λ (k : ℕ). HasComeTo bytes k k stack) (sym so.is)
+              (line_end_ends_line bytes lines at len stack on.come.come within so.ends (none_framed b stack on.come.frames so.none));
         };
-        marked = subst (λ (k : ℕ). HasMarks bytes k q.marks) (sym size) so.marked;
+        marked = subst (λ (k : ℕ). HasMarks bytes k q.marks) (sym so.is) so.marked;
       }

@@ -1,63 +1,137 @@
 -- Bytes are passed over at one that isn't plain: brackets, line ends and pieces, wherever in a line they stand.
-use Rattle.std.proofs.Common.{◌≡◌, ℕ, ◌+◌, ◌-◌, ◌<◌, ◌≤◌, Bool, true, false, Some, List, [], ◌∷◌, ◌++◌, ◌==◌, length, take, drop, slice_index, refl, sym, ap, ◌∙◌, subst, arith, length-drop, add-zero}
-use Rattle.std.specs.Prelude.{encode_utf8_all}
-use Rattle.std.proofs.lemmas.Bool.{and_from, both_ways, eqb-true}
-use Rattle.std.proofs.lemmas.List.{drop-drop, drop_more, get_or-drop, get_or-take, length-take-le, nil_from_length, take-append-drop}
-use Rattle.py_lines.specs.Character.{is_operator}
-use Rattle.py_lines.specs.Piece.{operator}
+use Rattle.std.proofs.Common.{◌≡◌, ℕ, ◌+◌, ◌-◌, ◌<◌, ◌≤◌, Bool, true, false, Some, List, [], ◌∷◌, ◌++◌, ◌==◌, ◌&&◌, not, inl, inr, length, take, drop, slice_index, refl, sym, ap, ◌∙◌, subst, arith, length-drop, suc}
+use Rattle.std.specs.Prelude.{codes, encode_utf8_all}
+use Rattle.std.specs.List.{list_all}
+use Rattle.std.proofs.lemmas.Bool.{and_from, and_left, and_parts, both_ways, eqb-true, false_from_ne_true, not-true}
+use Rattle.std.proofs.lemmas.List.{drop-drop, drop_more, get_or-drop, get_or-take, length-take, length-take-le, nil_from_length, take-append-drop}
+use Rattle.py_lines.specs.Character.{is_break, is_line_feed, is_operator, is_return}
+use Rattle.py_lines.specs.LogicalLine.{line_ends}
+use Rattle.py_lines.specs.Piece.{begins, ends, operator}
 use Rattle.py_lines.specs.Balance.{is_closing, is_opening}
 use Rattle.py_lines.specs.declared.frames.Frame.{Frame}
 use Rattle.py_lines.specs.declared.marks.Marks.{Marks}
 use Rattle.py_lines.specs.declared.passing.Passing.{Passing}
 use Rattle.py_lines.specs.declared.passing.Special.{Special}
 use Rattle.py_lines.specs.declared.passing.Special.TheVariants as special
-use Rattle.py_lines.specs.declared.plain_strings.Passed.{Passed}
 use Rattle.py_lines.specs.Private.Machine.{Bracket, brackets_after}
 use Rattle.py_lines.specs.Private.Marks.{HasMarks}
-use Rattle.py_lines.specs.Private.Outline.{BeginsOuterEnd, IsOuterEnd, PassesAt, StandsBefore}
+use Rattle.py_lines.specs.Private.Outline.{BeginsOuterEnd, HoldsEnds, IsOuterEnd, PassesAt, StandsBefore}
 use Rattle.py_lines.specs.Private.Passing.{IsMet, PassesOver, PassesSo, PassesSpecial, passed_to}
-use Rattle.py_lines.specs.Private.FieldScan.{frames_of}
+use Rattle.py_lines.specs.Private.Scan.{frames_of}
 use Rattle.py_lines.specs.Private.Frames.{ClosesBracket, OpensBracket}
-use Rattle.py_lines.specs.Private.Scan.{none_open}
+use Rattle.py_lines.specs.Private.LineScan.{none_open}
 use Rattle.py_lines.proofs.LineScan.BracketStack.{MeetsAt, closed_at_byte, frames_length, none_length, opened_at_byte}
 use Rattle.py_lines.proofs.Pieces.PieceLists.{piece}
 use Rattle.py_lines.proofs.Machine.LiveTexts.{closing-operator}
 use Rattle.py_lines.proofs.FieldMachine.PieceRuns.{opening_operator}
-use Rattle.py_lines.proofs.LineScan.AsciiRuns.{is_low, low_encodes, low_is}
-use Rattle.py_lines.proofs.Text.CharacterTests.{operator_ascii}
+use Rattle.py_lines.proofs.FieldScans.TextLengths.{later}
+use Rattle.py_lines.proofs.LineScan.AsciiRuns.{all_pass, is_low, low_encodes, low_is}
+use Rattle.py_lines.proofs.LineScan.LineCount.{line_ends-le}
+use Rattle.py_lines.proofs.LogicalLines.Cuts.{break-return}
+use Rattle.py_lines.proofs.Text.CharacterTests.{excluded, feed_is, none_of, operator_ascii, return_is}
+use Rattle.py_lines.proofs.Text.LineEnds.{unbroken}
 use Rattle.py_lines.proofs.SimpleLines.Code.{operator_free, outer_end_inside}
-use Rattle.py_lines.proofs.SimpleLines.FirstBytes.{outer_end_low}
+use Rattle.py_lines.proofs.SimpleLines.FirstBytes.{first_later, outer_end_low}
+
+-- there are no more line ends than bytes
+pub holds_few : (bytes : List ℕ) (at len n : ℕ) → HoldsEnds bytes at len n → n ≤ len
+holds_few bytes at len n holds =
+    let text = take len (drop at bytes) in
+    let count = holds.count in
+    omega (arith, count, line_ends-le text, length-take len (drop at bytes))
+
+-- bytes that are no line ends hold none
+ends_unbroken : (text : List ℕ) → list_all (λ d. not (is_break d)) text ≡ true → ends is_return text ≡ false
+ends_unbroken [] all = refl
+ends_unbroken (c ∷ []) all = break-return c (not-true (is_break c) (and_parts (not (is_break c)) true all).0)
+ends_unbroken (c ∷ d ∷ cs) all = ends_unbroken (d ∷ cs) (and_parts (not (is_break c)) (list_all (λ d. not (is_break d)) (d ∷ cs)) all).1
+
+pub holds_unbroken : (bytes : List ℕ) (at len : ℕ) → list_all (λ d. not (is_break d)) (take len (drop at bytes)) ≡ true → HoldsEnds bytes at len 0
+holds_unbroken bytes at len all =
+    let text = take len (drop at bytes) in
+    record { count = sym (unbroken text all); apart = and_left _ _ (ends_unbroken text all) }
+
+pub holds_none : (bytes : List ℕ) (at len : ℕ) → at + len ≤ length bytes
+    → ((i : ℕ) → at ≤ i → i < at + len → is_break (slice_index bytes i) ≡ false) → HoldsEnds bytes at len 0
+holds_none bytes at len within each =
+    holds_unbroken bytes at len (all_pass (λ d. not (is_break d)) (drop at bytes) len (omega (arith, within, length-drop at bytes))
+    (λ i less. ap (λ (d : ℕ). not (is_break d)) (later bytes at i) ∙ ap not (each (at + i) (omega arith) (omega (arith, less)))))
+
+operator_unbroken : (c : ℕ) → is_operator c ≡ true → is_break c ≡ false
+unfolding is_operator is_break
+operator_unbroken c is = excluded is_operator is_break c (none_of is_operator (codes "\n\r") c refl) is
+
+-- the last of so many bytes
+taken_last : (bytes : List ℕ) (at len : ℕ) → 0 < len → at + len ≤ length bytes
+    → slice_index bytes (at + len - 1) ≡ slice_index (take len (drop at bytes)) (length (take len (drop at bytes)) - 1)
+taken_last bytes at len some within =
+    let text = take len (drop at bytes) in
+    let size : len - 1 ≡ length text - 1
+    = ap (λ (k : ℕ). k - 1) (sym (length-take-le len (drop at bytes) (omega (arith, within, length-drop at bytes)))) in
+    let there : at + len - 1 ≡ at + (len - 1) = omega (arith, some) in
+    ap (λ (k : ℕ). slice_index bytes k) there ∙ sym (get_or-drop at bytes (len - 1) 0)
+    ∙ sym (get_or-take len (drop at bytes) (len - 1) 0 (omega (arith, some))) ∙ ap (λ (k : ℕ). slice_index text k) size
+
+-- they hold the line ends that are counted in them, unless CR is their last one, and LF the next
+ends_last : (text : List ℕ) → ends is_return text ≡ true → slice_index text (length text - 1) ≡ 13
+ends_last [] h = absurd (both_ways _ refl h)
+ends_last (c ∷ []) h = return_is c h
+ends_last (c ∷ d ∷ cs) h =
+    let size : length (c ∷ d ∷ cs) - 1 ≡ suc (length (d ∷ cs) - 1) = omega arith in
+    rw size (ends_last (d ∷ cs) h)
+
+begins_first : (text : List ℕ) → begins is_line_feed text ≡ true → (0 < length text) × (slice_index text 0 ≡ 10)
+begins_first [] h = absurd (both_ways _ refl h)
+begins_first (c ∷ cs) h = (omega arith, feed_is c h)
+
+pub holds_counted : (bytes : List ℕ) (at len : ℕ) → 0 < len → at + len ≤ length bytes
+    → (slice_index bytes (at + len - 1) ≡ 13 → at + len < length bytes → slice_index bytes (at + len) ≡ 10 → ⊥)
+    → HoldsEnds bytes at len (line_ends (take len (drop at bytes)))
+holds_counted bytes at len some within apart = record {
+  count = refl;
+  apart = false_from_ne_true _ (λ cut.
+      let parts = and_parts (ends is_return (take len (drop at bytes))) (begins is_line_feed (drop (at + len) bytes)) cut in
+      let next = begins_first (drop (at + len) bytes) parts.1 in
+      apart (taken_last bytes at len some within ∙ ends_last (take len (drop at bytes)) parts.0)
+      (omega (arith, next.0, length-drop (at + len) bytes)) (sym (first_later bytes (at + len)) ∙ next.1));
+}
+
+-- a line end is one
+pub outer_end_holds : (text after : List ℕ) → IsOuterEnd text after
+    → (line_ends text ≡ 1) × (ends is_return text && begins is_line_feed after ≡ false)
+unfolding is_line_feed is_return
+outer_end_holds text after (inl (true, is)) = rw is (refl, refl)
+outer_end_holds text after (inl (false, is)) = rw is (refl, refl)
+outer_end_holds text [] (inr (is, other)) = absurd other
+outer_end_holds text (c ∷ cs) (inr (is, other)) = rw is (refl, false_from_ne_true _ (λ feeds. other (feed_is c feeds)))
 
 module _ (bytes : List ℕ) (at : ℕ) (within : at < length bytes) where
   -- over an operator, which the brackets allow
   pub operator_over : (place : ℕ) (st after : List Bracket) → is_operator (slice_index bytes at) ≡ true
-      → brackets_after st place (piece operator (slice_index bytes at ∷ [])) ≡ Some after → PassesOver bytes at place 1 0 true st after
+      → brackets_after st place (piece operator (slice_index bytes at ∷ [])) ≡ Some after → PassesOver bytes at place 1 true st after
   operator_over place st after is may =
       let c = slice_index bytes at in
       record {
         some = omega arith;
         within = omega (arith, within);
-        few = omega arith;
         run = c ∷ [];
         spell = (low_encodes is_operator (c ∷ []) operator_ascii (and_from _ _ is refl)).0
             ∙ sym (ap (take 1) (drop_more bytes at 0 within));
-        leads = λ m read n tail here on.
-            rw add-zero
-            (operator_free c (drop (at + 1) bytes) m read n st after is
+        leads = λ m read tail here on.
+            operator_free c (drop (at + 1) bytes) m read st after is
             (ap (λ (k : ℕ). brackets_after st k (piece operator (c ∷ []))) here ∙ may)
-            (subst (λ (t : List ℕ). StandsBefore t m read n st) (drop_more bytes at 0 within) on));
+            (subst (λ (t : List ℕ). StandsBefore t m read st) (drop_more bytes at 0 within) on);
       }
 
   -- over a piece
-  pub piece_over : (place : ℕ) (st : List Bracket) (p : Passed) (closes : Bool) → length st ≤ 100 → PassesAt bytes at p closes
-      → PassesOver bytes at place p.len p.line_ends closes st st
-  piece_over place st p closes few (room, passes) = record {
+  pub piece_over : (place : ℕ) (st : List Bracket) (len : ℕ) (closes : Bool) → length st ≤ 100 → PassesAt bytes at len closes
+      → PassesOver bytes at place len closes st st
+  piece_over place st len closes few (room, passes) = record {
     some = passes.some;
     within = room;
-    few = passes.few;
     run = passes.part.run;
     spell = passes.part.spell;
-    leads = λ m read n tail here on. rw (← drop-drop p.len at bytes) (passes.part.leads m read n st (tail, few, on));
+    leads = λ m read tail here on. rw (← drop-drop len at bytes) (passes.part.leads m read st (tail, few, on));
   }
 
 -- a line end
@@ -78,55 +152,53 @@ module _ (bytes : List ℕ) (at : ℕ) (within : at < length bytes) (len : ℕ) 
   end_is = subst (IsOuterEnd end_text) (drop-drop len at bytes) ends.is
 
   -- its last byte
-  pub end_last : slice_index bytes (at + len - 1) ≡ slice_index end_text (length end_text - 1)
-  end_last =
-      let some = ends.some in
-      let size : len - 1 ≡ length end_text - 1 = ap (λ (k : ℕ). k - 1) (sym (length-take-le len (drop at bytes) ends.within)) in
-      let there : at + len - 1 ≡ at + (len - 1) = omega (arith, some) in
-      ap (λ (k : ℕ). slice_index bytes k) there ∙ sym (get_or-drop at bytes (len - 1) 0)
-      ∙ sym (get_or-take len (drop at bytes) (len - 1) 0 (omega (arith, some))) ∙ ap (λ (k : ℕ). slice_index end_text k) size
+  end_last : slice_index bytes (at + len - 1) ≡ slice_index end_text (length end_text - 1)
+  end_last = taken_last bytes at len ends.some end_within
+
+  pub end_holds : HoldsEnds bytes at len 1
+  end_holds = let holds = outer_end_holds end_text (drop (at + len) bytes) end_is in record { count = holds.0; apart = holds.1 }
 
   -- over one in brackets
   line_end_over : (place : ℕ) (st : List Bracket) → none_open st ≡ false
-      → PassesOver bytes at place len 1 (slice_index bytes (at + len - 1) == 10) st st
+      → PassesOver bytes at place len (slice_index bytes (at + len - 1) == 10) st st
   line_end_over place st some = record {
     some = ends.some;
     within = end_within;
-    few = let one = ends.some in omega (arith, one);
     run = end_text;
     spell = end_spells;
-    leads = λ m read n tail here on.
-        outer_end_inside end_text (drop (at + len) bytes) m read n st (slice_index bytes (at + len - 1) == 10) end_is some
+    leads = λ m read tail here on.
+        outer_end_inside end_text (drop (at + len) bytes) m read st (slice_index bytes (at + len - 1) == 10) end_is some
         (λ feeds is.
         let last : slice_index bytes (at + len - 1) ≡ 13 = end_last ∙ ap (λ t. slice_index t (length t - 1)) is in
         both_ways _ (ap (λ (c : ℕ). c == 10) last) feeds)
-        (subst (λ (t : List ℕ). StandsBefore t m read n st) end_split on);
+        (subst (λ (t : List ℕ). StandsBefore t m read st) end_split on);
   }
 
-  module _ (place : ℕ) (old : Passing) (b : List Frame) (new : Passing) (marked : HasMarks bytes (at + len) old.marks)
+  -- whatever was marked before it
+  module _ (place : ℕ) (old : Passing) (before : Marks) (b : List Frame) (new : Passing) (marked : HasMarks bytes (at + len) old.marks)
       (is : new ≡ passed_to old (at + len) 1 (slice_index bytes (at + len - 1) == 10)) where
-    pub line_end_passed : length b == 0 ≡ false → PassesSpecial bytes at place old b special.Passed new b
+    pub line_end_passed : length b == 0 ≡ false → PassesSpecial bytes at place (record old { marks = before }) b special.Passed new b
     line_end_passed some = rw is (record {
       len = len;
       more = 1;
       closes = slice_index bytes (at + len - 1) == 10;
       some = ends.some;
       within = end_within;
-      few = let one = ends.some in omega (arith, one);
       over = λ st are. (st, are, line_end_over place st (sym (none_length st (length b) (sym (frames_length b st are))) ∙ some));
       kept = λ _. refl;
+      holds = end_holds;
       is = refl;
       marked = marked;
     })
 
-    pub line_end_ends : length b == 0 ≡ true → PassesSpecial bytes at place old b (special.LineEnd len) new b
-    line_end_ends none = rw is (record { ends = ends; none = nil_from_length b (eqb-true (length b) 0 none); kept = refl; is = refl; marked = marked })
+    pub line_end_ends : length b == 0 ≡ true → PassesSpecial bytes at place (record old { marks = before }) b (special.LineEnd len) new b
+    line_end_ends none = rw is (record { ends = ends; none = nil_from_length b (eqb-true (length b) 0 none); kept = refl; holds = end_holds; is = refl; lines = refl; marked = marked })
 
 -- bytes were passed, and what follows them is marked
-pub passed_further : (bytes : List ℕ) (at place : ℕ) (all closed : Passed) (b : List Frame) (new : Passing) (c : List Frame)
-    → PassesSo bytes at place all closed b new c → (at < new.all.len) × HasMarks bytes new.all.len new.marks
-passed_further bytes at place all closed b new c so =
-    let size : new.all.len ≡ at + so.len = ap (λ (p : Passing). p.all.len) so.is in
+pub passed_further : (bytes : List ℕ) (at place : ℕ) (old : Passing) (b : List Frame) (new : Passing) (c : List Frame)
+    → PassesSo bytes at place old b new c → (at < new.all) × HasMarks bytes new.all new.marks
+passed_further bytes at place old b new c so =
+    let size : new.all ≡ at + so.len = ap (λ (p : Passing). p.all) so.is in
     (omega (arith, so.some, size), subst (λ (k : ℕ). HasMarks bytes k new.marks) (sym size) so.marked)
 
 module _ (bytes : List ℕ) (at : ℕ) (old : Passing) (within : at < length bytes) (marked : HasMarks bytes (at + 1) old.marks) where
@@ -142,9 +214,11 @@ module _ (bytes : List ℕ) (at : ℕ) (old : Passing) (within : at < length byt
         closes = true;
         some = omega arith;
         within = omega (arith, within);
-        few = omega arith;
         over = λ st are. let met = meets st are in (met.later, met.frames, operator_over bytes at within place st met.later is met.after);
         kept = λ none. absurd (both_ways _ none refl);
+        holds = holds_none bytes at 1 (omega (arith, within)) (λ i more less.
+            let here : i ≡ at = omega (arith, more, less) in
+            ap (λ (k : ℕ). is_break (slice_index bytes k)) here ∙ operator_unbroken (slice_index bytes at) is);
         is = refl;
         marked = marked;
       })
@@ -165,19 +239,19 @@ module _ (bytes : List ℕ) (at : ℕ) (old : Passing) (within : at < length byt
   closing_passed place b false c result new is closes (unpassed, same) = rw unpassed (same, closes.1)
 
   -- a piece
-  pub piece_passed : (place : ℕ) (b : List Frame) (p : Passed) (closes : Bool) (to : ℕ) (marks : Marks) (new : Passing) → length b ≤ 100
-      → PassesAt bytes at p closes → at + p.len ≡ to → HasMarks bytes to marks
-      → new ≡ passed_to (record old { marks = marks }) to p.line_ends closes → PassesSpecial bytes at place old b special.Passed new b
-  piece_passed place b p closes to marks new few passes there has is =
+  pub piece_passed : (place : ℕ) (b : List Frame) (len more : ℕ) (closes : Bool) (to : ℕ) (marks : Marks) (new : Passing) → length b ≤ 100
+      → PassesAt bytes at len closes → HoldsEnds bytes at len more → at + len ≡ to → HasMarks bytes to marks
+      → new ≡ passed_to (record old { marks = marks }) to more closes → PassesSpecial bytes at place old b special.Passed new b
+  piece_passed place b len more closes to marks new few passes holds there has is =
       rw (is, ← there) (record {
-        len = p.len;
-        more = p.line_ends;
+        len = len;
+        more = more;
         closes = closes;
         some = passes.1.some;
         within = passes.0;
-        few = passes.1.few;
-        over = λ st are. (st, are, piece_over bytes at within place st p closes (omega (arith, few, frames_length b st are)) passes);
+        over = λ st are. (st, are, piece_over bytes at within place st len closes (omega (arith, few, frames_length b st are)) passes);
         kept = λ _. refl;
+        holds = holds;
         is = refl;
         marked = rw there has;
       })

@@ -1,89 +1,59 @@
--- A string without fields is passed over: the machine goes through its quotes, its text, its escapes and its line ends.
-use Rattle.std.proofs.Common.{◌≡◌, ℕ, ◌+◌, ◌-◌, ◌<◌, ◌≤◌, Bool, true, false, not, ◌==◌, Option, None, Some, List, [], ◌∷◌, ◌++◌, length, take, drop, slice_index, inl, inr, refl, sym, ap, ◌∙◌, subst, append_assoc, append-nil, arith, length-drop, eq-eqb, lit<, add-zero, ⊎_elim}
-use Rattle.std.specs.Prelude.{codes, encode_utf8_all, if◌then◌else◌, nat_lt}
+-- A string without fields is passed over: the machine goes through its quotes, its text and its escapes.
+use Rattle.std.proofs.Common.{◌≡◌, ℕ, ◌+◌, ◌-◌, ◌<◌, ◌≤◌, Bool, true, false, ◌==◌, Some, List, [], ◌∷◌, ◌++◌, length, take, drop, slice_index, inl, inr, refl, suc, zero, sym, ap, ◌∙◌, subst, append_assoc, append-nil, arith, length-drop, eq-eqb, lit<, add-zero, ⊎_elim}
+use Rattle.std.specs.Prelude.{encode_utf8_all, if◌then◌else◌, nat_lt}
+use Rattle.std.specs.Char.{IsScalar}
 use Rattle.std.specs.Str.{all_scalars}
 use Rattle.std.specs.List.{list_all}
-use Rattle.std.proofs.lemmas.Bool.{and_from, and_parts, both_ways, eqb-true, false_from_ne_true, lt-ltb, cases_lt}
+use Rattle.std.proofs.lemmas.Bool.{and_from, and_parts, both_ways, eqb-true, false_from_ne_true, lt-ltb, cases_lt, not-true, or_parts}
 use Rattle.std.proofs.lemmas.List.{drop_more, length-take-le}
 use Rattle.std.proofs.lemmas.Str.{encodes-append, length-le-encodes}
 use Rattle.std.proofs.Math.Seq.{take-add}
-use Rattle.py_lines.specs.Character.{is_one_of, is_quote, is_backslash, is_return, is_line_feed}
+use Rattle.py_lines.specs.Character.{is_quote, is_backslash, is_break, is_return}
 use Rattle.py_lines.specs.LogicalLine.{byte_len}
-use Rattle.py_lines.specs.Piece.{Piece, ends, string}
+use Rattle.py_lines.specs.Piece.{Piece, string}
 use Rattle.py_lines.specs.declared.mode.Mode.{Mode}
 use Rattle.py_lines.specs.declared.mode.Mode.TheVariants as modes
 use Rattle.py_lines.specs.declared.mode.Move.{Move}
 use Rattle.py_lines.specs.declared.mode.Move.TheVariants as moves
 use Rattle.py_lines.specs.declared.mode.Spelling.{Spelling}
-use Rattle.py_lines.specs.declared.plain_strings.Passed.{Passed}
 use Rattle.py_lines.specs.Private.Machine.{fresh, moved, Bracket, long_move, move_of, short_move}
 use Rattle.py_lines.specs.Private.ScanMachine.{begins_string, is_field_spelling, is_raw_spelling, meet_of, quote_move, scan_step}
-use Rattle.py_lines.specs.Private.Run.{HasLongText, Spans, is_body_byte, is_long_byte, stays}
-use Rattle.py_lines.specs.Private.Outline.{BeginsLineEnd, BeginsLong, EndsBefore, HasEscape, HasLineEnd, BeforePiece, HasClosedString, HasString, HoldsLineEnds, IsEscaped, IsInLong, IsInPieceAfter, IsInShort, Passes, PassesPart, PassesAt, PassesOrNot, PassesString, PassesStringAt, StandsAt, StandsBefore, StandsClosed, StringBegins, StringEnds, is_plain_prefix, line_end_of, short_mode, tail_of}
+use Rattle.py_lines.specs.Private.Run.{HasAsciiQuote, Spans, is_body_byte, is_long_byte, stays}
+use Rattle.py_lines.specs.Private.Outline.{BeginsEscape, BeginsLong, EndsBefore, BeforePiece, HasClosedString, HasString, HoldsNoEnd, IsInLong, IsInPieceAfter, IsInShort, Passes, PassesPart, PassesAt, PassesString, StandsAt, StandsBefore, StandsClosed, StringBegins, StringEnds, is_plain_prefix, short_mode, tail_of}
 use Rattle.py_lines.proofs.Pieces.PieceLists.{piece}
 use Rattle.py_lines.proofs.Machine.Starts.{start-quote}
 use Rattle.py_lines.proofs.Machine.PieceSteps.{scanned}
 use Rattle.py_lines.proofs.Machine.LiveTexts.{keeps}
-use Rattle.py_lines.proofs.FieldScans.TextLengths.{rest_is, rest_of}
-use Rattle.py_lines.proofs.LineScan.LineCount.{EndsNoLine-push, ends-last}
-use Rattle.py_lines.proofs.LineScan.Runs.{body_parts, quote_ascii, stays-no_break, long_characters, stay_spelled}
-use Rattle.py_lines.proofs.LogicalLines.Cuts.{break-return}
-use Rattle.py_lines.proofs.LineScan.AsciiRuns.{all_pass, is_low, is_low_from, low_encodes, low_is, quote-no_break, quote-no_word}
+use Rattle.py_lines.proofs.FieldScans.TextLengths.{later, rest_is, rest_of}
+use Rattle.py_lines.proofs.LineScan.LineCount.{EndsNoLine-push}
+use Rattle.py_lines.proofs.LineScan.Runs.{body_parts, stay_spelled}
+use Rattle.py_lines.proofs.LineScan.AsciiRuns.{ascii_scalar, is_low, is_low_from, low_encodes, low_is, quote-no_break, quote-no_word, quote_ascii}
 use Rattle.py_lines.proofs.LineScan.PlainStrings.{inside_closes}
-use Rattle.py_lines.proofs.Text.CharacterTests.{none_of, quote-not-word}
-use Rattle.py_lines.proofs.SimpleLines.Code.{WordOrEnds, come_on, grown, holds_return, holds_returned, holds_line_end, holds_more, holds_one, one_unreturned, opens, pieces, quote-not-space, word_or_ends}
-use Rattle.py_lines.proofs.Lexings.LineEnds.{feed_unreturned}
+use Rattle.py_lines.proofs.Text.CharacterTests.{quote-not-word}
+use Rattle.py_lines.proofs.SimpleLines.Code.{WordOrEnds, come_on, grown, opens, pieces, quote-not-space, word_or_ends}
 use Rattle.py_lines.proofs.SimpleLines.Tails.{no_tail}
-use Rattle.py_lines.proofs.SimpleLines.Joins.{slash-not-break}
-use Rattle.py_lines.proofs.SimpleLines.FirstBytes.{first_then, line_end_low, taken_one, taken_two, first_later}
-use Rattle.py_lines.proofs.SimpleLines.Runs.{goes_on, lines_go_on}
+use Rattle.py_lines.proofs.SimpleLines.FirstBytes.{taken_one, taken_two, first_later}
+use Rattle.py_lines.proofs.SimpleLines.Runs.{goes_on}
 
 -- a character makes the open piece grow
-grows : {m : Mode} {k : ℕ} {initial : BeforePiece} {read : List ℕ} {n : ℕ} {st : List Bracket} → IsInPieceAfter m initial read n st → (next : Mode) (c : ℕ) → meet_of m c ≡ moves.Grows next → is_return c ≡ false → HoldsLineEnds (read ++ c ∷ []) k → IsInPieceAfter next initial (read ++ c ∷ []) k st
-grows {read = read} s next c meets other holds = record {
-  held = s.held ++ c ∷ [];
-  come = grown next c s.come meets holds;
-  unreturned = ends-last is_return read c ∙ other;
-}
+grows : {m : Mode} {initial : BeforePiece} {read : List ℕ} {st : List Bracket} → IsInPieceAfter m initial read st → (next : Mode) (c : ℕ) → meet_of m c ≡ moves.Grows next → IsScalar c → IsInPieceAfter next initial (read ++ c ∷ []) st
+grows s next c meets scalar = record { held = s.held ++ c ∷ []; come = grown next c s.come meets scalar }
 
--- so does a line end, by way of this mode where CR stands before LF
-line_end_grows : (m mid next : Mode) (returned : Bool) (initial : BeforePiece) (read : List ℕ) (n : ℕ) (st : List Bracket) → meet_of m 10 ≡ moves.Grows next → meet_of m 13 ≡ moves.Grows mid → meet_of mid 10 ≡ moves.Grows next → IsInPieceAfter m initial read n st → IsInPieceAfter next initial (read ++ line_end_of returned) (n + 1) st
-line_end_grows m mid next false initial read n st feed return after_return s =
-    grows s next 10 feed feed_unreturned (holds_line_end false read n s.come.holds (λ feeds. s.unreturned))
-line_end_grows m mid next true initial read n st feed return after_return s =
-    let first = holds_return read n s.come.holds in
-    subst (λ (t : List ℕ). IsInPieceAfter next initial t (n + 1) st) (append_assoc read (13 ∷ []) (10 ∷ [])) (record {
-      held = (s.held ++ 13 ∷ []) ++ 10 ∷ [];
-      come = grown next 10 (grown mid 13 s.come return first) after_return (holds_returned read (n + 1) first);
-      unreturned = ends-last is_return (read ++ 13 ∷ []) 10 ∙ feed_unreturned;
-    })
+-- so do two of ASCII
+grows_twice : (m mid next : Mode) (initial : BeforePiece) (read : List ℕ) (c d : ℕ) (st : List Bracket) → c < 128 → d < 128 → meet_of m c ≡ moves.Grows mid → meet_of mid d ≡ moves.Grows next → IsInPieceAfter m initial read st → IsInPieceAfter next initial (read ++ c ∷ d ∷ []) st
+grows_twice m mid next initial read c d st low too meets more on =
+    subst (λ (t : List ℕ). IsInPieceAfter next initial t st) (append_assoc read (c ∷ []) (d ∷ []))
+    (grows (grows on mid c meets (ascii_scalar c low)) next d more (ascii_scalar d too))
 
 -- characters that stay in the next mode, of which the first leads there
-first_goes_on : (m next : Mode) (initial : BeforePiece) (read text : List ℕ) (n : ℕ) (st : List Bracket) → ((c : ℕ) → stays next c ≡ true → meet_of m c ≡ moves.Grows next)
-    → 0 < byte_len text → all_scalars text ≡ true → list_all (stays next) text ≡ true → IsInPieceAfter m initial read n st → IsInPieceAfter next initial (read ++ text) n st
-first_goes_on m next initial read [] n st leads some scalars all on = absurd (omega (arith, some))
-first_goes_on m next initial read (c ∷ cs) n st leads some scalars all on =
+first_goes_on : (m next : Mode) (initial : BeforePiece) (read text : List ℕ) (st : List Bracket) → ((c : ℕ) → stays next c ≡ true → meet_of m c ≡ moves.Grows next)
+    → 0 < byte_len text → all_scalars text ≡ true → list_all (stays next) text ≡ true → IsInPieceAfter m initial read st → IsInPieceAfter next initial (read ++ text) st
+first_goes_on m next initial read [] st leads some scalars all on = absurd (omega (arith, some))
+first_goes_on m next initial read (c ∷ cs) st leads some scalars all on =
     let parts = and_parts (stays next c) (list_all (stays next) cs) all in
     let each = and_parts _ (all_scalars cs) scalars in
-    let none = stays-no_break next c parts.0 in
-    let holds = holds_more read (c ∷ []) n on.come.holds (and_from _ _ each.0 refl) (and_from _ _ (ap not none) refl) in
-    subst (λ (t : List ℕ). IsInPieceAfter next initial t n st) (append_assoc read (c ∷ []) cs)
-    (goes_on next initial (read ++ c ∷ []) cs n st each.1 parts.1 (grows on next c (leads c parts.0) (break-return c none) holds))
-
--- a backslash and what it escapes, which lead from one mode to another
-escaped : (m mid after_return next : Mode) (initial : BeforePiece) (read text : List ℕ) (n feeds : ℕ) (st : List Bracket) → meet_of m 92 ≡ moves.Grows mid → ((c : ℕ) → is_return c ≡ false → meet_of mid c ≡ moves.Grows next)
-    → meet_of mid 13 ≡ moves.Grows after_return → meet_of after_return 10 ≡ moves.Grows next
-    → IsEscaped text feeds → IsInPieceAfter m initial read n st → IsInPieceAfter next initial (read ++ 92 ∷ text) (n + feeds) st
-escaped m mid after_return next initial read text n feeds st slash other return feed is on =
-    subst (λ (t : List ℕ). IsInPieceAfter next initial t (n + feeds) st) (append_assoc read (92 ∷ []) text) (by is)
-  where
-    slashed : IsInPieceAfter mid initial (read ++ 92 ∷ []) n st
-    slashed = grows on mid 92 slash (break-return 92 slash-not-break) (holds_one read 92 n on.come.holds (lit< tt) slash-not-break)
-
-    by : IsEscaped text feeds → IsInPieceAfter next initial ((read ++ 92 ∷ []) ++ text) (n + feeds) st
-    by (inl (returned, is, one)) = rw (is, one) (line_end_grows mid after_return next returned initial (read ++ 92 ∷ []) n st (other 10 feed_unreturned) return feed slashed)
-    by (inr (c, is, low, none, zero)) =
-        rw (is, zero, add-zero) (grows slashed next c (other c (break-return c none)) (break-return c none) (holds_one (read ++ 92 ∷ []) c n slashed.come.holds low none))
+    subst (λ (t : List ℕ). IsInPieceAfter next initial t st) (append_assoc read (c ∷ []) cs)
+    (goes_on next initial (read ++ c ∷ []) cs st each.1 parts.1 (grows on next c (leads c parts.0) each.0))
 
 -- what a quote does after a prefix
 prefix_quote : (s : Spelling) (q : ℕ) → is_quote q ≡ true → is_plain_prefix (Some s) ≡ true → meet_of (modes.Word s) q ≡ moves.Grows (modes.Opened q)
@@ -95,144 +65,114 @@ prefix_quote s q quote plain = rw (quote-not-word q quote, quote) (by (moves.Gro
     by other false true h = refl
     by other false false h = absurd (both_ways _ refl h)
 
--- what the bytes begin with that a backslash escapes
-
-pub escapes_line_end : (bytes : List ℕ) (len : ℕ) → 1 < length bytes → slice_index bytes 0 ≡ 92 → HasLineEnd (take (length bytes - 1) (drop 1 bytes)) (Some len) → HasEscape bytes (Some (record { len = 1 + len; line_ends = 1 }))
-escapes_line_end bytes len within first found =
-    let ends : BeginsLineEnd (drop 1 bytes) len = subst (λ (t : List ℕ). BeginsLineEnd t len) (rest_is bytes 1) found in
-    record {
-      some = omega arith;
-      within = omega (arith, ends.within, within, length-drop 1 bytes);
-      few = omega arith;
-      text = line_end_of ends.returned;
-      spell = first_then bytes 92 len (omega (arith, within)) first ∙ ap (λ t. 92 ∷ t) ends.spell;
-      escaped = inl (ends.returned, refl, refl);
-    }
-
-escaped_low : (text : List ℕ) (feeds : ℕ) → IsEscaped text feeds → list_all is_low text ≡ true
-escaped_low text feeds (inl (returned, is, one)) = ap (list_all is_low) is ∙ line_end_low returned
-escaped_low text feeds (inr (c, is, low, none, zero)) = ap (list_all is_low) is ∙ and_from _ _ (is_low_from c low) refl
-
--- a part, by its characters
-pub low_part : {Before : Type 0} {stands comes : Before → List ℕ → ℕ → List Bracket → Type 0} (bytes text : List ℕ) (len feeds : ℕ) → len ≤ length bytes → list_all is_low text ≡ true → take len bytes ≡ text → ((initial : Before) (read : List ℕ) (n : ℕ) (st : List Bracket) → stands initial read n st → comes initial (read ++ text) (n + feeds) st) → PassesPart bytes len feeds stands comes
-low_part {Before} {stands} {comes} bytes text len feeds within low spell leads = record {
+-- a part of ASCII
+pub low_part : {Before : Type 0} {stands comes : Before → List ℕ → List Bracket → Type 0} (bytes text : List ℕ) (len : ℕ) → len ≤ length bytes → list_all is_low text ≡ true → take len bytes ≡ text → ((initial : Before) (read : List ℕ) (st : List Bracket) → stands initial read st → comes initial (read ++ text) st) → PassesPart bytes len stands comes
+low_part {Before} {stands} {comes} bytes text len within low spell leads = record {
   within = within;
   run = text;
   spell = (low_encodes is_low text low_is low).0 ∙ sym spell;
   leads = leads;
 }
 
--- without a line end
-pub still : {Before : Type 0} {stands comes : Before → List ℕ → ℕ → List Bracket → Type 0} (bytes run : List ℕ) (len : ℕ) → len ≤ length bytes → encode_utf8_all run ≡ take len bytes → ((initial : Before) (read : List ℕ) (n : ℕ) (st : List Bracket) → stands initial read n st → comes initial (read ++ run) n st) → PassesPart bytes len 0 stands comes
-still {Before} {stands} {comes} bytes run len within spell leads = record {
-  within = within;
-  run = run;
-  spell = spell;
-  leads = λ initial read n st on. rw add-zero (leads initial read n st on);
-}
-
-pub low_still : {Before : Type 0} {stands comes : Before → List ℕ → ℕ → List Bracket → Type 0} (bytes text : List ℕ) (len : ℕ) → len ≤ length bytes → list_all is_low text ≡ true → take len bytes ≡ text → ((initial : Before) (read : List ℕ) (n : ℕ) (st : List Bracket) → stands initial read n st → comes initial (read ++ text) n st) → PassesPart bytes len 0 stands comes
-low_still {Before} {stands} {comes} bytes text len within low spell leads = still bytes text len within ((low_encodes is_low text low_is low).0 ∙ sym spell) leads
+-- a backslash and the byte after it
+escape_part : {Before : Type 0} {stands comes : Before → List ℕ → List Bracket → Type 0} (bytes : List ℕ) (has : BeginsEscape bytes) → ((initial : Before) (read : List ℕ) (st : List Bracket) → stands initial read st → comes initial (read ++ 92 ∷ has.c ∷ []) st) → PassesPart bytes 2 stands comes
+escape_part {Before} {stands} {comes} bytes has leads = low_part bytes (92 ∷ has.c ∷ []) 2 (rw has.spell (omega arith)) (and_from _ _ (is_low_from has.c has.ascii) refl) (ap (take 2) has.spell) leads
 
 -- one part after another
-pub after : {Before : Type 0} {stands comes goes : Before → List ℕ → ℕ → List Bracket → Type 0} (bytes : List ℕ) (len feeds more further : ℕ) (all : ℕ) → feeds + further ≡ all → PassesPart bytes len feeds stands comes → PassesPart (drop len bytes) more further comes goes → PassesPart bytes (len + more) all stands goes
-after {Before} {stands} {comes} {goes} bytes len feeds more further all same first second =
+pub after : {Before : Type 0} {stands comes goes : Before → List ℕ → List Bracket → Type 0} (bytes : List ℕ) (len more : ℕ) → PassesPart bytes len stands comes → PassesPart (drop len bytes) more comes goes → PassesPart bytes (len + more) stands goes
+after {Before} {stands} {comes} {goes} bytes len more first second =
     let within = first.within in
     record {
       within = omega (arith, within, second.within, length-drop len bytes);
       run = first.run ++ second.run;
       spell = encodes-append first.run second.run ∙ ap (λ t. t ++ encode_utf8_all second.run) first.spell ∙ ap (λ t. take len bytes ++ t) second.spell ∙ sym (take-add len more bytes);
-      leads = λ initial read n st on.
-          subst (λ (k : ℕ). goes initial (read ++ (first.run ++ second.run)) k st) (omega (arith, same))
-          (subst (λ (t : List ℕ). goes initial t ((n + feeds) + further) st) (append_assoc read first.run second.run)
-          (second.leads initial (read ++ first.run) (n + feeds) st (first.leads initial read n st on)));
+      leads = λ initial read st on.
+          subst (λ (t : List ℕ). goes initial t st) (append_assoc read first.run second.run) (second.leads initial (read ++ first.run) st (first.leads initial read st on));
     }
 
-pub after_rest : {Before : Type 0} {stands comes goes : Before → List ℕ → ℕ → List Bracket → Type 0} (bytes : List ℕ) (len feeds more further : ℕ) (all : ℕ) → feeds + further ≡ all → PassesPart bytes len feeds stands comes → PassesPart (take (length bytes - len) (drop len bytes)) more further comes goes → PassesPart bytes (len + more) all stands goes
-after_rest {comes = comes} {goes} bytes len feeds more further all same first second =
-    after bytes len feeds more further all same first (subst (λ (t : List ℕ). PassesPart t more further comes goes) (rest_is bytes len) second)
+pub after_rest : {Before : Type 0} {stands comes goes : Before → List ℕ → List Bracket → Type 0} (bytes : List ℕ) (len more : ℕ) → PassesPart bytes len stands comes → PassesPart (take (length bytes - len) (drop len bytes)) more comes goes → PassesPart bytes (len + more) stands goes
+after_rest {comes = comes} {goes} bytes len more first second = after bytes len more first (subst (λ (t : List ℕ). PassesPart t more comes goes) (rest_is bytes len) second)
+
+-- a part of whole characters that stay in a mode
+run_part : {stands comes : BeforePiece → List ℕ → List Bracket → Type 0} (m : Mode) (bytes : List ℕ) (k : ℕ) → HasAsciiQuote m → Spans (stays m) bytes k
+    → ((initial : BeforePiece) (read run : List ℕ) (st : List Bracket) → byte_len run ≡ k → all_scalars run ≡ true → list_all (stays m) run ≡ true → stands initial read st → comes initial (read ++ run) st) → PassesPart bytes k stands comes
+run_part {stands} {comes} m bytes k quote is leads =
+    let run : List ℕ = is.utf8.0 in
+    let spell = is.utf8.1.1 in
+    let within = is.run.within in
+    record {
+      within = within;
+      run = run;
+      spell = spell;
+      leads = λ initial read st. leads initial read run st (ap length spell ∙ length-take-le k bytes within) is.utf8.1.0 (stay_spelled m bytes k quote within is.run.each run spell);
+    }
 
 -- a word is open before a quote, or the piece ends there
-pub quote_stands : (q : ℕ) → is_quote q ≡ true → (rest : List ℕ) (initial : Mode) (read : List ℕ) (n : ℕ) (st : List Bracket) → StandsBefore (q ∷ rest) initial read n st → WordOrEnds q initial read n st
-quote_stands q quote rest initial read n st = word_or_ends rest initial read n st q (rw (quote-no_word q quote) quote) (quote-not-space q quote)
+pub quote_stands : (q : ℕ) → is_quote q ≡ true → (rest : List ℕ) (initial : Mode) (read : List ℕ) (st : List Bracket) → StandsBefore (q ∷ rest) initial read st → WordOrEnds q initial read st
+quote_stands q quote rest initial read st = word_or_ends rest initial read st q (rw (quote-no_word q quote) quote) (quote-not-space q quote)
 
 module _ (q : ℕ) (quote : is_quote q ≡ true) where
   self : q == q ≡ true
   self = eq-eqb q q refl
 
-  low : is_low q ≡ true
-  low = is_low_from q (quote_ascii q quote)
+  ascii : q < 128
+  ascii = quote_ascii q quote
 
-  pub quotes_two : list_all is_low (q ∷ q ∷ []) ≡ true
+  low : is_low q ≡ true
+  low = is_low_from q ascii
+
+  quotes_two : list_all is_low (q ∷ q ∷ []) ≡ true
   quotes_two = and_from _ _ low (and_from _ _ low refl)
 
-  pub quotes_low : list_all is_low (q ∷ q ∷ q ∷ []) ≡ true
+  quotes_low : list_all is_low (q ∷ q ∷ q ∷ []) ≡ true
   quotes_low = and_from _ _ low quotes_two
 
-  quote_held : (read : List ℕ) (n : ℕ) → HoldsLineEnds read n → HoldsLineEnds (read ++ q ∷ []) n
-  quote_held read n holds = holds_one read q n holds (quote_ascii q quote) (quote-no_break q quote)
-
   -- one quote more
-  quoted : {m : Mode} {initial : BeforePiece} {read : List ℕ} {n : ℕ} {st : List Bracket} → IsInPieceAfter m initial read n st → (next : Mode) → meet_of m q ≡ moves.Grows next → IsInPieceAfter next initial (read ++ q ∷ []) n st
-  quoted {read = read} {n} on next meets = grows on next q meets (break-return q (quote-no_break q quote)) (quote_held read n on.come.holds)
+  quoted : {m : Mode} {initial : BeforePiece} {read : List ℕ} {st : List Bracket} → IsInPieceAfter m initial read st → (next : Mode) → meet_of m q ≡ moves.Grows next → IsInPieceAfter next initial (read ++ q ∷ []) st
+  quoted on next meets = grows on next q meets (ascii_scalar q ascii)
 
   -- a string begins
-  abbrev Begins : Mode → List ℕ → ℕ → List Bracket → Type 0
-  Begins initial read n st = (done : List Piece) × StringBegins q (record { mode = initial; done = done }) read n st
+  abbrev Begins : Mode → List ℕ → List Bracket → Type 0
+  Begins initial read st = (done : List Piece) × StringBegins q (record { mode = initial; done = done }) read st
 
-  opened : (initial : Mode) (read : List ℕ) (n : ℕ) (st : List Bracket) → EndsBefore q initial read n st → Begins initial read n st
-  opened initial read n st on = (
-    pieces initial read n st q on,
-    record {
-      held = q ∷ [];
-      come = opens initial read n st q on (modes.Opened q) (start-quote q quote) (quote_held read n on.come.holds);
-      unreturned = one_unreturned read q (quote-no_break q quote);
-    },
-  )
+  opened : (initial : Mode) (read : List ℕ) (st : List Bracket) → EndsBefore q initial read st → Begins initial read st
+  opened initial read st on = (pieces initial read st q on, record { held = q ∷ []; come = opens initial read st q on (modes.Opened q) (start-quote q quote) ascii })
 
-  pub after_word : (s : Spelling) (initial : BeforePiece) (read : List ℕ) (n : ℕ) (st : List Bracket) → is_plain_prefix (Some s) ≡ true → IsInPieceAfter (modes.Word s) initial read n st → StringBegins q initial read n st
-  after_word s initial read n st plain on = quoted on (modes.Opened q) (prefix_quote s q quote plain)
+  pub after_word : (s : Spelling) (initial : BeforePiece) (read : List ℕ) (st : List Bracket) → is_plain_prefix (Some s) ≡ true → IsInPieceAfter (modes.Word s) initial read st → StringBegins q initial read st
+  after_word s initial read st plain on = quoted on (modes.Opened q) (prefix_quote s q quote plain)
 
-  pub string_begins : (rest : List ℕ) (initial : Mode) (read : List ℕ) (n : ℕ) (st : List Bracket) → is_plain_prefix (tail_of read) ≡ true → StandsBefore (q ∷ rest) initial read n st → Begins initial read n st
-  string_begins rest initial read n st plain on = ⊎_elim
-      (λ word. let (s, tail, (done, own)) = word in (done, after_word s (record { mode = initial; done = done }) read n st (ap is_plain_prefix (sym tail) ∙ plain) own))
-      (λ ends. opened initial read n st ends.1)
-      (quote_stands q quote rest initial read n st on)
+  pub string_begins : (rest : List ℕ) (initial : Mode) (read : List ℕ) (st : List Bracket) → is_plain_prefix (tail_of read) ≡ true → StandsBefore (q ∷ rest) initial read st → Begins initial read st
+  string_begins rest initial read st plain on = ⊎_elim
+      (λ word. let (s, tail, (done, own)) = word in (done, after_word s (record { mode = initial; done = done }) read st (ap is_plain_prefix (sym tail) ∙ plain) own))
+      (λ ends. opened initial read st ends.1)
+      (quote_stands q quote rest initial read st on)
 
   -- it is closed
-  closes : (m : Mode) (initial : BeforePiece) (read : List ℕ) (n : ℕ) (st : List Bracket) → ((s : IsInPieceAfter m initial read n st) → scan_step (scanned initial.done m s.held) q ≡ Some (fresh (initial.done ++ piece string (s.held ++ q ∷ []) ∷ []))) → IsInPieceAfter m initial read n st → HasClosedString initial (read ++ q ∷ []) n st
-  closes m initial read n st step s =
+  closes : (m : Mode) (initial : BeforePiece) (read : List ℕ) (st : List Bracket) → ((s : IsInPieceAfter m initial read st) → scan_step (scanned initial.done m s.held) q ≡ Some (fresh (initial.done ++ piece string (s.held ++ q ∷ []) ∷ []))) → IsInPieceAfter m initial read st → HasClosedString initial (read ++ q ∷ []) st
+  closes m initial read st step s =
       let text = piece string (s.held ++ q ∷ []) in
       record {
         text = s.held ++ q ∷ [];
-        come = come_on q s.come (step s) (keeps initial.done text st refl refl s.come.stacked) (EndsNoLine-push 0 initial.done text s.come.one_line refl) (quote_held read n s.come.holds);
+        come = come_on q s.come (step s) (keeps initial.done text st refl refl s.come.stacked) (EndsNoLine-push 0 initial.done text s.come.one_line refl) (ascii_scalar q ascii);
       }
 
   -- an empty string, before what follows
-  pub empty : (initial : BeforePiece) (read rest : List ℕ) (c n : ℕ) (st : List Bracket) → (c ≡ q → ⊥) → StringBegins q initial read n st → StandsBefore (c ∷ rest) initial.mode (read ++ q ∷ q ∷ []) n st
+  pub empty : (initial : BeforePiece) (read rest : List ℕ) (c : ℕ) (st : List Bracket) → (c ≡ q → ⊥) → StringBegins q initial read st → StandsBefore (c ∷ rest) initial.mode (read ++ q ∷ q ∷ []) st
   unfolding meet_of move_of
-  empty initial read rest c n st unlike on =
+  empty initial read rest c st unlike on =
       let two = quoted on (modes.Empty q) (rw self refl) in
-      inr (subst (λ (t : List ℕ). EndsBefore c initial.mode t n st) (append_assoc read (q ∷ []) (q ∷ [])) (record {
+      inr (subst (λ (t : List ℕ). EndsBefore c initial.mode t st) (append_assoc read (q ∷ []) (q ∷ [])) (record {
         state = scanned initial.done (modes.Empty q) two.held;
         come = two.come;
         breaks = rw (false_from_ne_true (c == q) (λ h. unlike (eqb-true c q h))) refl;
-        parted = λ feeds. two.unreturned;
         inside = λ returns. absurd (cc);
         tail = λ is. no_tail (read ++ q ∷ []) q (quote-no_word q quote);
       }))
 
-  -- the characters of its text
-  spans_size : (bytes : List ℕ) (k : ℕ) (is : Spans (is_body_byte q) bytes k) → byte_len is.utf8.0 ≡ k
-  spans_size bytes k is = ap length is.utf8.1.1 ∙ length-take-le k bytes is.run.within
-
-  spans_stay : (bytes : List ℕ) (k : ℕ) (is : Spans (is_body_byte q) bytes k) → list_all (is_body_byte q) is.utf8.0 ≡ true
-  spans_stay bytes k is = stay_spelled (modes.Inside q) bytes k (quote_ascii q quote) is.run.within is.run.each is.utf8.0 is.utf8.1.1
-
   -- what a character does that isn't the quote: in a short string, and in a long one
-  unlike : (c : ℕ) → is_one_of (codes "\\\n\r") c ≡ true → c == q ≡ false
+  slash_unlike : 92 == q ≡ false
   unfolding is_quote
-  unlike c one = false_from_ne_true _ (λ same. both_ways _ (none_of is_quote (codes "\\\n\r") c refl one) (ap is_quote (eqb-true c q same) ∙ quote))
+  slash_unlike = false_from_ne_true _ (λ same. both_ways _ refl (ap is_quote (eqb-true 92 q same) ∙ quote))
 
   abbrev short_is : Bool → Mode
   short_is b = if b then modes.Opened q else modes.Inside q
@@ -242,141 +182,133 @@ module _ (q : ℕ) (quote : is_quote q ≡ true) where
   in_short true c other = rw other
   in_short false c other = rw other
 
-  abbrev long_is : Bool → Mode
-  long_is b = if b then modes.LongOne q else modes.Long q
-
-  in_long : (b : Bool) (c : ℕ) → c == q ≡ false → meet_of (long_is b) c ≡ long_move q c
-  unfolding meet_of move_of
-  in_long true c other = rw other
-  in_long false c other = rw other
-
   pub short_later : (len : ℕ) → 1 < len → short_mode q len ≡ modes.Inside q
   short_later len more = ap short_is (false_from_ne_true (len == 1) (λ h. omega (arith, more, eqb-true len 1 h)))
 
-  -- the parts of one, as the code knows them
-  pub short_first : (bytes : List ℕ) → 0 < length bytes → slice_index bytes 0 ≡ q → PassesPart bytes 1 0 (StringBegins q) (IsInShort q 1)
-  short_first bytes within is = low_still bytes (q ∷ []) 1 within (and_from _ _ low refl) (taken_one bytes within ∙ ap (λ (c : ℕ). c ∷ []) is) (λ initial read n st on. on)
+  -- a quote that bytes begin with
+  quote_part : {stands comes : BeforePiece → List ℕ → List Bracket → Type 0} (bytes : List ℕ) → 0 < length bytes → slice_index bytes 0 ≡ q
+      → ((initial : BeforePiece) (read : List ℕ) (st : List Bracket) → stands initial read st → comes initial (read ++ q ∷ []) st) → PassesPart bytes 1 stands comes
+  quote_part {stands} {comes} bytes within is leads = low_part bytes (q ∷ []) 1 within (and_from _ _ low refl) (taken_one bytes within ∙ ap (λ (c : ℕ). c ∷ []) is) leads
 
-  short_text : (len : ℕ) (text : List ℕ) (initial : BeforePiece) (read : List ℕ) (n : ℕ) (st : List Bracket) → 1 ≤ len → all_scalars text ≡ true → list_all (is_body_byte q) text ≡ true → IsInShort q len initial read n st → IsInShort q (len + byte_len text) initial (read ++ text) n st
+  -- the parts of one, as the code knows them
+  pub short_first : (bytes : List ℕ) → 0 < length bytes → slice_index bytes 0 ≡ q → PassesPart bytes 1 (StringBegins q) (IsInShort q 1)
+  short_first bytes within is = quote_part bytes within is (λ initial read st on. on)
+
+  short_text : (len : ℕ) (initial : BeforePiece) (read text : List ℕ) (st : List Bracket) → 1 ≤ len → all_scalars text ≡ true → list_all (is_body_byte q) text ≡ true → IsInShort q len initial read st → IsInShort q (len + byte_len text) initial (read ++ text) st
   unfolding short_move
-  short_text len [] initial read n st some scalars all on = rw (add-zero, append-nil) on
-  short_text len (c ∷ cs) initial read n st some scalars all on =
+  short_text len initial read [] st some scalars all on = rw (add-zero, append-nil) on
+  short_text len initial read (c ∷ cs) st some scalars all on =
       let more : 0 < byte_len (c ∷ cs) = omega (arith, length-le-encodes (c ∷ cs)) in
-      subst (λ (m : Mode). IsInPieceAfter m initial (read ++ c ∷ cs) n st) (sym (short_later (len + byte_len (c ∷ cs)) (omega (arith, some, more))))
-      (first_goes_on (short_mode q len) (modes.Inside q) initial read (c ∷ cs) n st
+      subst (λ (m : Mode). IsInPieceAfter m initial (read ++ c ∷ cs) st) (sym (short_later (len + byte_len (c ∷ cs)) (omega (arith, some, more))))
+      (first_goes_on (short_mode q len) (modes.Inside q) initial read (c ∷ cs) st
       (λ d is. let parts = body_parts q d is in in_short (len == 1) d parts.0 ∙ rw (parts.1, parts.2) refl) more scalars all on)
 
-  pub short_run : (bytes : List ℕ) (len k : ℕ) → 1 ≤ len → Spans (is_body_byte q) bytes k → PassesPart bytes k 0 (IsInShort q len) (IsInShort q (len + k))
-  short_run bytes len k some is = still bytes is.utf8.0 k is.run.within is.utf8.1.1 (λ initial read n st on.
-      subst (λ (j : ℕ). IsInShort q (len + j) initial (read ++ is.utf8.0) n st) (spans_size bytes k is)
-      (short_text len is.utf8.0 initial read n st some is.utf8.1.0 (spans_stay bytes k is) on))
+  pub short_run : (bytes : List ℕ) (len k : ℕ) → 1 ≤ len → Spans (is_body_byte q) bytes k → PassesPart bytes k (IsInShort q len) (IsInShort q (len + k))
+  short_run bytes len k some is = run_part (modes.Inside q) bytes k ascii is (λ initial read run st size scalars stay on.
+      subst (λ (j : ℕ). IsInShort q (len + j) initial (read ++ run) st) size (short_text len initial read run st some scalars stay on))
 
-  pub short_escape : (bytes : List ℕ) (len : ℕ) (p : Passed) → 1 ≤ len → HasEscape bytes (Some p) → PassesPart bytes p.len p.line_ends (IsInShort q len) (IsInShort q (len + p.len))
-  unfolding meet_of move_of short_move is_backslash is_return is_line_feed
-  short_escape bytes len p some has =
-      low_part bytes (92 ∷ has.text) p.len p.line_ends has.within (escaped_low has.text p.line_ends has.escaped) has.spell (λ initial read n st on.
-      subst (λ (m : Mode). IsInPieceAfter m initial (read ++ 92 ∷ has.text) (n + p.line_ends) st) (sym (short_later (len + p.len) (omega (arith, some, has.some))))
-      (escaped (short_mode q len) (modes.Escape q) (modes.EscapeReturn q) (modes.Inside q) initial read has.text n p.line_ends st (in_short (len == 1) 92 (unlike 92 refl)) (λ c other. rw other refl) refl refl has.escaped on))
+  -- a backslash, and a byte that ends no line
+  pub short_escape : (bytes : List ℕ) (len : ℕ) → 1 ≤ len → BeginsEscape (rest_of bytes len) → is_break (slice_index bytes (len + 1)) ≡ false → PassesPart (rest_of bytes len) 2 (IsInShort q len) (IsInShort q (len + 2))
+  unfolding meet_of move_of short_move is_backslash is_return is_break
+  short_escape bytes len some has free =
+      let c = has.c in
+      let second : slice_index bytes (len + 1) ≡ c = sym (ap (λ t. slice_index t 1) (rest_is bytes len) ∙ later bytes len 1) ∙ ap (λ t. slice_index t 1) has.spell in
+      let unreturned : c == 13 ≡ false = false_from_ne_true _ (λ h. both_ways _ free (ap is_break (second ∙ eqb-true c 13 h))) in
+      escape_part (rest_of bytes len) has (λ initial read st on.
+      subst (λ (m : Mode). IsInPieceAfter m initial (read ++ 92 ∷ c ∷ []) st) (sym (short_later (len + 2) (omega (arith, some))))
+      (grows_twice (short_mode q len) (modes.Escape q) (modes.Inside q) initial read 92 c st (lit< tt) has.ascii (in_short (len == 1) 92 slash_unlike) (rw unreturned refl) on))
 
-  short_last : (bytes : List ℕ) (len : ℕ) → 1 < len → 0 < length bytes → slice_index bytes 0 ≡ q → PassesPart bytes 1 0 (IsInShort q len) HasClosedString
-  short_last bytes len more within is = low_still bytes (q ∷ []) 1 within (and_from _ _ low refl) (taken_one bytes within ∙ ap (λ (c : ℕ). c ∷ []) is) (λ initial read n st on.
-      closes (modes.Inside q) initial read n st (λ s. ap (moved (scanned initial.done (modes.Inside q) s.held) q) (inside_closes q)) (subst (λ (m : Mode). IsInPieceAfter m initial read n st) (short_later len more) on))
+  short_last : (bytes : List ℕ) (len : ℕ) → 1 < len → 0 < length bytes → slice_index bytes 0 ≡ q → PassesPart bytes 1 (IsInShort q len) HasClosedString
+  short_last bytes len more within is = quote_part bytes within is (λ initial read st on.
+      closes (modes.Inside q) initial read st (λ s. ap (moved (scanned initial.done (modes.Inside q) s.held) q) (inside_closes q)) (subst (λ (m : Mode). IsInPieceAfter m initial read st) (short_later len more) on))
 
   -- a string of three quotes begins
-  begun_long : (initial : BeforePiece) (read : List ℕ) (n : ℕ) (st : List Bracket) → StringBegins q initial read n st → IsInLong q initial (read ++ q ∷ q ∷ q ∷ []) n st
+  begun_long : (initial : BeforePiece) (read : List ℕ) (st : List Bracket) → StringBegins q initial read st → IsInLong q initial (read ++ q ∷ q ∷ q ∷ []) st
   unfolding meet_of move_of
-  begun_long initial read n st one =
-      subst (λ (t : List ℕ). IsInLong q initial t n st) (append_assoc (read ++ q ∷ []) (q ∷ []) (q ∷ []) ∙ append_assoc read (q ∷ []) (q ∷ q ∷ []))
-      (quoted (quoted one (modes.Empty q) (rw self refl)) (modes.Long q) (rw self refl))
-
-  -- a quote of its text
-  lone : (initial : BeforePiece) (read : List ℕ) (n : ℕ) (st : List Bracket) → IsInLong q initial read n st → IsInPieceAfter (modes.LongOne q) initial (read ++ q ∷ []) n st
-  unfolding meet_of move_of
-  lone initial read n st on = quoted on (modes.LongOne q) (rw self refl)
+  begun_long initial read st one =
+      subst (λ (t : List ℕ). IsInLong q initial t st) (append_assoc read (q ∷ []) (q ∷ q ∷ []))
+      (grows_twice (modes.Opened q) (modes.Empty q) (modes.Long q) initial (read ++ q ∷ []) q q st ascii ascii (rw self refl) (rw self refl) one)
 
   -- its last quotes
-  closed_long : (initial : BeforePiece) (read : List ℕ) (n : ℕ) (st : List Bracket) → IsInLong q initial read n st → HasClosedString initial (read ++ q ∷ q ∷ q ∷ []) n st
+  closed_long : (initial : BeforePiece) (read : List ℕ) (st : List Bracket) → IsInLong q initial read st → HasClosedString initial (read ++ q ∷ q ∷ q ∷ []) st
   unfolding meet_of move_of
-  closed_long initial read n st on =
-      subst (λ (t : List ℕ). HasClosedString initial t n st) (append_assoc (read ++ q ∷ []) (q ∷ []) (q ∷ []) ∙ append_assoc read (q ∷ []) (q ∷ q ∷ []))
-      (closes (modes.LongTwo q) initial ((read ++ q ∷ []) ++ q ∷ []) n st (λ s. rw self refl) (quoted (lone initial read n st on) (modes.LongTwo q) (rw self refl)))
-
-  -- a line end, also after a quote of its text
-  line_end_in_long : (b returned : Bool) (initial : BeforePiece) (read : List ℕ) (n : ℕ) (st : List Bracket) → IsInPieceAfter (long_is b) initial read n st → IsInLong q initial (read ++ line_end_of returned) (n + 1) st
-  unfolding long_move is_backslash
-  line_end_in_long b returned initial read n st on =
-      line_end_grows (long_is b) (modes.Long q) (modes.Long q) returned initial read n st (in_long b 10 (unlike 10 refl)) (in_long b 13 (unlike 13 refl)) (in_long false 10 (unlike 10 refl)) on
+  closed_long initial read st on =
+      subst (λ (t : List ℕ). HasClosedString initial t st) (append_assoc read (q ∷ q ∷ []) (q ∷ []))
+      (closes (modes.LongTwo q) initial (read ++ q ∷ q ∷ []) st (λ s. rw self refl)
+      (grows_twice (modes.Long q) (modes.LongOne q) (modes.LongTwo q) initial read q q st ascii ascii (rw self refl) (rw self refl) on))
 
   -- its parts, as the code knows them
-  pub long_first : (bytes : List ℕ) → BeginsLong q bytes → PassesPart bytes 3 0 (StringBegins q) (IsInLong q)
-  long_first bytes long = low_still bytes (q ∷ q ∷ q ∷ []) 3 long.within quotes_low long.spell begun_long
+  pub long_first : (bytes : List ℕ) → BeginsLong q bytes → PassesPart bytes 3 (StringBegins q) (IsInLong q)
+  long_first bytes long = low_part bytes (q ∷ q ∷ q ∷ []) 3 long.within quotes_low long.spell begun_long
 
-  pub long_last : (bytes : List ℕ) → BeginsLong q bytes → PassesPart bytes 3 0 (IsInLong q) HasClosedString
-  long_last bytes long = low_still bytes (q ∷ q ∷ q ∷ []) 3 long.within quotes_low long.spell closed_long
+  long_last : (bytes : List ℕ) → BeginsLong q bytes → PassesPart bytes 3 (IsInLong q) HasClosedString
+  long_last bytes long = low_part bytes (q ∷ q ∷ q ∷ []) 3 long.within quotes_low long.spell closed_long
 
-  long_run : (bytes : List ℕ) (k : ℕ) → Spans (is_body_byte q) bytes k → PassesPart bytes k 0 (IsInLong q) (IsInLong q)
-  long_run bytes k is = still bytes is.utf8.0 k is.run.within is.utf8.1.1 (λ initial read n st on. goes_on (modes.Long q) initial read is.utf8.0 n st is.utf8.1.0 (spans_stay bytes k is) on)
+  pub long_run : (bytes : List ℕ) (k : ℕ) → Spans (is_long_byte q) bytes k → PassesPart bytes k (IsInLong q) (IsInLong q)
+  long_run bytes k is = run_part (modes.Long q) bytes k ascii is (λ initial read run st size. goes_on (modes.Long q) initial read run st)
 
-  pub long_lines : (bytes : List ℕ) (p : Passed) → HasLongText q bytes p → PassesPart bytes p.len p.line_ends (IsInLong q) (IsInLong q)
-  long_lines bytes p has =
-      let all = all_pass (is_long_byte q) bytes p.len has.run.within has.run.each in
-      record {
-        within = has.run.within;
-        run = take p.len bytes;
-        spell = (long_characters q quote (take p.len bytes) all).0;
-        leads = λ initial read n st on.
-            subst (λ (k : ℕ). IsInLong q initial (read ++ take p.len bytes) (n + k) st) has.count
-            (lines_go_on q quote initial read (take p.len bytes) n st all on);
-      }
-
-  pub text_part : (bytes : List ℕ) (p : Passed) (k : ℕ) → HasLongText q bytes p → Spans (is_body_byte q) (take (length bytes - p.len) (drop p.len bytes)) k → PassesPart bytes (p.len + k) p.line_ends (IsInLong q) (IsInLong q)
-  text_part bytes p k has run = after bytes p.len p.line_ends k 0 p.line_ends (omega arith) (long_lines bytes p has) (long_run (drop p.len bytes) k (subst (λ (t : List ℕ). Spans (is_body_byte q) t k) (rest_is bytes p.len) run))
-
-  line_end_of_long : (b : Bool) (bytes : List ℕ) (len : ℕ) → BeginsLineEnd bytes len → PassesPart bytes len 1 (IsInPieceAfter (long_is b)) (IsInLong q)
-  line_end_of_long b bytes len ends = low_part bytes (line_end_of ends.returned) len 1 ends.within (line_end_low ends.returned) ends.spell (line_end_in_long b ends.returned)
-
-  pub line_end_part : (bytes : List ℕ) (len : ℕ) → BeginsLineEnd bytes len → Passes bytes (record { len = len; line_ends = 1 }) (IsInLong q) (IsInLong q)
-  line_end_part bytes len ends = let some = ends.some in record { some = some; few = omega (arith, some); part = line_end_of_long false bytes len ends }
-
-  -- a quote of its text, and what follows that
-  after_lone : (bytes : List ℕ) (len feeds : ℕ) → 0 < length bytes → slice_index bytes 0 ≡ q → feeds ≤ len → PassesPart (drop 1 bytes) len feeds (IsInPieceAfter (modes.LongOne q)) (IsInLong q)
-      → Passes bytes (record { len = 1 + len; line_ends = feeds }) (IsInLong q) (IsInLong q)
-  after_lone bytes len feeds some first few further = record {
+  -- a quote of its text, and the text after that
+  pub lone_text : (bytes : List ℕ) (len : ℕ) → 0 < length bytes → slice_index bytes 0 ≡ q → 0 < len → Spans (is_long_byte q) (rest_of bytes 1) len → Passes bytes (1 + len) (IsInLong q) (IsInLong q)
+  unfolding meet_of move_of long_move
+  lone_text bytes len some first more found = record {
     some = omega arith;
-    few = omega (arith, few);
-    part = after bytes 1 0 len feeds feeds (omega arith) (low_still bytes (q ∷ []) 1 some (and_from _ _ low refl) (taken_one bytes some ∙ ap (λ (c : ℕ). c ∷ []) first) lone) further;
+    part = after_rest bytes 1 len (quote_part bytes some first (λ initial read st on. quoted on (modes.LongOne q) (rw self refl)))
+        (run_part (modes.Long q) (rest_of bytes 1) len ascii found (λ initial read run st size scalars stay.
+        first_goes_on (modes.LongOne q) (modes.Long q) initial read run st (λ c is. let parts = or_parts (c == q) (is_backslash c) (not-true _ is) in rw (parts.0, parts.1) refl) (omega (arith, more, size)) scalars stay));
   }
 
-  pub lone_line_end_part : (bytes : List ℕ) (len : ℕ) → 0 < length bytes → slice_index bytes 0 ≡ q → HasLineEnd (rest_of bytes 1) (Some len) → Passes bytes (record { len = 1 + len; line_ends = 1 }) (IsInLong q) (IsInLong q)
-  lone_line_end_part bytes len some first found =
-      let ends : BeginsLineEnd (drop 1 bytes) len = subst (λ (t : List ℕ). BeginsLineEnd t len) (rest_is bytes 1) found in
-      let more = ends.some in
-      after_lone bytes len 1 some first (omega (arith, more)) (line_end_of_long true (drop 1 bytes) len ends)
+  pub long_escape : (bytes : List ℕ) → BeginsEscape bytes → Passes bytes 2 (IsInLong q) (IsInLong q)
+  unfolding meet_of move_of long_move is_backslash
+  long_escape bytes has = record {
+    some = omega arith;
+    part = escape_part bytes has (λ initial read st. grows_twice (modes.Long q) (modes.LongEscape q) (modes.Long q) initial read 92 has.c st (lit< tt) has.ascii (rw slash_unlike refl) refl);
+  }
 
-  pub lone_text_part : (bytes : List ℕ) (len : ℕ) → 0 < length bytes → slice_index bytes 0 ≡ q → 0 < len → Spans (is_body_byte q) (rest_of bytes 1) len → Passes bytes (record { len = 1 + len; line_ends = 0 }) (IsInLong q) (IsInLong q)
-  unfolding long_move
-  lone_text_part bytes len some first more found =
-      let is : Spans (is_body_byte q) (drop 1 bytes) len = subst (λ (t : List ℕ). Spans (is_body_byte q) t len) (rest_is bytes 1) found in
-      let size = spans_size (drop 1 bytes) len is in
-      after_lone bytes len 0 some first (omega arith) (still (drop 1 bytes) is.utf8.0 len is.run.within is.utf8.1.1 (λ initial read n st.
-      first_goes_on (modes.LongOne q) (modes.Long q) initial read is.utf8.0 n st (λ c body. let parts = body_parts q c body in in_long true c parts.0 ∙ rw (parts.1) refl)
-      (omega (arith, more, size)) is.utf8.1.0 (spans_stay (drop 1 bytes) len is)))
+-- none of the first bytes of a short string ends a line, as far as the code has come in it
+module _ (bytes : List ℕ) where
+  abbrev pub Unbroken : ℕ → Type 0
+  Unbroken len = (i : ℕ) → i < len → is_break (slice_index bytes i) ≡ false
 
-  long_escape_part : (bytes : List ℕ) (p : Passed) → HasEscape bytes (Some p) → PassesPart bytes p.len p.line_ends (IsInLong q) (IsInLong q)
-  unfolding meet_of move_of long_move is_backslash is_return
-  long_escape_part bytes p has =
-      low_part bytes (92 ∷ has.text) p.len p.line_ends has.within (escaped_low has.text p.line_ends has.escaped) has.spell (λ initial read n st.
-      escaped (modes.Long q) (modes.LongEscape q) (modes.Long q) (modes.Long q) initial read has.text n p.line_ends st (in_long false 92 (unlike 92 refl)) (λ c other. refl) refl (in_long false 10 (unlike 10 refl)) has.escaped)
+  one_unbroken : (len : ℕ) → Unbroken len → is_break (slice_index bytes len) ≡ false → Unbroken (len + 1)
+  one_unbroken len each last i less = elim (cases_lt i len) [
+    | inl before ↦ each i before
+    | inr upto ↦
+        let here : i ≡ len = omega (arith, less, upto) in
+        ap (λ (k : ℕ). is_break (slice_index bytes k)) here ∙ last
+  ]
 
-pub part_of_escape : (q : ℕ) → is_quote q ≡ true → (bytes : List ℕ) (found : Option Passed) → HasEscape bytes found → PassesOrNot bytes found (IsInLong q) (IsInLong q)
-part_of_escape q quote bytes None has = tt
-part_of_escape q quote bytes (Some p) has = record { some = has.some; few = omega (arith, has.some, has.few); part = long_escape_part q quote bytes p has }
+  pub first_unbroken : is_quote (slice_index bytes 0) ≡ true → Unbroken 1
+  first_unbroken quote = one_unbroken 0 (λ i none. absurd (omega (arith, none))) (quote-no_break _ quote)
+
+  pub run_unbroken : (q len k : ℕ) → Unbroken len → Spans (is_body_byte q) (rest_of bytes len) k → Unbroken (len + k)
+  run_unbroken q len k each is i less = elim (cases_lt i len) [
+    | inl before ↦ each i before
+    | inr upto ↦
+        let there : len + (i - len) ≡ i = omega (arith, upto) in
+        ap (λ (j : ℕ). is_break (slice_index bytes j)) (sym there) ∙ ap is_break (sym (ap (λ t. slice_index t (i - len)) (rest_is bytes len) ∙ later bytes len (i - len)))
+        ∙ (body_parts q _ (is.run.each (i - len) (omega (arith, less, upto)))).2
+  ]
+
+  pub escape_unbroken : (len : ℕ) → Unbroken len → BeginsEscape (rest_of bytes len) → is_break (slice_index bytes (len + 1)) ≡ false → Unbroken (len + 2)
+  unfolding is_break
+  escape_unbroken len each has free =
+      let slash : slice_index bytes len ≡ 92 = sym (ap (λ t. slice_index t 0) (rest_is bytes len) ∙ first_later bytes len) ∙ ap (λ t. slice_index t 0) has.spell in
+      let size : len + 1 + 1 ≡ len + 2 = omega arith in
+      subst Unbroken size (one_unbroken (len + 1) (one_unbroken len each (ap is_break slash)) free)
+
+  -- its last quote is like its first
+  pub last_unbroken : (len : ℕ) → Unbroken len → is_quote (slice_index bytes 0) ≡ true → slice_index bytes len ≡ slice_index bytes 0 → Unbroken (len + 1)
+  last_unbroken len each quote same = one_unbroken len each (ap is_break same ∙ quote-no_break _ quote)
+
+pub no_end : (bytes : List ℕ) (len : ℕ) → Unbroken bytes len → HoldsNoEnd bytes (Some len)
+no_end bytes zero each = refl
+no_end [] (suc n) each = refl
+no_end (b ∷ bs) (suc n) each = rw (each 0 (omega arith)) (no_end bs n (λ i less. each (suc i) (omega (arith, less))))
 
 -- a string that isn't empty is passed where its parts are
-pub whole_string : {begins : BeforePiece → List ℕ → ℕ → List Bracket → Type 0} (bytes : List ℕ) (len n : ℕ) → 2 < len → n ≤ len → PassesPart bytes len n begins HasClosedString → PassesString begins bytes (record { len = len; line_ends = n })
-whole_string {begins} bytes len n more few part =
-    subst (λ (b : Bool). Passes bytes (record { len = len; line_ends = n }) begins (StringEnds b (drop len bytes))) (sym (lt-ltb 2 len more))
-    (record { some = omega (arith, more); few = few; part = part })
+pub whole_string : {begins : BeforePiece → List ℕ → List Bracket → Type 0} (bytes : List ℕ) (len : ℕ) → 2 < len → PassesPart bytes len begins HasClosedString → PassesString begins bytes len
+whole_string {begins} bytes len more part =
+    subst (λ (b : Bool). Passes bytes len begins (StringEnds b (drop len bytes))) (sym (lt-ltb 2 len more)) (record { some = omega (arith, more); part = part })
 
 -- a short string as far as the code has come in it
 module _ (bytes : List ℕ) (quote : is_quote (slice_index bytes 0) ≡ true) where
@@ -386,67 +318,62 @@ module _ (bytes : List ℕ) (quote : is_quote (slice_index bytes 0) ≡ true) wh
   not_first : (len : ℕ) → 1 ≤ len → slice_index bytes len ≡ own → (slice_index bytes 1 ≡ own → ⊥) → 1 < len
   not_first len some is holds = ⊎_elim (λ more. more) (λ none. absurd (holds (ap (slice_index bytes) (omega (arith, some, none)) ∙ is))) (cases_lt 1 len)
 
-  pub short_ended : (len n : ℕ) → 1 ≤ len → (slice_index bytes 1 ≡ own → ⊥) → PassesPart bytes len n (StringBegins own) (IsInShort own len) → n ≤ len → len < length bytes → slice_index bytes len ≡ own → HasString bytes (Some (record { len = len + 1; line_ends = n }))
-  short_ended len n some holds read few within is =
-      whole_string bytes (len + 1) n (omega (arith, not_first len some is holds)) (omega (arith, few))
-      (after bytes len n 1 0 n (omega arith) read (short_last own quote (drop len bytes) len (not_first len some is holds) (omega (arith, within, length-drop len bytes)) (first_later bytes len ∙ is)))
+  pub short_ended : (len : ℕ) → 1 ≤ len → (slice_index bytes 1 ≡ own → ⊥) → PassesPart bytes len (StringBegins own) (IsInShort own len) → len < length bytes → slice_index bytes len ≡ own → HasString bytes (Some (len + 1))
+  short_ended len some holds read within is =
+      let more = not_first len some is holds in
+      whole_string bytes (len + 1) (omega (arith, more)) (after bytes len 1 read (short_last own quote (drop len bytes) len more (omega (arith, within, length-drop len bytes)) (first_later bytes len ∙ is)))
 
   -- so a string of three quotes
-  pub long_ended : (len n : ℕ) → PassesPart bytes len n (StringBegins own) (IsInLong own) → n ≤ len → BeginsLong own (take (length bytes - len) (drop len bytes)) → HasString bytes (Some (record { len = len + 3; line_ends = n }))
-  long_ended len n read few long =
-      whole_string bytes (len + 3) n (omega arith) (omega (arith, few))
-      (after bytes len n 3 0 n (omega arith) read (long_last own quote (drop len bytes) (subst (λ (t : List ℕ). BeginsLong own t) (rest_is bytes len) long)))
+  pub long_ended : (len : ℕ) → PassesPart bytes len (StringBegins own) (IsInLong own) → BeginsLong own (rest_of bytes len) → HasString bytes (Some (len + 3))
+  long_ended len read long = whole_string bytes (len + 3) (omega arith) (after_rest bytes len 3 read (long_last own quote (rest_of bytes len) long))
 
   -- an empty string
-  pub empty_is : 2 < length bytes → slice_index bytes 1 ≡ own → (slice_index bytes 2 ≡ own → ⊥) → HasString bytes (Some (record { len = 2; line_ends = 0 }))
+  pub empty_is : 2 < length bytes → slice_index bytes 1 ≡ own → (slice_index bytes 2 ≡ own → ⊥) → HasString bytes (Some 2)
   empty_is within second third = record {
     some = omega arith;
-    few = omega arith;
-    part = low_still bytes (own ∷ own ∷ []) 2 (omega (arith, within)) (quotes_two own quote) (taken_two bytes (omega (arith, within)) ∙ ap (λ (c : ℕ). own ∷ c ∷ []) second) (λ initial read n st on.
-        subst (λ (t : List ℕ). StandsBefore t initial.mode (read ++ own ∷ own ∷ []) n st) (sym (drop_more bytes 2 0 within)) (empty own quote initial read (drop 3 bytes) (slice_index bytes 2) n st third on));
+    part = low_part bytes (own ∷ own ∷ []) 2 (omega (arith, within)) (quotes_two own quote) (taken_two bytes (omega (arith, within)) ∙ ap (λ (c : ℕ). own ∷ c ∷ []) second) (λ initial read st on.
+        subst (λ (t : List ℕ). StandsBefore t initial.mode (read ++ own ∷ own ∷ []) st) (sym (drop_more bytes 2 0 within)) (empty own quote initial read (drop 3 bytes) (slice_index bytes 2) st third on));
   }
 
 -- where it was closed no piece is open
-ends_closed : (b : Bool) (rest : List ℕ) (before : BeforePiece) (read : List ℕ) (n : ℕ) (st : List Bracket) → StringEnds b rest before read n st → StandsClosed b rest before.mode read n st
-ends_closed true rest before read n st ends = record { done = _; come = ends.come }
-ends_closed false rest before read n st ends = ends
+ends_closed : (b : Bool) (rest : List ℕ) (before : BeforePiece) (read : List ℕ) (st : List Bracket) → StringEnds b rest before read st → StandsClosed b rest before.mode read st
+ends_closed true rest before read st ends = record { done = _; come = ends.come }
+ends_closed false rest before read st ends = ends
 
 -- a piece at a byte of a line, which the bytes from there on begin with
-pub piece_at : {Before : Type 0} {begins comes : Before → List ℕ → ℕ → List Bracket → Type 0} (bytes : List ℕ) (at : ℕ) (p : Passed) (closes : Bool)
-    → at < length bytes → Passes (drop at bytes) p begins comes
-    → ((m : Mode) (read : List ℕ) (n : ℕ) (st : List Bracket) → StandsAt bytes at m read n st
-    → (b : Before) × begins b read n st
-    × ((later : List ℕ) (k : ℕ) → comes b later k st → StandsClosed closes (drop p.len (drop at bytes)) m later k st))
-    → PassesAt bytes at p closes
-piece_at bytes at p closes within is begins = (
+pub piece_at : {Before : Type 0} {begins comes : Before → List ℕ → List Bracket → Type 0} (bytes : List ℕ) (at len : ℕ) (closes : Bool)
+    → at < length bytes → Passes (drop at bytes) len begins comes
+    → ((m : Mode) (read : List ℕ) (st : List Bracket) → StandsAt bytes at m read st
+    → (b : Before) × begins b read st
+    × ((later : List ℕ) → comes b later st → StandsClosed closes (drop len (drop at bytes)) m later st))
+    → PassesAt bytes at len closes
+piece_at bytes at len closes within is begins = (
   omega (arith, is.part.within, within, length-drop at bytes),
   record {
     some = is.some;
-    few = is.few;
     part = record {
       within = is.part.within;
       run = is.part.run;
       spell = is.part.spell;
-      leads = λ m read n st on.
-          let (b, begun, closed) = begins m read n st on in
-          closed (read ++ is.part.run) (n + p.line_ends) (is.part.leads b read n st begun);
+      leads = λ m read st on.
+          let (b, begun, closed) = begins m read st on in
+          closed (read ++ is.part.run) (is.part.leads b read st begun);
     };
   },
 )
 
 -- a string
-pub string_at : {begins : BeforePiece → List ℕ → ℕ → List Bracket → Type 0} (bytes : List ℕ) (at : ℕ) (p : Passed) → at < length bytes → PassesString begins (drop at bytes) p
-    → ((m : Mode) (read : List ℕ) (n : ℕ) (st : List Bracket) → StandsAt bytes at m read n st → (done : List Piece) × begins (record { mode = m; done = done }) read n st) → PassesAt bytes at p (nat_lt 2 p.len)
-string_at bytes at p within is begins =
-    piece_at bytes at p (nat_lt 2 p.len) within is (λ m read n st on.
-    let (done, begun) = begins m read n st on in
+pub string_at : {begins : BeforePiece → List ℕ → List Bracket → Type 0} (bytes : List ℕ) (at len : ℕ) → at < length bytes → PassesString begins (drop at bytes) len
+    → ((m : Mode) (read : List ℕ) (st : List Bracket) → StandsAt bytes at m read st → (done : List Piece) × begins (record { mode = m; done = done }) read st) → PassesAt bytes at len (nat_lt 2 len)
+string_at bytes at len within is begins =
+    piece_at bytes at len (nat_lt 2 len) within is (λ m read st on.
+    let (done, begun) = begins m read st on in
     let before : BeforePiece = record { mode = m; done = done } in
-    (before, begun, λ later k. ends_closed (nat_lt 2 p.len) (drop p.len (drop at bytes)) before later k st))
+    (before, begun, λ later. ends_closed (nat_lt 2 len) (drop len (drop at bytes)) before later st))
 
 -- one without fields
-pub plain_at : (bytes : List ℕ) (at : ℕ) (found : Option Passed) → at < length bytes → is_quote (slice_index bytes at) ≡ true → is_plain_prefix (tail_of (take at bytes)) ≡ true → HasString (rest_of bytes at) found → PassesStringAt bytes at found
-plain_at bytes at None within quote plain has = tt
-plain_at bytes at (Some p) within quote plain has =
-    string_at bytes at p within (subst (λ (t : List ℕ). HasString t (Some p)) (rest_is bytes at) has) (λ m read n st on.
-    let before = subst (λ (t : List ℕ). StandsBefore t m read n st) (drop_more bytes at 0 within) on.2 in
-    rw (first_later bytes at) (string_begins (slice_index bytes at) quote (drop (at + 1) bytes) m read n st (ap is_plain_prefix on.0 ∙ plain) before))
+pub plain_at : (bytes : List ℕ) (at len : ℕ) → at < length bytes → is_quote (slice_index bytes at) ≡ true → is_plain_prefix (tail_of (take at bytes)) ≡ true → HasString (rest_of bytes at) (Some len) → PassesAt bytes at len (nat_lt 2 len)
+plain_at bytes at len within quote plain has =
+    string_at bytes at len within (subst (λ (t : List ℕ). HasString t (Some len)) (rest_is bytes at) has) (λ m read st on.
+    let before = subst (λ (t : List ℕ). StandsBefore t m read st) (drop_more bytes at 0 within) on.2 in
+    rw (first_later bytes at) (string_begins (slice_index bytes at) quote (drop (at + 1) bytes) m read st (ap is_plain_prefix on.0 ∙ plain) before))

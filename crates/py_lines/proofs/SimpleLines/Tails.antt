@@ -1,8 +1,8 @@
--- Where no piece is open, no word is, and CR doesn't stand last.
-use Rattle.std.proofs.Common.{◌≡◌, ℕ, inl, inr, Bool, true, false, not, ◌&&◌, ◌||◌, Option, None, Some, List, [], ◌∷◌, ◌++◌, refl, sym, ap, ◌∙◌, subst, append-nil, lit<, ⊎_elim}
+-- Where no piece is open, no word is.
+use Rattle.std.proofs.Common.{◌≡◌, ℕ, inl, inr, Bool, true, false, not, Option, None, Some, List, [], ◌∷◌, ◌++◌, refl, sym, ap, ◌∙◌, subst, append-nil, lit<, ⊎_elim}
 use Rattle.std.specs.Prelude.{codes}
-use Rattle.std.proofs.lemmas.Bool.{and_from, both_ways, cond_both, not-true, or_parts}
-use Rattle.py_lines.specs.Character.{is_break, is_line_feed, is_operator, is_quote, is_return, is_space}
+use Rattle.std.proofs.lemmas.Bool.{both_ways, cond_both, not-true}
+use Rattle.py_lines.specs.Character.{is_break, is_operator, is_quote, is_space}
 use Rattle.py_lines.specs.Piece.{Class, mark, space, word, string, operator, comment, join, line_end, Piece, ends, spelled}
 use Rattle.py_lines.specs.PieceGrammar.{IsLineEnd, joined}
 use Rattle.py_lines.specs.PieceGrammar.IsLineEnd.{feed, return_feed, return}
@@ -13,21 +13,19 @@ use Rattle.py_lines.specs.declared.mode.Mode.TheVariants as modes
 use Rattle.py_lines.specs.declared.mode.Spelling.{Spelling}
 use Rattle.py_lines.specs.Private.Machine.{Scanned, fresh, Bracket, brackets_of}
 use Rattle.py_lines.specs.Private.ScanMachine.{IsScanSound}
-use Rattle.py_lines.specs.Private.Scan.{AreLine}
+use Rattle.py_lines.specs.Private.LineScan.{AreLine}
 use Rattle.py_lines.specs.Private.Run.{is_ascii_word}
 use Rattle.py_lines.specs.Private.FieldText.{is_apart_mode}
-use Rattle.py_lines.specs.Private.Outline.{GoesOnAfter, HasCome, IsEndedBy, IsFreeAfter, IsTail, StandsBefore, StandsClosed, tail_of, tail_on, tail_with, HoldsLineEnds}
-use Rattle.py_lines.proofs.LineScan.LineCount.{ends-last}
+use Rattle.py_lines.specs.Private.Outline.{GoesOnAfter, HasCome, IsEndedBy, IsFreeAfter, IsTail, StandsBefore, StandsClosed, tail_of, tail_on, tail_with}
 use Rattle.py_lines.proofs.Lexings.LineEnds.{ends-append}
-pub use Rattle.py_lines.proofs.Lexings.LineEnds.{feed_unreturned, return_returns}
 use Rattle.py_lines.proofs.LineScan.PieceEnd.{no_class_bracket}
 use Rattle.py_lines.proofs.LineScan.LineSteps.{sound_steps}
 use Rattle.py_lines.proofs.LineScan.AsciiRuns.{word_byte_continues}
-use Rattle.py_lines.proofs.Text.CharacterTests.{feed_from, mark_is, none_of}
+use Rattle.py_lines.proofs.Text.CharacterTests.{mark_is, none_of}
 
 -- where the machine has come, it is sound
-pub come_sound : (m : Mode) (read : List ℕ) (n : ℕ) (st : List Bracket) (s : Scanned) → HasCome m read n st s → IsScanSound s read
-come_sound m read n st s come = sound_steps m read s come.start come.steps come.stacked
+pub come_sound : (m : Mode) (read : List ℕ) (st : List Bracket) (s : Scanned) → HasCome m read st s → IsScanSound s read
+come_sound m read st s come = sound_steps m read s come.start come.steps come.stacked
 
 -- the brackets are closed where a line has ended
 pub ended_stack : {len : ℕ} (s : Scanned) (body : List Piece) (last : Piece) → AreLine body last len → IsEndedBy s body last → brackets_of s.done ≡ Some []
@@ -49,14 +47,14 @@ no_tail_with (Some s) c none = rw none refl
 pub no_tail : (read : List ℕ) (c : ℕ) → is_ascii_word c ≡ false → tail_of (read ++ c ∷ []) ≡ None
 no_tail read c none = tail_push read c ∙ no_tail_with (tail_of read) c none
 
--- no letter, digit or underscore, and not CR
+-- no letter, digit or underscore
 abbrev is_other : ℕ → Bool
-is_other c = not (is_ascii_word c || is_return c)
+is_other c = not (is_ascii_word c)
 
 -- a text that ends with such a character
-other_tail : (t : Option Spelling) (text : List ℕ) → ends is_other text ≡ true → (tail_on t text ≡ None) × (ends is_return text ≡ false)
+other_tail : (t : Option Spelling) (text : List ℕ) → ends is_other text ≡ true → tail_on t text ≡ None
 other_tail t [] h = absurd (both_ways _ refl h)
-other_tail t (c ∷ []) h = let (other, returns) = or_parts (is_ascii_word c) (is_return c) (not-true _ h) in (no_tail_with t c other, returns)
+other_tail t (c ∷ []) h = no_tail_with t c (not-true _ h)
 other_tail t (c ∷ d ∷ ds) h = other_tail (tail_with t c) (d ∷ ds) h
 
 ends_after : (xs ys : List ℕ) → ends is_other ys ≡ true → ends is_other (xs ++ ys) ≡ true
@@ -64,12 +62,12 @@ ends_after xs [] h = absurd (both_ways _ refl h)
 ends_after xs (y ∷ ys) h = ends-append is_other xs y ys ∙ h
 
 quote_other : (q : ℕ) → is_quote q ≡ true → is_other q ≡ true
-unfolding is_quote is_ascii_word is_return
-quote_other q quote = ap not (none_of (λ c. is_ascii_word c || is_return c) (codes "'\"") q refl quote)
+unfolding is_quote is_ascii_word
+quote_other q quote = ap not (none_of is_ascii_word (codes "'\"") q refl quote)
 
 operator_other : (c : ℕ) → is_operator c ≡ true → is_other c ≡ true
-unfolding is_operator is_ascii_word is_return
-operator_other c is = ap not (none_of (λ d. is_ascii_word d || is_return d) (codes "+-*/%@&|^~<>=!()[]{},:.;") c refl is)
+unfolding is_operator is_ascii_word
+operator_other c is = ap not (none_of is_ascii_word (codes "+-*/%@&|^~<>=!()[]{},:.;") c refl is)
 
 string_ends : (text : List ℕ) → InClass string text → ends is_other text ≡ true
 string_ends text (inl (inl (short, plain))) =
@@ -83,17 +81,15 @@ string_ends text (inr is) =
     let quotes = cond_both is.host.is_long _ _ (λ (t : List ℕ). ends is_other t ≡ true) (λ _. other) (λ _. other) in
     ap (ends is_other) is.spell ∙ ends_after is.prefix _ (ends_after (quotes_of is.host) _ (ends_after (joined is.parts) (quotes_of is.host) quotes))
 
--- LF may not stand after CR
-line_end_ends : (before end : List ℕ) → IsLineEnd end → ends is_return (before ++ end) && is_line_feed 10 ≡ false → ends is_other (before ++ end) ≡ true
-unfolding is_ascii_word is_return
-line_end_ends before end (feed is) may = rw is (ends_after before (10 ∷ []) refl)
-line_end_ends before end (return_feed is) may = rw is (ends_after before (13 ∷ 10 ∷ []) refl)
-line_end_ends before end (return is) may =
-    absurd (both_ways _ may (and_from _ _ (ap (λ t. ends is_return (before ++ t)) is ∙ ends-last is_return before 13) (feed_from 10 refl)))
+line_end_ends : (before end : List ℕ) → IsLineEnd end → ends is_other (before ++ end) ≡ true
+unfolding is_ascii_word
+line_end_ends before end (feed is) = rw is (ends_after before (10 ∷ []) refl)
+line_end_ends before end (return_feed is) = rw is (ends_after before (13 ∷ 10 ∷ []) refl)
+line_end_ends before end (return is) = rw is (ends_after before (13 ∷ []) refl)
 
 -- a piece that may stand before every text, which no space, no word and no comment may
 class_ends : (class : Class) (text : List ℕ) → ((more : List ℕ) → InClass class text × MayPrecede class text more) → ends is_other text ≡ true
-unfolding is_ascii_word is_break is_space is_return
+unfolding is_ascii_word is_break is_space
 class_ends mark text fits = let (one, is, marks) = (fits []).0 in ap (ends is_other) is ∙ ap is_other (mark_is one marks)
 class_ends space text fits = absurd (both_ways _ (fits (32 ∷ [])).1 refl)
 class_ends word text fits = absurd (both_ways _ (fits (97 ∷ [])).1.0 (word_byte_continues 97 (lit< tt)))
@@ -102,21 +98,21 @@ class_ends operator text fits = let (one, is, stands) = (fits []).0 in ap (ends 
 class_ends comment text fits = ⊎_elim (λ none. absurd (cc)) (λ breaks. absurd (both_ways _ refl breaks)) (fits (97 ∷ [])).1
 class_ends join text fits =
     let (slash, end, is, slashes, ended) = (fits []).0 in
-    ap (ends is_other) is ∙ line_end_ends (slash ∷ []) end ended (ap (λ t. ends is_return t && is_line_feed 10) (sym is) ∙ (fits (10 ∷ [])).1)
-class_ends line_end text fits = line_end_ends [] text (fits []).0 (fits (10 ∷ [])).1
+    ap (ends is_other) is ∙ line_end_ends (slash ∷ []) end ended
+class_ends line_end text fits = line_end_ends [] text (fits []).0
 
 pieces_end : (p : Piece) (ps : List Piece) → ((more : List ℕ) → AreReadBefore (p ∷ ps) more) → ends is_other (spelled (p ∷ ps)) ≡ true
 pieces_end p [] fits = ap (ends is_other) (append-nil p.text) ∙ class_ends p.class p.text (λ more. ((fits more).0, (fits more).1))
 pieces_end p (q ∷ qs) fits = ends_after p.text (spelled (q ∷ qs)) (pieces_end q qs (λ more. (fits more).3))
 
 -- closed pieces
-free_as : (done : List Piece) (read : List ℕ) → spelled done ++ [] ≡ read → ((more : List ℕ) → AreReadBefore done more) → (tail_of read ≡ None) × (ends is_return read ≡ false)
-free_as [] read spell fits = (ap tail_of (sym spell), ap (ends is_return) (sym spell))
+free_as : (done : List Piece) (read : List ℕ) → spelled done ++ [] ≡ read → ((more : List ℕ) → AreReadBefore done more) → tail_of read ≡ None
+free_as [] read spell fits = ap tail_of (sym spell)
 free_as (p ∷ ps) read spell fits = rw (← spell, append-nil) (other_tail None (spelled (p ∷ ps)) (pieces_end p ps fits))
 
-pub free_tail : (m : Mode) (read : List ℕ) (n : ℕ) (st : List Bracket) → IsFreeAfter m read n st → (tail_of read ≡ None) × (ends is_return read ≡ false)
-free_tail m read n st free =
-    let sound = come_sound m read n st (fresh free.done) free.come in
+pub free_tail : (m : Mode) (read : List ℕ) (st : List Bracket) → IsFreeAfter m read st → tail_of read ≡ None
+free_tail m read st free =
+    let sound = come_sound m read st (fresh free.done) free.come in
     free_as free.done read sound.spell sound.fit
 
 -- whether it is open
@@ -124,29 +120,23 @@ pub apart_tail : (t : Option Spelling) (m : Mode) → is_apart_mode m ≡ true �
 apart_tail t m apart none = subst (λ (u : Option Spelling). IsTail u m) (sym none) apart
 
 -- so the line goes on after them
-pub free_goes_on : (m : Mode) (read : List ℕ) (n : ℕ) (st : List Bracket) → IsFreeAfter m read n st → GoesOnAfter m read n st
-free_goes_on m read n st free =
-    let tail = free_tail m read n st free in
-    record { state = fresh free.done; come = free.come; tail = apart_tail (tail_of read) modes.Free refl tail.0; unreturned = tail.1 }
+pub free_goes_on : (m : Mode) (read : List ℕ) (st : List Bracket) → IsFreeAfter m read st → GoesOnAfter m read st
+free_goes_on m read st free =
+    record { state = fresh free.done; come = free.come; tail = apart_tail (tail_of read) modes.Free refl (free_tail m read st free) }
 
 -- a line that goes on, before whatever follows
-pub stands : (rest : List ℕ) (m : Mode) (read : List ℕ) (n : ℕ) (st : List Bracket) → GoesOnAfter m read n st → StandsBefore rest m read n st
-stands [] m read n st on = on
-stands (c ∷ rest) m read n st on = inl on
+pub stands : (rest : List ℕ) (m : Mode) (read : List ℕ) (st : List Bracket) → GoesOnAfter m read st → StandsBefore rest m read st
+stands [] m read st on = on
+stands (c ∷ rest) m read st on = inl on
 
-pub stands_holds : (rest : List ℕ) (m : Mode) (read : List ℕ) (n : ℕ) (st : List Bracket) → StandsBefore rest m read n st → HoldsLineEnds read n
-stands_holds [] m read n st on = on.come.holds
-stands_holds (c ∷ rest) m read n st (inl on) = on.come.holds
-stands_holds (c ∷ rest) m read n st (inr on) = on.come.holds
+pub free_stands : (rest : List ℕ) (m : Mode) (read : List ℕ) (st : List Bracket) → IsFreeAfter m read st → StandsBefore rest m read st
+free_stands rest m read st free = stands rest m read st (free_goes_on m read st free)
 
-pub free_stands : (rest : List ℕ) (m : Mode) (read : List ℕ) (n : ℕ) (st : List Bracket) → IsFreeAfter m read n st → StandsBefore rest m read n st
-free_stands rest m read n st free = stands rest m read n st (free_goes_on m read n st free)
-
-pub closed_stands : (b : Bool) (rest : List ℕ) (m : Mode) (read : List ℕ) (n : ℕ) (st : List Bracket) → StandsClosed b rest m read n st → StandsBefore rest m read n st
-closed_stands true rest m read n st free = free_stands rest m read n st free
-closed_stands false rest m read n st on = on
+pub closed_stands : (b : Bool) (rest : List ℕ) (m : Mode) (read : List ℕ) (st : List Bracket) → StandsClosed b rest m read st → StandsBefore rest m read st
+closed_stands true rest m read st free = free_stands rest m read st free
+closed_stands false rest m read st on = on
 
 -- no piece is open, which may be known or not
-pub free_closed : (b : Bool) (rest : List ℕ) (m : Mode) (read : List ℕ) (n : ℕ) (st : List Bracket) → IsFreeAfter m read n st → StandsClosed b rest m read n st
-free_closed true rest m read n st free = free
-free_closed false rest m read n st free = free_stands rest m read n st free
+pub free_closed : (b : Bool) (rest : List ℕ) (m : Mode) (read : List ℕ) (st : List Bracket) → IsFreeAfter m read st → StandsClosed b rest m read st
+free_closed true rest m read st free = free
+free_closed false rest m read st free = free_stands rest m read st free

@@ -1,11 +1,11 @@
 -- A scan under way in a line stands as the lines that are passed over do, where no piece is open and no field.
-use Rattle.std.proofs.Common.{◌≡◌, ℕ, ◌+◌, inl, inr, subst, true, false, Some, List, [], ◌∷◌, ◌++◌, refl, sym, ap, ◌∙◌, append-nil}
+use Rattle.std.proofs.Common.{◌≡◌, ℕ, inl, inr, subst, true, false, Some, List, [], ◌∷◌, ◌++◌, refl, sym, ap, ◌∙◌, append-nil}
 use Rattle.std.specs.Prelude.{encode_utf8_all}
 use Rattle.std.proofs.lemmas.Bool.{both_ways}
 use Rattle.std.proofs.lemmas.Str.{encodes_same}
 use Rattle.std.specs.Str.{all_scalars}
 use Rattle.py_lines.specs.Character.{is_line_feed, is_return}
-use Rattle.py_lines.specs.LogicalLine.{byte_len, line_ends}
+use Rattle.py_lines.specs.LogicalLine.{byte_len}
 use Rattle.py_lines.specs.Piece.{line_end, Piece, begins, ends, spelled}
 use Rattle.py_lines.specs.declared.field_mode.FieldMode.TheVariants as field_modes
 use Rattle.py_lines.specs.declared.frames.Frame.{Frame}
@@ -16,12 +16,12 @@ use Rattle.py_lines.specs.declared.mode.Mode.TheVariants as modes
 use Rattle.py_lines.specs.declared.scan.Scan.{Scan}
 use Rattle.py_lines.specs.Private.Machine.{Bracket, Scanned, brackets_of, fresh}
 use Rattle.py_lines.specs.Private.FieldMachine.{FieldScanned, Level, field_state, plain}
-use Rattle.py_lines.specs.Private.FieldScan.{FramesFollow, bracket_frames, bracket_openers, frames_of, is_free_mode, mode_from}
+use Rattle.py_lines.specs.Private.Scan.{FramesFollow, bracket_frames, bracket_openers, frames_of, is_free_mode, mode_from}
 use Rattle.py_lines.specs.Private.Frames.{has_field}
 use Rattle.py_lines.specs.Private.Run.{is_free}
 use Rattle.py_lines.specs.Private.ScanMachine.{IsScanSound, StringsFit, HoldsOpen}
 use Rattle.py_lines.specs.Fields.{AreReadBefore}
-use Rattle.py_lines.specs.Private.Scan.{IsLineBefore, IsUnderWay, line_start}
+use Rattle.py_lines.specs.Private.LineScan.{IsLineBefore, IsUnderWay, line_start}
 use Rattle.py_lines.specs.Private.Outline.{IsEndedBy, IsFreeAfter, IsLine}
 use Rattle.py_lines.proofs.Machine.PieceSteps.{scanned}
 use Rattle.py_lines.proofs.Pieces.PieceLists.{piece, spelled-push}
@@ -30,7 +30,7 @@ use Rattle.py_lines.proofs.ScanMachine.Soundness.{stands_sound}
 use Rattle.py_lines.proofs.LineScan.LineSteps.{returned_fit, sound_steps, way_sound}
 use Rattle.py_lines.proofs.LineScan.LineCount.{ends-last}
 use Rattle.py_lines.proofs.Lexings.LineEnds.{line_string, return_returns}
-use Rattle.py_lines.proofs.SimpleLines.Tails.{ended_stack, free_tail}
+use Rattle.py_lines.proofs.SimpleLines.Tails.{ended_stack}
 use Rattle.py_lines.proofs.LineScan.OpenPieces.{free_outside}
 
 -- a machine that stands in no piece holds nothing
@@ -51,12 +51,12 @@ no_field (l ∷ ls) done openers fs (bs, field, others, stack, openers_are, fram
 
 -- a scan under way in no piece and no field
 pub way_free : (m : Mode) (scan : Scan) (read : List ℕ) → IsScanSound (line_start m) [] → all_scalars read ≡ true → (way : IsUnderWay m scan read)
-    → is_free_mode scan.inside.mode ≡ true → has_field scan.inside.frames ≡ false
-    → IsFreeAfter m read (line_ends read) way.brackets × (scan.inside.frames ≡ frames_of way.brackets)
+    → is_free_mode scan.mode ≡ true → has_field scan.frames ≡ false
+    → IsFreeAfter m read way.brackets × (scan.frames ≡ frames_of way.brackets)
 way_free m scan read start scalars way free none =
     let s = way.state in
     let t = way.field in
-    let (outside, bs, stack, frames) = no_field t.outer t.done t.openers scan.inside.frames way.follows.frames none in
+    let (outside, bs, stack, frames) = no_field t.outer t.done t.openers scan.frames way.follows.frames none in
     let (is, closed) = free_outside way start outside free in
     let same : bs ≡ way.brackets = some_is bs way.brackets (sym stack ∙ ap (λ (x : FieldScanned). brackets_of x.done) is ∙ way.stacked) in (
       record {
@@ -66,17 +66,17 @@ way_free m scan read start scalars way free none =
           steps = way.steps ∙ ap Some (free_at s.mode s.done s.held closed (way_sound way start).holds);
           stacked = way.stacked;
           one_line = way.one_line;
-          holds = record { scalars = scalars; count = refl };
+          scalars = scalars;
         };
       },
       frames ∙ ap frames_of same,
     )
 
--- where a scan is set in no piece after closed ones, it is under way, and keeps count of them
-pub free_way : (m : Mode) (scan : Scan) (read : List ℕ) (n : ℕ) (st : List Bracket) → IsFreeAfter m read n st
-    → scan.inside.mode ≡ field_modes.Code modes.Free → scan.inside.start ≡ byte_len read → scan.inside.frames ≡ frames_of st
-    → scan.stop ≡ byte_len read → scan.count.line ≡ scan.line + n → scan.count.after_return ≡ false → IsUnderWay m scan read
-free_way m scan read n st free mode start frames stop line after =
+-- where a scan is set in no piece after closed ones, it is under way
+pub free_way : (m : Mode) (scan : Scan) (read : List ℕ) (st : List Bracket) → IsFreeAfter m read st
+    → scan.mode ≡ field_modes.Code modes.Free → scan.start ≡ byte_len read → scan.frames ≡ frames_of st
+    → scan.stop ≡ byte_len read → IsUnderWay m scan read
+free_way m scan read st free mode start frames stop =
     let stands = stands_sound m read (fresh free.done) st free.come.start (record { run = free.come.steps; stack = free.come.stacked }) in
     let spell : spelled free.done ≡ read = sym (append-nil (spelled free.done)) ∙ stands.scan.spell in
     record {
@@ -94,18 +94,14 @@ free_way m scan read n st free mode start frames stop line after =
         waits = tt;
         start = start ∙ ap byte_len (sym spell);
         frames = (st, free.come.stacked, refl, frames);
-      };
-      counts = record {
-        stop = stop;
-        here = line ∙ ap (λ (k : ℕ). scan.line + k) (sym free.come.holds.count);
-        after = after ∙ sym (free_tail m read n st free).1;
+        stop = stop ∙ ap byte_len (sym stands.scan.spell);
       };
     }
 
 -- a line that has ended is one for the scan too, where it is set after it
-pub line_before : (m : Mode) (read : List ℕ) (n : ℕ) (after : List ℕ) (scan : Scan) → IsScanSound (line_start m) []
-    → (line : IsLine m read n after) → scan.stop ≡ byte_len read → scan.count.line ≡ scan.line + n → scan.count.after_return ≡ ends is_return read → IsLineBefore m scan read line.len
-line_before m read n after scan begun line stop here returned more apart =
+pub line_before : (m : Mode) (read after : List ℕ) (scan : Scan) → IsScanSound (line_start m) []
+    → (line : IsLine m read after) → scan.stop ≡ byte_len read → IsLineBefore m scan read line.len
+line_before m read after scan begun line stop more apart =
     let (spell, fit, strings) = by line.state line.last (sound_steps m read line.state begun line.steps (ended_stack line.state line.body line.last line.are line.ended)) line.ended in
     record {
       body = line.body;
@@ -116,7 +112,7 @@ line_before m read n after scan begun line stop here returned more apart =
       spell = spell;
       fit = fit;
       strings = strings;
-      counts = record { stop = stop; here = here ∙ ap (λ (k : ℕ). scan.line + k) (sym line.holds.count); after = returned };
+      stop = stop;
     }
   where
     by : (s : Scanned) (last : Piece) → IsScanSound s read → IsEndedBy s line.body last → (spelled (line.body ++ last ∷ []) ≡ read)

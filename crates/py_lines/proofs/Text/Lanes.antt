@@ -1,17 +1,16 @@
 -- Lanes that pass a test, marked by vectors of 16 bytes.
 use Rattle.std.proofs.lemmas.Str.{IsUtf8-from_ascii}
-use Rattle.std.proofs.Common.{◌≡◌, ℕ, zero, suc, ◌*◌, ◌/◌, ◌%◌, ◌^◌, ◌≤◌, ◌<◌, ◌&&◌, ◌||◌, not, List, [], ◌∷◌, Bool, true, false, cond, ◌+◌, ◌-◌, take, drop, slice_index, leb, ltb, eqb, length, map, ◌++◌, replicate, refl, sym, ap, inl, inr, ◌∙◌, subst, arith, w8, bit_and, bit_or}
-use Rattle.std.specs.List.{count_by, prefix_len}
+use Rattle.std.proofs.Common.{◌≡◌, ℕ, ◌%◌, ◌^◌, ◌≤◌, ◌<◌, ◌&&◌, ◌||◌, not, List, [], ◌∷◌, Bool, true, false, cond, ◌+◌, ◌-◌, take, drop, slice_index, leb, ltb, eqb, length, map, ◌++◌, replicate, refl, sym, ap, inl, inr, ◌∙◌, subst, arith, w8, bit_and, bit_or}
+use Rattle.std.specs.List.{prefix_len}
 use Rattle.std.specs.Simd.Lanes.{chunk, zip2, sel_l, mask_l, top}
-use Rattle.std.specs.Int.Count.{count_trailing_zeros, ones}
-use Rattle.std.proofs.lemmas.Simd.{length-chunk, map-map, tops_compared, zip2_splat, zip2_splat_left, zip2_of_maps, leading_from_mask_l, trailing_mask_l, run_in_chunk_le, run_in_chunk_fails, run_in_chunk_stops, bitmask_splat, mask_l-mod, ones-mask_l}
-use Rattle.std.proofs.lemmas.Nat.{and_mask, mod-pow-add}
+use Rattle.std.specs.Int.Count.{count_trailing_zeros}
+use Rattle.std.proofs.lemmas.Simd.{length-chunk, map-map, tops_compared, zip2_splat, zip2_splat_left, zip2_of_maps, leading_from_mask_l, trailing_mask_l, run_in_chunk_le, run_in_chunk_fails, run_in_chunk_stops, bitmask_splat, mask_l-mod}
 use Rattle.std.proofs.lemmas.Str.Ascii.{IsAscii-from_all}
 use Rattle.std.proofs.lemmas.List.Elements.{All-from_get_or}
 use Rattle.std.specs.Str.{IsUtf8}
-use Rattle.std.proofs.lemmas.List.{take_rest, length-map, length-drop, length-append, length-replicate, get_or-drop, get_or_append_left, get_or-append_right, get_or-replicate, take-map}
-use Rattle.std.proofs.lemmas.List.Sums.{prefix_len_passes, prefix_len_stops}
-use Rattle.std.proofs.lemmas.Bool.{both_ways, cases_lt, leb-false, not-true, not-false}
+use Rattle.std.proofs.lemmas.List.{take_rest, length-map, length-drop, get_or-drop, get_or-append_right, get_or-replicate}
+use Rattle.std.proofs.lemmas.List.Sums.{prefix_len_passes}
+use Rattle.std.proofs.lemmas.Bool.{cases_lt, leb-false, not-true, not-false}
 use Rattle.std.proofs.Math.Bool.{not-not, or-false}
 use Rattle.py_lines.specs.Character.{is_one_of}
 use Rattle.py_lines.specs.Private.Run.{CountsSet, Marks, IsRunOf}
@@ -147,51 +146,3 @@ filled_past bytes n k pad past less =
     get_or-append_right bytes (drop (length bytes) (replicate n pad)) (length bytes) k 0 refl past
     ∙ get_or-drop (length bytes) (replicate n pad) (k - length bytes) 0
     ∙ get_or-replicate n (length bytes + (k - length bytes)) pad 0 (omega (arith, less, past))
-
--- the run that fewer than sixteen bytes begin with, where lanes hold them and then a byte that ends the run
-pub filled_run : (p : ℕ → Bool) (bytes block mask : List ℕ) (pad r : ℕ) → block ≡ bytes → length bytes < 16 → p pad ≡ false
-    → CountsSet mask r → Marks p (block ++ drop (length bytes) (replicate 16 pad)) mask → IsRunOf p bytes r
-filled_run p bytes block mask pad r same few stops counts marks =
-    record {
-      within = within;
-      each = λ k less. subst (λ x. p x ≡ true) (get_or_append_left bytes rest 0 k (omega (arith, less, within))) (passes k less);
-      ends = λ less. subst (λ x. p x ≡ false) (ap (λ j. slice_index whole j) (sym counted) ∙ get_or_append_left bytes rest 0 r less) (prefix_len_stops p whole 0 (omega (arith, counted, less, few, long)));
-    }
-  where
-    rest : List ℕ
-    rest = drop (length bytes) (replicate 16 pad)
-
-    whole : List ℕ
-    whole = bytes ++ rest
-
-    long : length whole ≡ 16
-    long = omega (arith, length-append bytes rest, length-drop (length bytes) (replicate 16 pad), length-replicate 16 pad, few)
-
-    counted : r ≡ prefix_len p whole
-    counted = counts p whole long (subst (λ (l : List ℕ). Marks p (l ++ rest) mask) same marks)
-
-    passes : (k : ℕ) → k < r → p (slice_index whole k) ≡ true
-    passes k less = prefix_len_passes p whole k 0 (omega (arith, counted, less))
-
-    within : r ≤ length bytes
-    within = elim (cases_lt (length bytes) r) [
-      | inl past ↦ absurd (both_ways _ (ap p (filled_past bytes 16 (length bytes) pad (omega arith) few) ∙ stops) (passes (length bytes) past))
-      | inr le ↦ le
-    ]
-
--- the bits of the first lanes alone
-bits_more : (b : Bool) (n k : ℕ) → (cond b 1 0 + 2 * n) % 2 ^ (k + 1) ≡ cond b 1 0 + 2 * (n % 2 ^ k)
-bits_more b n k =
-    let low : (cond b 1 0 + 2 * n) % 2 ≡ cond b 1 0 = grind arith in
-    let high : (cond b 1 0 + 2 * n) / 2 ≡ n = grind arith in
-    mod-pow-add (cond b 1 0 + 2 * n) k 1 ∙ ap (λ (h : ℕ). h % 2 ^ k * 2 + (cond b 1 0 + 2 * n) % 2) high ∙ ap (λ (l : ℕ). n % 2 ^ k * 2 + l) low ∙ omega arith
-
-mask_l-take : (ms : List Bool) (k : ℕ) → mask_l ms % 2 ^ k ≡ mask_l (take k ms)
-mask_l-take ms zero = omega arith
-mask_l-take [] (suc k) = mask_l-mod [] (suc k) (omega arith)
-mask_l-take (m ∷ ms) (suc k) =
-    let more : suc k ≡ k + 1 = omega arith in
-    ap (λ (j : ℕ). mask_l (m ∷ ms) % 2 ^ j) more ∙ bits_more m (mask_l ms) k ∙ ap (λ (n : ℕ). cond m 1 0 + 2 * n) (mask_l-take ms k)
-
-pub ones_first : (p : ℕ → Bool) (vs : List ℕ) (k : ℕ) → ones (bit_and (mask_l (map p vs)) (2 ^ k - 1)) ≡ count_by p (take k vs)
-ones_first p vs k = ap ones (and_mask (mask_l (map p vs)) k ∙ mask_l-take (map p vs) k ∙ ap mask_l (take-map p k vs)) ∙ ones-mask_l p (take k vs)

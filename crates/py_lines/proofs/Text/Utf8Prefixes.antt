@@ -1,10 +1,9 @@
 -- Characters that a text begins with.
-use Rattle.std.specs.Bool.{MatchBool}
-use Rattle.std.proofs.Common.{◌≡◌, ℕ, ◌+◌, ◌-◌, ◌<◌, ◌≤◌, length, take, drop, arith, length-append, true, List, [], ◌∷◌, ◌++◌, refl, sym, ap, ◌∙◌, subst, append_assoc, append-nil, Bool, false}
+use Rattle.std.proofs.Common.{◌≡◌, ℕ, ◌+◌, ◌-◌, ◌<◌, ◌≤◌, length, take, drop, arith, length-append, true, List, [], ◌∷◌, ◌++◌, refl, sym, ap, ◌∙◌, subst, append_assoc, append-nil}
 use Rattle.std.specs.Prelude.{encode_utf8_all, encode_utf8}
-use Rattle.std.specs.Str.{all_scalars, IsAscii, IsNotAscii, StartsWithNoChar, IsValidUpTo, IsUtf8}
+use Rattle.std.specs.Str.{all_scalars, StartsWithNoChar, IsValidUpTo, IsUtf8}
 use Rattle.std.specs.Char.{IsScalar}
-use Rattle.std.proofs.lemmas.Str.{cons_from_encodes, encode_same, length-encode, len_utf8_bounds, IsUtf8-append, IsUtf8-encode, encodes-append, IsUtf8-from_ascii}
+use Rattle.std.proofs.lemmas.Str.{cons_from_encodes, encode_same, length-encode, len_utf8_bounds, IsUtf8-append, IsUtf8-encode, encodes-append}
 use Rattle.std.proofs.lemmas.List.{drop_all, drop-drop, length-drop, take-append-drop, take_rest}
 use Rattle.std.proofs.Math.Seq.{take-add, take-append_seam}
 use Rattle.std.proofs.lemmas.Bool.{and_parts, and_from}
@@ -41,11 +40,6 @@ nothing_bad c rest scalar is = let e = ap length is in omega (arith, length-appe
 
 pub whole_text : (text bytes : List ℕ) → text ≡ bytes → StartsWithNoChar (drop (length text) bytes)
 whole_text text bytes is = subst StartsWithNoChar (sym (drop_all (length text) bytes (omega (arith, ap length is)))) nothing_bad
-
--- ASCII is text
-pub ascii_text : (bytes : List ℕ) (b : Bool) → MatchBool b (IsAscii bytes) (IsNotAscii bytes) → b ≡ true → IsUtf8 bytes
-ascii_text bytes true ascii is = IsUtf8-from_ascii bytes ascii
-ascii_text bytes false other is = absurd (cc)
 
 -- no prefix of more bytes than these is UTF-8
 abbrev pub NoneLonger : List ℕ → ℕ → Type 0

@@ -1,5 +1,5 @@
 -- What the scanner inside a `Scanner` holds: the text since the line that was released last, and how far it was scanned.
-use Rattle.std.specs.Prelude.{◌≡◌, ℕ, ◌+◌, ◌<◌, ◌≤◌, ◌^◌, ◌⊎◌, Bool, true, false, Option, None, Some, Result, Ok, Err, List, [], ◌++◌, length, take, drop, encode_utf8_all, is_some, if◌then◌else◌, IsUtf8}
+use Rattle.std.specs.Prelude.{◌≡◌, ℕ, ◌+◌, ◌<◌, ◌≤◌, ◌^◌, ◌⊎◌, Bool, true, false, Option, None, Some, Result, Ok, Err, List, [], ◌++◌, length, take, drop, encode_utf8_all, is_some, IsUtf8}
 use Rattle.std.specs.Str.{all_scalars}
 use Rattle.std.specs.declared.alloc.AllocError.{AllocError}
 use Rattle.py_lines.specs.Piece.{Piece, spelled}
@@ -9,7 +9,7 @@ use Rattle.py_lines.specs.Settled.{IsHopeless, Decides}
 pub use Rattle.py_lines.specs.Given.{AreFirstLines}
 use Rattle.py_lines.specs.ScannerState.{ScannerState, EndsExactly, Feeds, GoesOnWith, HoldsLast, TakesBytes, WhereWhole, ready_lines}
 pub use Rattle.py_lines.specs.ScannerState.View.{line_of_feed, ready_of, scanning_of}
-use Rattle.py_lines.specs.Private.Scan.{ScansIn, is_returned}
+use Rattle.py_lines.specs.Private.LineScan.{ScansIn, is_returned}
 use Rattle.py_lines.specs.Private.Run.{Reached}
 use Rattle.py_lines.specs.Private.LineState.{BeginsAnew, KeepsFault, first_mode}
 use Rattle.py_lines.specs.Private.LineTokens.{AreLineText}
@@ -49,7 +49,7 @@ HasRoom f more = HasRoomAt f.state.place f.state.line f.held.items more
 
 -- what is held begins with characters of a line that is open, and then come these bytes
 abbrev pub IsOpen : Feed → List ℕ → Type 0
-IsOpen f rest = Reached (first_mode f.state.place) f.state.line f.held.items f.state.scan rest
+IsOpen f rest = Reached (first_mode f.state.place) f.held.items f.state.scan rest
 
 -- a line is open in what is held
 abbrev pub IsHeldOpen : Feed → Type 0
@@ -57,7 +57,7 @@ IsHeldOpen f = (rest : List ℕ) × IsOpen f rest
 
 -- where the scan of what is held has stopped
 abbrev pub StopsHeld : Feed → Stop → Type 0
-StopsHeld f stop = ScansIn (first_mode f.state.place) f.state.line f.held.items f.state.scan stop
+StopsHeld f stop = ScansIn (first_mode f.state.place) f.held.items f.state.scan stop
 
 -- all that is held was scanned, except a part of a character, or up to a line's end
 abbrev pub IsScanned : Feed → Option ℕ → Type 0
@@ -117,13 +117,8 @@ ScansHeld old result new = ScansTo old old.held.items result new
 abbrev pub IsUnchanged : Feed → Feed → Type 0
 IsUnchanged old new = Holds old old.held.items old.state.fault new × (new.ready ≡ None) × IsHeldOpen new
 
--- where what is held of a line that is ready ends, with the byte after CR
-abbrev pub whole_end : Scan → ℕ
-whole_end scan = scan.stop + (if scan.count.after_return then 1 else 0)
-
--- These bytes begin with characters of a logical line: the one of these pieces, which begins on this line. The scan stopped after
--- them, and has counted so far.
-pub record BeginWithLine (line : ℕ) (items : List ℕ) (stopped first reached end_len : ℕ) : Type 0 where
+-- These bytes begin with characters of a logical line: the one of these pieces. The scan stopped after them.
+pub record BeginWithLine (items : List ℕ) (stopped end_len : ℕ) : Type 0 where
   pub read : List ℕ
   pub rest : List ℕ
   pub pieces : List Piece
@@ -131,23 +126,27 @@ pub record BeginWithLine (line : ℕ) (items : List ℕ) (stopped first reached 
   pub spell : encode_utf8_all read ++ rest ≡ items
   pub spells : spelled pieces ≡ read
   pub text : AreLineText (take stopped items) pieces
-  pub number : first ≡ line
   pub ends : end_len ≡ end_len_of pieces
   pub stop : stopped ≡ byte_len read
-  pub here : reached ≡ line + line_ends read
   pub some : 0 < byte_len read
 
 -- what is held does
 abbrev pub HoldsLine : Feed → ℕ → Type 0
-HoldsLine f end_len = BeginWithLine f.state.line f.held.items f.state.scan.stop f.state.scan.line f.state.scan.count.line end_len
+HoldsLine f end_len = BeginWithLine f.held.items f.state.scan.stop end_len
 
 -- that logical line
 abbrev pub line_held : (f : Feed) (end_len : ℕ) → HoldsLine f end_len → LogicalLine
 line_held f end_len h = line_of f.state.place f.state.line h.pieces
 
+-- the line after it is this one
+abbrev pub IsLineAfterHeld : Feed → ℕ → Type 0
+IsLineAfterHeld f line =
+    (read : List ℕ) → encode_utf8_all read ≡ take f.state.scan.stop f.held.items → line ≡ f.state.line + line_ends read
+
 -- such a line is ready, with its tokens
 pub record IsReady (f : Feed) (end_len : ℕ) : Type 0 where
   pub holds : HoldsLine f end_len
+  pub after : IsLineAfterHeld f f.next_line
   pub line_is : line_of_feed f end_len ≡ line_held f end_len holds
 
 -- a line is ready, or else one is open in what is held, unless the text has a fault
@@ -192,7 +191,7 @@ abbrev pub EndsWithLine : List ℕ → Feed → Option ℕ → Type 0
 EndsWithLine before f None = IsScanned f None
 EndsWithLine before f (Some end_len) =
     (s : StopsHeld f (Stop.LineEnd end_len))
-    × (EndsExactly s.read s.rest ⊎ ScansIn (first_mode f.state.place) f.state.line before f.state.scan (Stop.LineEnd end_len))
+    × (EndsExactly s.read s.rest ⊎ ScansIn (first_mode f.state.place) before f.state.scan (Stop.LineEnd end_len))
 
 -- so many bytes stay held, or all: more than these, if more are held
 pub record GivesBack (old : Feed) (before : ℕ) (new : Feed) : Type 0 where
@@ -241,7 +240,7 @@ EndsText old (Err LexError.Memory) new = ⊥
 -- the line that was ready is let go: what is held begins after it, and so does the scan of the next line
 pub record LetsGo (old new : Feed) : Type 0 where
   pub place : new.state.place ≡ old.state.place + old.state.scan.stop
-  pub line : new.state.line ≡ old.state.scan.count.line
+  pub line : (read : List ℕ) → encode_utf8_all read ≡ take old.state.scan.stop old.held.items → new.state.line ≡ old.state.line + line_ends read
   pub held : new.held.items ≡ drop old.state.scan.stop old.held.items
   pub ready : new.ready ≡ None
   pub ended : new.ended ≡ old.ended

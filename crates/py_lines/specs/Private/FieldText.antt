@@ -9,7 +9,7 @@ use Rattle.py_lines.specs.declared.mode.Mode.{Mode}
 use Rattle.py_lines.specs.declared.mode.Mode.TheVariants as modes
 use Rattle.py_lines.specs.Private.Machine.{IsFull}
 use Rattle.py_lines.specs.Private.FieldMachine.{between, after_brace, plain, body, Level, FieldScanned, field_state, levels_open}
-use Rattle.py_lines.specs.Private.FieldScan.{GoesThrough}
+use Rattle.py_lines.specs.Private.Scan.{GoesThrough}
 
 -- Where the machine stands in a string: `outer` are the fields round the string, and `l` says what stands before it in its list,
 -- and which string it is. It is between two parts of the literal part.

@@ -2,8 +2,8 @@
 -- scan knows of that line, and the text's fault.
 use Rattle.std.specs.Prelude.{◌≡◌, ℕ, zero, suc, ◌+◌, ◌<◌, ◌⊎◌, Option, None, Some, List, encode_utf8_all}
 use Rattle.py_lines.specs.LogicalLine.{LogicalLine, line_ends}
-use Rattle.py_lines.specs.Private.FieldScan.{EndsField}
-use Rattle.py_lines.specs.Private.Scan.{HasBegun}
+use Rattle.py_lines.specs.Private.Scan.{EndsField}
+use Rattle.py_lines.specs.Private.LineScan.{HasBegun}
 use Rattle.py_lines.specs.declared.fault.Fault.{Fault}
 use Rattle.py_lines.specs.declared.fault.FaultKind.{FaultKind}
 use Rattle.py_lines.specs.declared.fault.FaultKind.TheVariants.{BadUtf8}
@@ -26,20 +26,20 @@ passed s len line = record s { place = s.place + len; line = line }
 
 -- the scan after it was lent: where it stopped in its line is as it was
 abbrev pub lent : Scan → Scan → Scan
-lent old new = record old { inside = new.inside }
+lent old new = record new { stop = old.stop }
 
 -- with the tokens of another state, for which the scan was lent
 abbrev pub with_tokens : LineState → LineState → LineState
 with_tokens old new = record old { tokens = new.tokens; scan = lent old.scan new.scan }
 
--- the logical line whose tokens were read: this text at this byte, with so many bytes of line end
-abbrev pub read_line : LineState → List ℕ → ℕ → ℕ → LogicalLine
-read_line s text offset end_len = record {
+-- the logical line whose tokens were read: this text at this byte and on this line, with so many bytes of line end
+abbrev pub read_line : LineState → List ℕ → ℕ → ℕ → ℕ → LogicalLine
+read_line s text offset line end_len = record {
   kind = s.tokens.kind;
   text = text;
   tokens = s.tokens.tokens.items;
   offset = offset;
-  line = s.scan.line;
+  line = line;
   indent = s.tokens.indent;
   end_len = end_len;
 }
@@ -48,7 +48,6 @@ read_line s text offset end_len = record {
 pub record BeginsAnew (old new : LineState) : Type 0 where
   pub same : new ≡ record old { scan = new.scan; tokens = new.tokens }
   pub begun : HasBegun (first_mode old.place) new.scan
-  pub number : new.scan.line ≡ old.line
 
 -- the next line begins at this byte, on this line, and nothing of it is read
 pub record BeginsAt (place line : ℕ) (s : LineState) : Type 0 where
@@ -56,7 +55,6 @@ pub record BeginsAt (place line : ℕ) (s : LineState) : Type 0 where
   pub line_is : s.line ≡ line
   pub no_fault : s.fault ≡ None
   pub begun : HasBegun (first_mode place) s.scan
-  pub number : s.scan.line ≡ line
 
 -- a fault so many bytes after the lines that were read: it stands after these bytes
 pub record IsFaultAfter (old : LineState) (kind : FaultKind) (offset : ℕ) (bytes : List ℕ) (fault : Fault) : Type 0 where
@@ -75,6 +73,6 @@ pub record KeepsFault (old : LineState) (kind : FaultKind) (offset : ℕ) (bytes
 -- what is wrong where the text ends so many bytes after the characters that were scanned: they begin no character, or else
 -- something is open
 abbrev pub IsEndLineFault : Scan → ℕ → Option LineFault → Type 0
-IsEndLineFault scan rest None = (rest ≡ 0) × EndsField scan.inside scan.stop None
+IsEndLineFault scan rest None = (rest ≡ 0) × EndsField scan None
 IsEndLineFault scan rest (Some line_fault) =
-    ((0 < rest) × (line_fault.kind ≡ BadUtf8) × (line_fault.place ≡ scan.stop)) ⊎ ((rest ≡ 0) × EndsField scan.inside scan.stop (Some line_fault))
+    ((0 < rest) × (line_fault.kind ≡ BadUtf8) × (line_fault.place ≡ scan.stop)) ⊎ ((rest ≡ 0) × EndsField scan (Some line_fault))

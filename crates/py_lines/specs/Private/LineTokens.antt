@@ -1,5 +1,5 @@
 -- The tokens of a whole logical line, which are read from its text alone.
-use Rattle.std.specs.Prelude.{◌≡◌, ℕ, ◌+◌, ◌≤◌, ◌&&◌, Bool, true, false, List, [], ◌∷◌, ◌++◌, if◌then◌else◌, encode_utf8_all, take, drop, nat_eq}
+use Rattle.std.specs.Prelude.{◌≡◌, ℕ, ◌+◌, ◌&&◌, Bool, true, false, List, [], ◌∷◌, ◌++◌, if◌then◌else◌, encode_utf8_all, take, drop, nat_eq}
 use Rattle.std.specs.List.{starts_with}
 use Rattle.std.specs.Str.{all_scalars}
 use Rattle.py_lines.specs.Character.{is_digit, is_line_feed, is_quote, is_return}
@@ -73,10 +73,6 @@ abbrev pub is_prefix_word : List ℕ → Bool
 is_prefix_word [] = true
 is_prefix_word text = begins_string (word_spelling text)
 
--- a string of so many bytes, with so many line ends
-abbrev pub string_piece : ℕ → ℕ → LinePiece
-string_piece len n = record { role = roles.Token kind.Str; len = len; line_ends = n }
-
 -- a token of so many bytes, without a line end
 abbrev pub token_piece : TokKind → ℕ → LinePiece
 token_piece kind len = record { role = roles.Token kind; len = len; line_ends = 0 }
@@ -88,6 +84,10 @@ IsFirstPiece bytes piece = (p : Piece) → BeginWithPiece bytes p → IsTakenFor
 -- so if it is a string
 abbrev pub IsFirstString : List ℕ → LinePiece → Type 0
 IsFirstString bytes piece = (p : Piece) → p.class ≡ string → BeginWithPiece bytes p → IsTakenFor p piece
+
+-- it has so many bytes, if it is a string
+abbrev pub IsStringLen : List ℕ → ℕ → Type 0
+IsStringLen bytes len = (p : Piece) → p.class ≡ string → BeginWithPiece bytes p → len ≡ byte_len p.text
 
 -- the bytes begin with a string
 abbrev pub BeginWithString : List ℕ → Type 0
@@ -102,6 +102,10 @@ pub record AreTokensOf (pieces : List Piece) (line : ℕ) (t : LineTokens) : Typ
 -- so for all pieces of a line of this text
 abbrev pub HoldsTokens : List ℕ → ℕ → LineTokens → Type 0
 HoldsTokens text line t = (pieces : List Piece) → AreLineText text pieces → AreTokensOf pieces line t
+
+-- the line after a line of this text
+abbrev pub IsLineAfter : ℕ → List ℕ → ℕ → Type 0
+IsLineAfter line text after = (pieces : List Piece) → AreLineText text pieces → after ≡ line + line_ends (spelled pieces)
 
 -- the bytes of the mark that the text begins with
 abbrev pub mark_len : List ℕ → ℕ
@@ -140,7 +144,7 @@ pub record HaveReadOf (text : List ℕ) (pieces left : List Piece) (first start 
   pub unmarked : begins_marked left ≡ false
   pub depth : ℕ
   pub are : AreTextAt depth (drop start text) left
-  pub number : line ≤ first + start
+  pub lines : line + line_ends (spelled left) ≡ first + line_ends (spelled pieces)
   pub kind : kind_of pieces ≡ kind_on t.kind left
   pub indent : t.indent ≡ indent_of pieces
   pub tokens : tokens_from 0 first pieces ≡ t.tokens.items ++ tokens_from start line left

@@ -1,12 +1,13 @@
 -- Simple lines that bytes begin with, which are passed over: what the machine has come to in such a line, which begins in some mode.
-use Rattle.std.specs.Prelude.{◌≡◌, ℕ, ◌+◌, ◌<◌, ◌≤◌, ◌⊎◌, ◌==◌, ◌||◌, Bool, true, false, if◌then◌else◌, Option, None, Some, List, [], ◌∷◌, ◌++◌, length, nat_lt, take, drop, slice_index, encode_utf8_all}
+use Rattle.std.specs.Prelude.{◌≡◌, ℕ, ◌+◌, ◌<◌, ◌≤◌, ◌⊎◌, ◌-◌, ◌==◌, ◌&&◌, ◌||◌, Bool, true, false, if◌then◌else◌, Option, None, Some, List, [], ◌∷◌, ◌++◌, length, nat_lt, take, drop, slice_index, encode_utf8_all}
 use Rattle.std.specs.Str.{all_scalars}
-use Rattle.py_lines.specs.Character.{is_break, is_quote, is_return}
-use Rattle.py_lines.specs.Piece.{Piece, ends, line_end, string}
+use Rattle.std.specs.List.{list_any}
+use Rattle.py_lines.specs.Character.{is_break, is_line_feed, is_quote, is_return}
 use Rattle.py_lines.specs.LogicalLine.{line_ends}
+use Rattle.py_lines.specs.Piece.{Piece, begins, ends, line_end, string}
 use Rattle.py_lines.specs.Private.Machine.{Scanned, fresh, Bracket, brackets_of, first_spelling, spelling_with}
 use Rattle.py_lines.specs.Private.ScanMachine.{IsScanSound, begins_string, is_field_spelling, meet_of, scan_steps}
-use Rattle.py_lines.specs.Private.Scan.{AreLine, EndsNoLine, EndsWhole, line_start, none_open}
+use Rattle.py_lines.specs.Private.LineScan.{AreLine, EndsNoLine, EndsWhole, line_start, none_open}
 use Rattle.py_lines.specs.Private.Run.{is_ascii_word}
 use Rattle.py_lines.specs.Private.FieldText.{is_apart_mode}
 use Rattle.py_lines.specs.declared.mode.Mode.{Mode}
@@ -14,7 +15,6 @@ use Rattle.py_lines.specs.declared.mode.Mode.TheVariants as modes
 use Rattle.py_lines.specs.declared.mode.Move.TheVariants as moves
 use Rattle.py_lines.specs.declared.mode.Spelling.{Spelling}
 use Rattle.py_lines.specs.declared.outline.PassedPiece.{PassedPiece}
-use Rattle.py_lines.specs.declared.plain_strings.Passed.{Passed}
 use Rattle.py_lines.specs.declared.prefix.Prefix.{Prefix}
 use Rattle.py_lines.specs.declared.prefix.Prefix.TheVariants as prefixes
 
@@ -22,17 +22,6 @@ use Rattle.py_lines.specs.declared.prefix.Prefix.TheVariants as prefixes
 abbrev pub line_end_of : Bool → List ℕ
 line_end_of true = 13 ∷ 10 ∷ []
 line_end_of false = 10 ∷ []
-
--- the bytes begin with a line end of so many of them
-pub record BeginsLineEnd (bytes : List ℕ) (len : ℕ) : Type 0 where
-  pub some : 0 < len
-  pub within : len ≤ length bytes
-  pub returned : Bool
-  pub spell : take len bytes ≡ line_end_of returned
-
-abbrev pub HasLineEnd : List ℕ → Option ℕ → Type 0
-HasLineEnd bytes None = Unit {0}
-HasLineEnd bytes (Some len) = BeginsLineEnd bytes len
 
 -- bytes that begin with another one than LF
 abbrev pub BeginOther : List ℕ → Type 0
@@ -53,18 +42,13 @@ abbrev pub HasOuterEnd : List ℕ → Option ℕ → Type 0
 HasOuterEnd bytes None = Unit {0}
 HasOuterEnd bytes (Some len) = BeginsOuterEnd bytes len
 
--- the characters hold so many line ends
-pub record HoldsLineEnds (read : List ℕ) (n : ℕ) : Type 0 where
-  pub scalars : all_scalars read ≡ true
-  pub count : line_ends read ≡ n
-
--- the machine has gone through such characters of a line, which began soundly in this mode, and stands so, where these brackets are open
-pub record HasCome (m : Mode) (read : List ℕ) (n : ℕ) (st : List Bracket) (s : Scanned) : Type 0 where
+-- the machine has gone through these characters of a line, which began soundly in this mode, and stands so, where these brackets are open
+pub record HasCome (m : Mode) (read : List ℕ) (st : List Bracket) (s : Scanned) : Type 0 where
   pub start : IsScanSound (line_start m) []
   pub steps : scan_steps (Some (line_start m)) read ≡ Some s
   pub stacked : brackets_of s.done ≡ Some st
   pub one_line : EndsNoLine 0 s.done
-  pub holds : HoldsLineEnds read n
+  pub scalars : all_scalars read ≡ true
 
 -- the spelling of the word of ASCII that a text ends with, if it ends with one: with one more character or byte, and with more of them
 abbrev pub tail_with : Option Spelling → ℕ → Option Spelling
@@ -94,34 +78,32 @@ abbrev pub IsTail : Option Spelling → Mode → Type 0
 IsTail None m = is_apart_mode m ≡ true
 IsTail (Some s) m = m ≡ modes.Word s
 
--- the line goes on after these characters, which CR doesn't end, and the word is open that they end with
-pub record GoesOnAfter (m : Mode) (read : List ℕ) (n : ℕ) (st : List Bracket) : Type 0 where
+-- the line goes on after these characters, and the word is open that they end with
+pub record GoesOnAfter (m : Mode) (read : List ℕ) (st : List Bracket) : Type 0 where
   pub state : Scanned
-  pub come : HasCome m read n st state
+  pub come : HasCome m read st state
   pub tail : IsTail (tail_of read) state.mode
-  pub unreturned : ends is_return read ≡ false
 
--- the piece that is open after these characters ends before this byte, which isn't LF after CR; it is a line end in brackets alone
-pub record EndsBefore (c : ℕ) (m : Mode) (read : List ℕ) (n : ℕ) (st : List Bracket) : Type 0 where
+-- the piece that is open after these characters ends before this byte; it is a line end in brackets alone
+pub record EndsBefore (c : ℕ) (m : Mode) (read : List ℕ) (st : List Bracket) : Type 0 where
   pub state : Scanned
-  pub come : HasCome m read n st state
+  pub come : HasCome m read st state
   pub breaks : meet_of state.mode c ≡ moves.Breaks
-  pub parted : c ≡ 10 → ends is_return read ≡ false
   pub inside : state.mode ≡ modes.Return → none_open st ≡ false
   pub tail : is_ascii_word c || is_quote c ≡ true → tail_of read ≡ None
 
 -- so before the bytes that follow: one of both
-abbrev pub StandsBefore : List ℕ → Mode → List ℕ → ℕ → List Bracket → Type 0
-StandsBefore [] m read n st = GoesOnAfter m read n st
-StandsBefore (c ∷ rest) m read n st = GoesOnAfter m read n st ⊎ EndsBefore c m read n st
+abbrev pub StandsBefore : List ℕ → Mode → List ℕ → List Bracket → Type 0
+StandsBefore [] m read st = GoesOnAfter m read st
+StandsBefore (c ∷ rest) m read st = GoesOnAfter m read st ⊎ EndsBefore c m read st
 
 -- after these characters of a line no piece is open
-pub record IsFreeAfter (m : Mode) (read : List ℕ) (n : ℕ) (st : List Bracket) : Type 0 where
+pub record IsFreeAfter (m : Mode) (read : List ℕ) (st : List Bracket) : Type 0 where
   pub done : List Piece
-  pub come : HasCome m read n st (fresh done)
+  pub come : HasCome m read st (fresh done)
 
 -- no piece is open, where it is known that the last one has closed itself; else the line stands as above
-abbrev pub StandsClosed : Bool → List ℕ → Mode → List ℕ → ℕ → List Bracket → Type 0
+abbrev pub StandsClosed : Bool → List ℕ → Mode → List ℕ → List Bracket → Type 0
 StandsClosed true bytes = IsFreeAfter
 StandsClosed false bytes = StandsBefore bytes
 
@@ -130,56 +112,53 @@ pub record BeforePiece : Type 0 where
   pub mode : Mode
   pub done : List Piece
 
--- after these characters of a line, which CR doesn't end, such a piece is open, which begins there
-pub record IsInPieceAfter (piece_mode : Mode) (before : BeforePiece) (read : List ℕ) (n : ℕ) (st : List Bracket) : Type 0 where
+-- after these characters of a line such a piece is open, which begins there
+pub record IsInPieceAfter (piece_mode : Mode) (before : BeforePiece) (read : List ℕ) (st : List Bracket) : Type 0 where
   pub held : List ℕ
-  pub come : HasCome before.mode read n st (record { done = before.done; mode = piece_mode; held = held })
-  pub unreturned : ends is_return read ≡ false
+  pub come : HasCome before.mode read st (record { done = before.done; mode = piece_mode; held = held })
 
 -- a string that begins there was closed with the last of them
-pub record HasClosedString (before : BeforePiece) (read : List ℕ) (n : ℕ) (st : List Bracket) : Type 0 where
+pub record HasClosedString (before : BeforePiece) (read : List ℕ) (st : List Bracket) : Type 0 where
   pub text : List ℕ
-  pub come : HasCome before.mode read n st (fresh (before.done ++ record { class = string; text = text } ∷ []))
+  pub come : HasCome before.mode read st (fresh (before.done ++ record { class = string; text = text } ∷ []))
 
 -- with this quote after them a string without fields is open, which holds nothing yet
-abbrev pub StringBegins : ℕ → BeforePiece → List ℕ → ℕ → List Bracket → Type 0
+abbrev pub StringBegins : ℕ → BeforePiece → List ℕ → List Bracket → Type 0
 StringBegins q before read = IsInPieceAfter (modes.Opened q) before (read ++ q ∷ [])
 
 -- it was closed, where it holds something; else it stands before the bytes that follow
-abbrev pub StringEnds : Bool → List ℕ → BeforePiece → List ℕ → ℕ → List Bracket → Type 0
+abbrev pub StringEnds : Bool → List ℕ → BeforePiece → List ℕ → List Bracket → Type 0
 StringEnds true bytes = HasClosedString
 StringEnds false bytes = λ before. StandsBefore bytes before.mode
 
--- wherever a line stands so, it comes to stand so after so many of the bytes, which spell characters with so many line ends; what
--- stands before them stays the same: the mode that the line began in, or what is before a piece
-pub record PassesPart {Before : Type 0} (bytes : List ℕ) (len feeds : ℕ)
-    (stands comes : Before → List ℕ → ℕ → List Bracket → Type 0) : Type 0 where
+-- wherever a line stands so, it comes to stand so after so many of the bytes; what stands before them stays the same: the mode that the
+-- line began in, or what is before a piece
+pub record PassesPart {Before : Type 0} (bytes : List ℕ) (len : ℕ)
+    (stands comes : Before → List ℕ → List Bracket → Type 0) : Type 0 where
   pub within : len ≤ length bytes
   pub run : List ℕ
   pub spell : encode_utf8_all run ≡ take len bytes
-  pub leads : (b : Before) (read : List ℕ) (n : ℕ) (st : List Bracket) → stands b read n st → comes b (read ++ run) (n + feeds) st
+  pub leads : (b : Before) (read : List ℕ) (st : List Bracket) → stands b read st → comes b (read ++ run) st
 
 -- a part that isn't empty
-pub record Passes {Before : Type 0} (bytes : List ℕ) (p : Passed) (stands comes : Before → List ℕ → ℕ → List Bracket → Type 0) : Type 0 where
-  pub some : 0 < p.len
-  pub few : p.line_ends ≤ p.len
-  pub part : PassesPart bytes p.len p.line_ends stands comes
+pub record Passes {Before : Type 0} (bytes : List ℕ) (len : ℕ) (stands comes : Before → List ℕ → List Bracket → Type 0) : Type 0 where
+  pub some : 0 < len
+  pub part : PassesPart bytes len stands comes
 
 -- the part that was passed leads there, if one was passed
-abbrev pub PassesOrNot : {Before : Type 0} → List ℕ → Option Passed → (stands comes : Before → List ℕ → ℕ → List Bracket → Type 0)
-    → Type 0
+abbrev pub PassesOrNot : {Before : Type 0} → List ℕ → Option ℕ → (stands comes : Before → List ℕ → List Bracket → Type 0) → Type 0
 PassesOrNot {Before} bytes None stands comes = Unit {0}
-PassesOrNot {Before} bytes (Some p) stands comes = Passes bytes p stands comes
+PassesOrNot {Before} bytes (Some len) stands comes = Passes bytes len stands comes
 
 -- what is open in a short string of this quote after so many bytes of it
 abbrev pub short_mode : ℕ → ℕ → Mode
 short_mode q len = if len == 1 then modes.Opened q else modes.Inside q
 
-abbrev pub IsInShort : ℕ → ℕ → BeforePiece → List ℕ → ℕ → List Bracket → Type 0
+abbrev pub IsInShort : ℕ → ℕ → BeforePiece → List ℕ → List Bracket → Type 0
 IsInShort q len = IsInPieceAfter (short_mode q len)
 
 -- a string of three such quotes is open, which ends with none of these bytes
-abbrev pub IsInLong : ℕ → BeforePiece → List ℕ → ℕ → List Bracket → Type 0
+abbrev pub IsInLong : ℕ → BeforePiece → List ℕ → List Bracket → Type 0
 IsInLong q = IsInPieceAfter (modes.Long q)
 
 -- the bytes begin with three such quotes
@@ -187,56 +166,58 @@ pub record BeginsLong (q : ℕ) (bytes : List ℕ) : Type 0 where
   pub within : 3 ≤ length bytes
   pub spell : take 3 bytes ≡ q ∷ q ∷ q ∷ []
 
--- a backslash escapes this text: a line end, or one other character of ASCII
-abbrev pub IsEscaped : List ℕ → ℕ → Type 0
-IsEscaped text feeds =
-    ((returned : Bool) × (text ≡ line_end_of returned) × (feeds ≡ 1))
-    ⊎ ((c : ℕ) × (text ≡ c ∷ []) × (c < 128) × (is_break c ≡ false) × (feeds ≡ 0))
-
--- the bytes begin with a backslash and what it escapes
-pub record BeginsEscape (bytes : List ℕ) (p : Passed) : Type 0 where
-  pub some : 0 < p.len
-  pub within : p.len ≤ length bytes
-  pub few : p.line_ends ≤ 1
-  pub text : List ℕ
-  pub spell : take p.len bytes ≡ 92 ∷ text
-  pub escaped : IsEscaped text p.line_ends
-
-abbrev pub HasEscape : List ℕ → Option Passed → Type 0
-HasEscape bytes None = Unit {0}
-HasEscape bytes (Some p) = BeginsEscape bytes p
+-- the bytes begin with a backslash and another byte of ASCII
+pub record BeginsEscape (bytes : List ℕ) : Type 0 where
+  pub c : ℕ
+  pub rest : List ℕ
+  pub spell : bytes ≡ 92 ∷ c ∷ rest
+  pub ascii : c < 128
 
 -- the piece at a byte of a line, which stands there so; it is known how the bytes up to it end, and that few brackets are open
-abbrev pub StandsAt : List ℕ → ℕ → Mode → List ℕ → ℕ → List Bracket → Type 0
-StandsAt bytes at m read n st =
-    (tail_of read ≡ tail_of (take at bytes)) × (length st ≤ 100) × StandsBefore (drop at bytes) m read n st
+abbrev pub StandsAt : List ℕ → ℕ → Mode → List ℕ → List Bracket → Type 0
+StandsAt bytes at m read st =
+    (tail_of read ≡ tail_of (take at bytes)) × (length st ≤ 100) × StandsBefore (drop at bytes) m read st
+
+-- so many line ends stand in as many bytes from this one on, which don't end between CR and LF
+pub record HoldsEnds (bytes : List ℕ) (at len n : ℕ) : Type 0 where
+  pub count : line_ends (take len (drop at bytes)) ≡ n
+  pub apart : ends is_return (take len (drop at bytes)) && begins is_line_feed (drop (at + len) bytes) ≡ false
 
 -- it was passed, and may be known to have closed itself
-abbrev pub PassesAt : List ℕ → ℕ → Passed → Bool → Type 0
-PassesAt bytes at p closes =
-    (at + p.len ≤ length bytes) × Passes (drop at bytes) p (StandsAt bytes at) (StandsClosed closes (drop p.len (drop at bytes)))
+abbrev pub PassesAt : List ℕ → ℕ → ℕ → Bool → Type 0
+PassesAt bytes at len closes =
+    (at + len ≤ length bytes) × Passes (drop at bytes) len (StandsAt bytes at) (StandsClosed closes (drop len (drop at bytes)))
 
 abbrev pub PassesPiece : List ℕ → ℕ → Option PassedPiece → Type 0
 PassesPiece bytes at None = Unit {0}
-PassesPiece bytes at (Some p) = PassesAt bytes at p.passed p.closes
-
--- so a string, which closes itself unless it is empty
-abbrev pub PassesStringAt : List ℕ → ℕ → Option Passed → Type 0
-PassesStringAt bytes at None = Unit {0}
-PassesStringAt bytes at (Some p) = PassesAt bytes at p (nat_lt 2 p.len)
+PassesPiece bytes at (Some p) = PassesAt bytes at p.len p.closes × HoldsEnds bytes at p.len p.line_ends
 
 -- so the comment or the join that the bytes begin with
-abbrev pub PassesFirst : List ℕ → Passed → Bool → Type 0
-PassesFirst bytes p closes = Passes bytes p (StandsBefore bytes) (StandsClosed closes (drop p.len bytes))
+abbrev pub PassesFirst : List ℕ → ℕ → Bool → Type 0
+PassesFirst bytes len closes = Passes bytes len (StandsBefore bytes) (StandsClosed closes (drop len bytes))
 
 -- so a string, from where it begins so
-abbrev pub PassesString : (BeforePiece → List ℕ → ℕ → List Bracket → Type 0) → List ℕ → Passed → Type 0
-PassesString begins bytes p = Passes bytes p begins (StringEnds (nat_lt 2 p.len) (drop p.len bytes))
+abbrev pub PassesString : (BeforePiece → List ℕ → List Bracket → Type 0) → List ℕ → ℕ → Type 0
+PassesString begins bytes len = Passes bytes len begins (StringEnds (nat_lt 2 len) (drop len bytes))
 
 -- from its first quote on
-abbrev pub HasString : List ℕ → Option Passed → Type 0
+abbrev pub HasString : List ℕ → Option ℕ → Type 0
 HasString bytes None = Unit {0}
-HasString bytes (Some p) = PassesString (StringBegins (slice_index bytes 0)) bytes p
+HasString bytes (Some len) = PassesString (StringBegins (slice_index bytes 0)) bytes len
+
+-- the quote that it begins with stands last in it, if it was passed
+abbrev pub EndsWithQuote : List ℕ → Option ℕ → Type 0
+EndsWithQuote bytes None = Unit {0}
+EndsWithQuote bytes (Some len) = (0 < len) × (slice_index bytes (len - 1) ≡ slice_index bytes 0)
+
+-- it holds no line end, if it was passed
+abbrev pub HoldsNoEnd : List ℕ → Option ℕ → Type 0
+HoldsNoEnd bytes None = Unit {0}
+HoldsNoEnd bytes (Some len) = list_any is_break (take len bytes) ≡ false
+
+-- whether the bytes begin with three bytes that are the same
+abbrev pub begins_long : List ℕ → Bool
+begins_long bytes = nat_lt 2 (length bytes) && ((slice_index bytes 1 == slice_index bytes 0) && (slice_index bytes 2 == slice_index bytes 0))
 
 -- the machine has closed these pieces, of which the last is a line end, or holds that yet, which is CR
 abbrev pub IsEndedBy : Scanned → List Piece → Piece → Type 0
@@ -245,7 +226,7 @@ IsEndedBy s body last =
     ⊎ ((s ≡ record { done = body; mode = modes.Return; held = 13 ∷ [] }) × (last ≡ record { class = line_end; text = 13 ∷ [] }))
 
 -- the characters before these bytes are a line that began in this mode, which its line end has ended
-pub record IsLine (m : Mode) (read : List ℕ) (n : ℕ) (after : List ℕ) : Type 0 where
+pub record IsLine (m : Mode) (read after : List ℕ) : Type 0 where
   pub body : List Piece
   pub last : Piece
   pub len : ℕ
@@ -254,33 +235,30 @@ pub record IsLine (m : Mode) (read : List ℕ) (n : ℕ) (after : List ℕ) : Ty
   pub steps : scan_steps (Some (line_start m)) read ≡ Some state
   pub ended : IsEndedBy state body last
   pub whole : EndsWhole read after
-  pub holds : HoldsLineEnds read n
+  pub scalars : all_scalars read ≡ true
   pub tail : tail_of read ≡ None
 
 -- so a line after the text's first
-abbrev pub IsWholeLine : List ℕ → ℕ → List ℕ → Type 0
-IsWholeLine read n after = IsLine modes.Free read n after
+abbrev pub IsWholeLine : List ℕ → List ℕ → Type 0
+IsWholeLine read after = IsLine modes.Free read after
 
 -- characters that are a line come before others that are lines, and so are these together
-pub record BeginsWithLine (rest : List ℕ → ℕ → Type 0) (line read : List ℕ) (n : ℕ) (after : List ℕ) : Type 0 where
+pub record BeginsWithLine (rest : List ℕ → Type 0) (line read after : List ℕ) : Type 0 where
   pub later : List ℕ
-  pub own : ℕ
-  pub more : ℕ
   pub some : 0 < length line
   pub spell : read ≡ line ++ later
-  pub count : n ≡ own + more
-  pub whole : IsWholeLine line own (encode_utf8_all later ++ after)
-  pub lines : rest later more
+  pub whole : IsWholeLine line (encode_utf8_all later ++ after)
+  pub lines : rest later
 
 -- the characters before these bytes are these lines, one after another
-abbrev pub AreWholeLines : List (List ℕ) → List ℕ → ℕ → List ℕ → Type 0
-AreWholeLines [] read n after = (read ≡ []) × (n ≡ 0)
-AreWholeLines (line ∷ lines) read n after = BeginsWithLine (λ later more. AreWholeLines lines later more after) line read n after
+abbrev pub AreWholeLines : List (List ℕ) → List ℕ → List ℕ → Type 0
+AreWholeLines [] read after = read ≡ []
+AreWholeLines (line ∷ lines) read after = BeginsWithLine (λ later. AreWholeLines lines later after) line read after
 
--- the bytes begin with such lines
-pub record BeginWithLines (bytes : List ℕ) (lines : Passed) : Type 0 where
-  pub within : lines.len ≤ length bytes
+-- lines of so many bytes stand at their beginning
+pub record BeginWithLines (bytes : List ℕ) (len : ℕ) : Type 0 where
+  pub within : len ≤ length bytes
   pub read : List ℕ
-  pub spell : encode_utf8_all read ≡ take lines.len bytes
+  pub spell : encode_utf8_all read ≡ take len bytes
   pub texts : List (List ℕ)
-  pub whole : AreWholeLines texts read lines.line_ends (drop lines.len bytes)
+  pub whole : AreWholeLines texts read (drop len bytes)

@@ -7,55 +7,45 @@ use Rattle.py_lines.specs.declared.mode.Mode.{Mode}
 use Rattle.py_lines.specs.declared.passing.Passing.{Passing}
 use Rattle.py_lines.specs.declared.passing.Special.{Special}
 use Rattle.py_lines.specs.declared.passing.Special.TheVariants as special
-use Rattle.py_lines.specs.declared.plain_strings.Passed.{Passed}
-use Rattle.py_lines.specs.Private.FieldScan.{frames_of}
+use Rattle.py_lines.specs.Private.Scan.{frames_of}
 use Rattle.py_lines.specs.Private.Machine.{Bracket}
 use Rattle.py_lines.specs.Private.Marks.{HasMarks}
-use Rattle.py_lines.specs.Private.Outline.{BeginsOuterEnd, StandsBefore, StandsClosed, tail_of}
+use Rattle.py_lines.specs.Private.Outline.{BeginsOuterEnd, HoldsEnds, StandsBefore, StandsClosed, tail_of}
 
 -- nothing was passed
 abbrev pub nothing_passed : Marks → Passing
-nothing_passed marks = record {
-  all = record { len = 0; line_ends = 0 };
-  closed = record { len = 0; line_ends = 0 };
-  marks = marks;
-}
+nothing_passed marks = record { all = 0; line_ends = 0; closed = 0; marks = marks }
 
--- the bytes up to this one, with so many more line ends than others
-abbrev pub up_to : Passed → ℕ → ℕ → Passed
-up_to old to n = record { len = to; line_ends = old.line_ends + n }
-
--- they were passed, and it is known whether no piece is open there
+-- the bytes up to this one were passed, with so many more line ends, and it is known whether no piece is open there
 abbrev pub passed_to : Passing → ℕ → ℕ → Bool → Passing
-passed_to old to n closes = record old { all = up_to old.all to n; closed = if closes then up_to old.all to n else old.closed }
+passed_to old to n closes = record old { all = to; line_ends = old.line_ends + n; closed = if closes then to else old.closed }
 
--- wherever the bytes stand so in a line, at this byte of it, so many of them can be passed, with so many line ends
-pub record PassesOver (bytes : List ℕ) (at place len more : ℕ) (closes : Bool) (st after : List Bracket) : Type 0 where
+-- wherever the bytes stand so in a line, at this byte of it, so many of them can be passed
+pub record PassesOver (bytes : List ℕ) (at place len : ℕ) (closes : Bool) (st after : List Bracket) : Type 0 where
   pub some : 0 < len
   pub within : at + len ≤ length bytes
-  pub few : more ≤ len
   pub run : List ℕ
   pub spell : encode_utf8_all run ≡ take len (drop at bytes)
-  pub leads : (m : Mode) (read : List ℕ) (n : ℕ) → tail_of read ≡ tail_of (take at bytes) → byte_len read ≡ place
-      → StandsBefore (drop at bytes) m read n st → StandsClosed closes (drop (at + len) bytes) m (read ++ run) (n + more) after
+  pub leads : (m : Mode) (read : List ℕ) → tail_of read ≡ tail_of (take at bytes) → byte_len read ≡ place
+      → StandsBefore (drop at bytes) m read st → StandsClosed closes (drop (at + len) bytes) m (read ++ run) after
 
 -- so where these frames are open, which are those brackets, and others after them
-abbrev pub PassesFrames : List ℕ → ℕ → ℕ → ℕ → ℕ → Bool → List Frame → List Frame → Type 0
-PassesFrames bytes at place len more closes before after =
+abbrev pub PassesFrames : List ℕ → ℕ → ℕ → ℕ → Bool → List Frame → List Frame → Type 0
+PassesFrames bytes at place len closes before after =
     (st : List Bracket) → before ≡ frames_of st
-    → (later : List Bracket) × (after ≡ frames_of later) × PassesOver bytes at place len more closes st later
+    → (later : List Bracket) × (after ≡ frames_of later) × PassesOver bytes at place len closes st later
 
 -- they were passed, after others: the open brackets change only where no piece is open after them
-pub record PassesSo (bytes : List ℕ) (at place : ℕ) (all closed : Passed) (b : List Frame) (new : Passing) (c : List Frame) : Type 0 where
+pub record PassesSo (bytes : List ℕ) (at place : ℕ) (old : Passing) (b : List Frame) (new : Passing) (c : List Frame) : Type 0 where
   pub len : ℕ
   pub more : ℕ
   pub closes : Bool
   pub some : 0 < len
   pub within : at + len ≤ length bytes
-  pub few : more ≤ len
-  pub over : PassesFrames bytes at place len more closes b c
+  pub over : PassesFrames bytes at place len closes b c
   pub kept : closes ≡ false → c ≡ b
-  pub is : new ≡ passed_to (record { all = all; closed = closed; marks = new.marks }) (at + len) more closes
+  pub holds : HoldsEnds bytes at len more
+  pub is : new ≡ passed_to (record old { marks = new.marks }) (at + len) more closes
   pub marked : HasMarks bytes (at + len) new.marks
 
 -- a line end of so many bytes stands there, of which LF is the last or not
@@ -65,18 +55,20 @@ pub record IsLineEndAt (bytes : List ℕ) (at len : ℕ) (by_feed : Bool) : Type
   pub feed : by_feed ≡ (slice_index bytes (at + len - 1) == 10)
 
 -- a line end of so many bytes was passed, which ends the line
-pub record EndsLineSo (bytes : List ℕ) (at : ℕ) (all : Passed) (b : List Frame) (len : ℕ) (new : Passing) (c : List Frame) : Type 0 where
+pub record EndsLineSo (bytes : List ℕ) (at : ℕ) (old : Passing) (b : List Frame) (len : ℕ) (new : Passing) (c : List Frame) : Type 0 where
   pub ends : BeginsOuterEnd (drop at bytes) len
   pub none : b ≡ []
   pub kept : c ≡ b
-  pub is : new.all ≡ up_to all (at + len) 1
+  pub holds : HoldsEnds bytes at len 1
+  pub is : new.all ≡ at + len
+  pub lines : new.line_ends ≡ old.line_ends + 1
   pub marked : HasMarks bytes (at + len) new.marks
 
 -- what a byte that isn't plain comes to
 abbrev pub PassesSpecial : List ℕ → ℕ → ℕ → Passing → List Frame → Special → Passing → List Frame → Type 0
 PassesSpecial bytes at place old b special.Unpassed new c = (new ≡ old) × (c ≡ b)
-PassesSpecial bytes at place old b special.Passed new c = PassesSo bytes at place old.all old.closed b new c
-PassesSpecial bytes at place old b (special.LineEnd len) new c = EndsLineSo bytes at old.all b len new c
+PassesSpecial bytes at place old b special.Passed new c = PassesSo bytes at place old b new c
+PassesSpecial bytes at place old b (special.LineEnd len) new c = EndsLineSo bytes at old b len new c
 
 -- a bracket is passed where it may stand
 abbrev pub IsMet : Bool → ℕ → Passing → Special → Passing → Type 0
@@ -85,4 +77,4 @@ IsMet false at old result new = (result ≡ special.Unpassed) × (new ≡ old)
 
 -- it, or the piece that it begins, was passed, where few brackets are open, which stay as they are
 abbrev pub PassesMarked : List ℕ → ℕ → Passing → Passing → Type 0
-PassesMarked bytes at old new = (place : ℕ) (b : List Frame) → length b ≤ 100 → PassesSo bytes at place old.all old.closed b new b
+PassesMarked bytes at old new = (place : ℕ) (b : List Frame) → length b ≤ 100 → PassesSo bytes at place old b new b

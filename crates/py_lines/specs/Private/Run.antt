@@ -2,20 +2,17 @@
 use Rattle.std.specs.Prelude.{◌&&◌, Option, None, Some, ◌≡◌, ℕ, ◌+◌, ◌-◌, ◌<◌, ◌≤◌, ◌⊎◌, Bool, true, false, ◌==◌, ◌||◌, not, nat_lt, nat_le, if◌then◌else◌, map, List, [], ◌∷◌, ◌++◌, length, take, drop, slice_index, codes, encode_utf8, encode_utf8_all}
 use Rattle.std.specs.Str.{all_scalars, byte, IsUtf8}
 use Rattle.std.specs.Char.{is_ascii_alphanumeric, len_utf8, IsScalar}
-use Rattle.std.specs.List.{count_by, list_all, prefix_len}
+use Rattle.std.specs.List.{list_all, prefix_len}
 use Rattle.py_lines.specs.Character.{is_one_of, is_brace, is_space, is_break, is_hash, is_backslash, is_quote}
 use Rattle.py_lines.specs.Private.Machine.{IsFull, first_spelling, spelling_on}
 use Rattle.py_lines.specs.Private.ScanMachine.{IsScanSound, line_start}
-use Rattle.py_lines.specs.Private.FieldScan.{HoldsField}
-use Rattle.py_lines.specs.Private.Scan.{IsUnderWay}
+use Rattle.py_lines.specs.Private.LineScan.{IsUnderWay}
 use Rattle.py_lines.specs.declared.field_mode.FieldMode.{FieldMode}
 use Rattle.py_lines.specs.declared.field_mode.FieldMode.TheVariants as field_modes
-use Rattle.py_lines.specs.declared.field_scan.FieldScan.{FieldScan}
 use Rattle.py_lines.specs.declared.mode.Spelling.{Spelling}
 use Rattle.py_lines.specs.declared.mode.Spelling.TheVariants as spellings
 use Rattle.py_lines.specs.declared.mode.Mode.{Mode}
 use Rattle.py_lines.specs.declared.mode.Mode.TheVariants as modes
-use Rattle.py_lines.specs.declared.plain_strings.Passed.{Passed}
 use Rattle.py_lines.specs.declared.run.ByteRun.{ByteRun}
 use Rattle.py_lines.specs.declared.run.ByteRun.TheVariants as runs
 use Rattle.py_lines.specs.declared.scan.Scan.{Scan}
@@ -68,18 +65,13 @@ is_text_byte quote c = is_body_byte quote c && nat_lt c 128
 abbrev pub is_literal_byte : ℕ → ℕ → Bool
 is_literal_byte quote c = is_text_byte quote c && not (is_brace c)
 
--- LF
-abbrev pub is_feed : ℕ → Bool
-is_feed c = c == byte "\n"
-
--- a byte of ASCII of the text of a string of three quotes, CR apart
+-- what stands in a string of three such quotes, and neither escapes nor may end it
 abbrev pub is_long_byte : ℕ → ℕ → Bool
-is_long_byte quote c = is_text_byte quote c || is_feed c
+is_long_byte quote c = not ((c == quote) || is_backslash c)
 
--- the first bytes are such, so many of them, and so many of these are LF
-pub record HasLongText (quote : ℕ) (bytes : List ℕ) (text : Passed) : Type 0 where
-  pub run : HasRun (is_long_byte quote) bytes text.len
-  pub count : count_by is_feed (take text.len bytes) ≡ text.line_ends
+-- the same, of ASCII
+abbrev pub is_long_text_byte : ℕ → ℕ → Bool
+is_long_text_byte quote c = is_long_byte quote c && nat_lt c 128
 
 -- a space, or one of the operators that code in fields has mostly: `!`, `=`, and those from `*` to `/`
 unfoldable pub is_code_sign : ℕ → Bool
@@ -109,18 +101,20 @@ is_in_run runs.WideWord = is_wide_word
 is_in_run runs.Space = is_space
 is_in_run (runs.Body q) = is_body_byte q
 is_in_run (runs.Text q) = is_text_byte q
+is_in_run (runs.Long q) = is_long_byte q
+is_in_run (runs.LongText q) = is_long_text_byte q
 is_in_run (runs.Literal q) = is_literal_byte q
 is_in_run runs.Code = is_code_byte
 is_in_run runs.Remark = is_remark_byte
 
--- whether a byte, or a character, leaves the open piece as it is, and ends no line
+-- whether a byte, or a character, leaves the open piece as it is
 abbrev pub stays : Mode → ℕ → Bool
 stays modes.Space c = is_space c
 stays (modes.Word spellings.Number) c = is_ascii_word c
 stays (modes.Word spellings.Name) c = is_ascii_word c
 stays modes.Comment c = is_comment_byte c
 stays (modes.Inside q) c = is_body_byte q c
-stays (modes.Long q) c = is_body_byte q c
+stays (modes.Long q) c = is_long_byte q c
 stays other c = false
 
 -- the quote of the open string, if one is open, is one byte
@@ -134,58 +128,27 @@ abbrev pub HasAsciiQuoteOpen : FieldMode → Type 0
 HasAsciiQuoteOpen (field_modes.Code m) = HasAsciiQuote m
 HasAsciiQuoteOpen other = Unit {0}
 
--- the scan with so many bytes more read, none of which ends a line
-abbrev pub with_bytes : Scan → ℕ → Scan
-with_bytes old len = record old { stop = old.stop + len; count = record { line = old.count.line; after_return = false } }
-
--- the scan with these bytes more read, of which each LF ends a line
-abbrev pub with_lines : Scan → List ℕ → Scan
-with_lines old run = record old { stop = old.stop + length run; count = record old.count { line = old.count.line + count_by is_feed run } }
-
--- so many bytes that the text begins with were read, or none: they end no line, and leave what is open as it is or as this
-pub record HoldsRun (old : Scan) (text rest : List ℕ) (new : Scan) : Type 0 where
-  pub len : ℕ
-  pub inside : FieldScan
-  pub holds : HoldsField old.inside old.stop text len inside
-  pub rest_is : rest ≡ drop len text
-  pub reads : ((len ≡ 0) × (new ≡ old)) ⊎ ((0 < len) × (new ≡ with_bytes (record old { inside = inside }) len))
-
--- bytes of an open string of three quotes were read, with which the text begins
-pub record ReadsLongText (old : Scan) (text rest : List ℕ) (new : Scan) : Type 0 where
-  pub quote : ℕ
-  pub run : List ℕ
-  pub spell : run ++ rest ≡ text
-  pub here : old.inside.mode ≡ field_modes.Code (modes.Long quote)
-  pub parted : old.count.after_return ≡ false
-  pub all : list_all (is_long_byte quote) run ≡ true
-  pub reads : new ≡ with_lines old run
-
--- they were, or nothing was
-abbrev pub HoldsLongText : Scan → List ℕ → List ℕ → Scan → Type 0
-HoldsLongText old text rest new = ((rest ≡ text) × (new ≡ old)) ⊎ ReadsLongText old text rest new
-
 -- a character that these bytes begin with
 pub record BeginsWith (bytes : List ℕ) (c : ℕ) : Type 0 where
   pub scalar : IsScalar c
   pub spell : encode_utf8 c ++ drop (len_utf8 c) bytes ≡ bytes
 
 -- the scan of a text has come to `rest`
-pub record Reached (m : Mode) (at : ℕ) (text : List ℕ) (scan : Scan) (rest : List ℕ) : Type 0 where
+pub record Reached (m : Mode) (text : List ℕ) (scan : Scan) (rest : List ℕ) : Type 0 where
   pub read : List ℕ
   pub way : IsUnderWay m scan read
   pub spell : encode_utf8_all read ++ rest ≡ text
   pub scalars : all_scalars read ≡ true
-  pub line : scan.line ≡ at
 
--- this holds of each line and each text of which the scan has come to these bytes
-abbrev pub WhereverReached : Scan → List ℕ → (Mode → ℕ → List ℕ → Type 0) → Type 0
+-- this holds of each text of which the scan has come to these bytes
+abbrev pub WhereverReached : Scan → List ℕ → (Mode → List ℕ → Type 0) → Type 0
 WhereverReached scan rest holds =
-    (m : Mode) (line : ℕ) (whole : List ℕ) → IsScanSound (line_start m) [] → Reached m line whole scan rest → holds m line whole
+    (m : Mode) (whole : List ℕ) → IsScanSound (line_start m) [] → Reached m whole scan rest → holds m whole
 
 -- it has come there in some line
 abbrev pub ReachedInSomeLine : Scan → List ℕ → Type 0
 ReachedInSomeLine scan rest =
-    (m : Mode) × (line : ℕ) × (whole : List ℕ) × IsScanSound (line_start m) [] × Reached m line whole scan rest
+    (m : Mode) × (whole : List ℕ) × IsScanSound (line_start m) [] × Reached m whole scan rest
 
 -- what a line end, a comment or a join of lines begins with
 abbrev pub is_apart : ℕ → Bool

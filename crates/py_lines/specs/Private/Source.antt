@@ -6,9 +6,9 @@ use Rattle.py_lines.specs.Token.{EachLiesIn}
 use Rattle.py_lines.specs.Reader.{Continues, Ends, Fails, ReaderRunsOut}
 pub use Rattle.py_lines.specs.Reader.View.{reader_of}
 pub use Rattle.py_lines.specs.declared.fault.LexError.{LexError}
-use Rattle.py_lines.specs.Private.Scan.{Scans}
+use Rattle.py_lines.specs.Private.LineScan.{Scans}
 use Rattle.py_lines.specs.Private.LineState.{KeepsFault, first_mode, read_line, with_tokens}
-use Rattle.py_lines.specs.Private.LineTokens.{HoldsTokens}
+use Rattle.py_lines.specs.Private.LineTokens.{HoldsTokens, IsLineAfter}
 pub use Rattle.py_lines.specs.declared.fault.FaultKind.{FaultKind}
 pub use Rattle.py_lines.specs.declared.scan.Stop.{Stop}
 pub use Rattle.py_lines.specs.declared.source.Source.{Source}
@@ -18,7 +18,7 @@ pub use Rattle.py_lines.specs.declared.mode.Mode.{Mode}
 
 -- the logical line that was read last
 abbrev pub line_of_source : Source → LogicalLine
-line_of_source s = read_line s.state (take (s.state.place - s.start) (drop s.start s.characters.now)) s.start s.end_len
+line_of_source s = read_line s.state (take (s.state.place - s.start) (drop s.start s.characters.now)) s.start s.line s.end_len
 
 -- the text up to where the scan of the next line stopped
 abbrev pub scanned_text : Source → List ℕ
@@ -29,9 +29,11 @@ pub record GivesTokens (old : Source) (end_len : ℕ) (new : Source) : Type 0 wh
   pub bytes : new.bytes ≡ old.bytes
   pub characters : new.characters ≡ old.characters
   pub start : new.start ≡ old.state.place
+  pub line : new.line ≡ old.state.line
   pub ends : new.end_len ≡ end_len
   pub state : new.state
-      ≡ record (with_tokens old.state new.state) { place = old.state.place + old.state.scan.stop; line = old.state.scan.count.line }
+      ≡ record (with_tokens old.state new.state) { place = old.state.place + old.state.scan.stop; line = new.state.line }
+  pub after : IsLineAfter old.state.line (scanned_text old) new.state.line
   pub tokens : HoldsTokens (scanned_text old) old.state.line new.state.tokens
 
 -- or there was no memory for them
@@ -48,7 +50,6 @@ pub record FailsAfter (old : Source) (kind : FaultKind) (offset : ℕ) (error : 
 pub record HasScanned (s : Source) (stop : Stop) : Type 0 where
   pub more : s.state.place < length s.bytes.now
   pub no_fault : s.state.fault ≡ None
-  pub line : s.state.scan.line ≡ s.state.line
   pub scans : Scans (first_mode s.state.place) (drop s.state.place s.characters.now) s.state.scan stop
 
 -- what a call that reads the next line answers and leaves

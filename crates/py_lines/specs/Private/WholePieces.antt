@@ -1,19 +1,17 @@
 -- Whole pieces, which the scan of a line passes over: what they leave.
-use Rattle.std.specs.Prelude.{◌≡◌, ℕ, ◌+◌, ◌-◌, ◌≤◌, ◌⊎◌, Bool, true, List, length, nat_lt, take, drop, slice_index}
+use Rattle.std.specs.Prelude.{◌≡◌, ℕ, ◌+◌, ◌-◌, ◌≤◌, ◌⊎◌, true, List, length, nat_lt, take, drop, slice_index}
 use Rattle.py_lines.specs.declared.class.Class.TheVariants as class
 use Rattle.py_lines.specs.declared.mode.Mode.{Mode}
 use Rattle.py_lines.specs.declared.marks.Marks.{Marks}
 use Rattle.py_lines.specs.declared.passing.Passing.{Passing}
-use Rattle.py_lines.specs.declared.plain_strings.Passed.{Passed}
 use Rattle.py_lines.specs.declared.scan.Scan.{Scan}
 use Rattle.py_lines.specs.declared.scan.Stop.TheVariants as stops
 use Rattle.py_lines.specs.declared.whole_pieces.Left.{Left}
 use Rattle.py_lines.specs.declared.whole_pieces.Left.TheVariants as left
-use Rattle.py_lines.specs.Private.FieldScan.{freed_at}
 use Rattle.py_lines.specs.Private.Marks.{FindsNext, is_of_class}
 use Rattle.py_lines.specs.Private.Passing.{passed_to}
 use Rattle.py_lines.specs.Private.Run.{Reached}
-use Rattle.py_lines.specs.Private.Scan.{ScansIn}
+use Rattle.py_lines.specs.Private.LineScan.{ScansIn}
 
 -- what pieces leave of these bytes is no longer than they are
 abbrev pub IsNoLonger : List ℕ → Left → Type 0
@@ -21,9 +19,9 @@ IsNoLonger bytes (left.Bytes rest) = length rest.now ≤ length bytes
 IsNoLonger bytes (left.LineEnd len) = Unit {0}
 
 -- the scan of a text has come to what pieces leave of it, or the line has ended
-abbrev pub LeavesOff : Mode → ℕ → List ℕ → Scan → Left → Type 0
-LeavesOff m line whole scan (left.Bytes rest) = Reached m line whole scan rest.now
-LeavesOff m line whole scan (left.LineEnd len) = ScansIn m line whole scan (stops.LineEnd len)
+abbrev pub LeavesOff : Mode → List ℕ → Scan → Left → Type 0
+LeavesOff m whole scan (left.Bytes rest) = Reached m whole scan rest.now
+LeavesOff m whole scan (left.LineEnd len) = ScansIn m whole scan (stops.LineEnd len)
 
 -- so many bytes go up to an operator that is no bracket, and with it; or none
 abbrev pub IsOperatorEnd : List ℕ → ℕ → Type 0
@@ -32,19 +30,11 @@ IsOperatorEnd plain len = (len ≤ length plain) × ((len ≡ 0) ⊎ (is_of_clas
 -- up to the last operator among the plain bytes that stand before this one, if there is one, they were passed, and close what was
 abbrev pub PassesOperators : List ℕ → ℕ → Passing → Passing → Type 0
 PassesOperators bytes at old new =
-    (len : ℕ) × IsOperatorEnd (take (at - old.all.len) (drop old.all.len bytes)) len
-    × (new ≡ passed_to old (old.all.len + len) 0 (nat_lt 0 len))
+    (len : ℕ) × IsOperatorEnd (take (at - old.all) (drop old.all bytes)) len
+    × (new ≡ passed_to old (old.all + len) 0 (nat_lt 0 len))
 
 -- the next byte that isn't plain stands there, or the bytes end, and operators before it were passed, or none
 abbrev pub FindsSpecial : List ℕ → Passing → ℕ → Passing → Type 0
 FindsSpecial bytes old at new =
-    (marks : Marks) × FindsNext bytes old.all.len at marks
+    (marks : Marks) × FindsNext bytes old.all at marks
     × ((new ≡ record old { marks = marks }) ⊎ PassesOperators bytes at (record old { marks = marks }) new)
-
--- the scan where no piece is open after these bytes; CR may stand last
-abbrev pub closed_after : Scan → Passed → Bool → Scan
-closed_after old passed after_return = record old {
-  inside = freed_at old.inside (old.stop + passed.len);
-  stop = old.stop + passed.len;
-  count = record { line = old.count.line + passed.line_ends; after_return = after_return };
-}

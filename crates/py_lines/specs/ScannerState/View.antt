@@ -7,7 +7,7 @@ use Rattle.py_lines.specs.declared.feed.Feed.{Feed}
 
 -- the line whose tokens were read, with so many bytes of line end
 abbrev pub line_of_feed : Feed → ℕ → LogicalLine
-line_of_feed f end_len = read_line f.state (take f.state.scan.stop f.held.items) f.state.place end_len
+line_of_feed f end_len = read_line f.state (take f.state.scan.stop f.held.items) f.state.place f.state.line end_len
 
 -- the same, where a line is ready
 abbrev pub ready_of : Feed → Option ℕ → Option LogicalLine

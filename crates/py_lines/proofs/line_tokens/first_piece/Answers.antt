@@ -1,14 +1,8 @@
 use Rattle.std.proofs.Common.{sym, subst, ⊎_elim}
 use Rattle.py_lines.specs.Private.LineTokens.{IsTakenFor}
 use Rattle.py_lines.proofs.LineTokens.FirstPieces.{comment_taken, join_taken, line_end_taken, operator_taken, space_taken}
-use Rattle.py_lines.proofs.LineTokens.FirstCharacters.{begins_class, class_is, wide_begins}
+use Rattle.py_lines.proofs.LineTokens.FirstCharacters.{class_is}
 use Rattle.py_lines.proofs.line_tokens.first_piece.Goals as goal
-
-pub word_or_string-requires-clause-word : goal.word_or_string-requires-clause-word
-word_or_string-requires-clause-word c = wide_begins c.requires.1 c.of.ensures c.in-Word.is
-
-pub string-requires-clause-quote : goal.string-requires-clause-quote
-string-requires-clause-quote c = begins_class c.requires.1 c.of.ensures c.in-Quote.is
 
 pub string-requires-clause-string : goal.string-requires-clause-string
 string-requires-clause-string c = (c.requires.0, class_is c.requires.1 c.of.ensures c.in-Quote.is, c.requires.1)
@@ -37,9 +31,6 @@ returns-in-Backslash c = λ p b. rw c.whole_line_end.ensures (join_taken b (clas
 
 pub returns-in-Space : goal.returns-in-Space
 returns-in-Space c = λ p b. space_taken b c.space_len.result (class_is b c.of.ensures c.in-Space.is) c.space_len.ensures
-
-pub space_len-requires : goal.space_len-requires
-space_len-requires c = begins_class c.requires.1 c.of.ensures c.in-Space.is
 
 pub unreachable-requires : goal.unreachable-requires
 unreachable-requires c = class_is c.requires.1 c.of.ensures c.in-Other.is

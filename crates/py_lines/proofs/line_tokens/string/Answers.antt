@@ -1,22 +1,41 @@
-use Rattle.std.proofs.Common.{sym, ◌∙◌, subst}
-use Rattle.py_lines.specs.Private.LineTokens.{IsFirstString}
-use Rattle.py_lines.proofs.LineTokens.Strings.{fields_taken, plain_taken, quote_of_rest}
+use Rattle.std.proofs.Common.{◌≤◌, length, sym, ap, ◌∙◌, subst}
+use Rattle.std.proofs.lemmas.List.{length-take-le}
+use Rattle.py_lines.specs.Private.FieldText.{HasQuotedText}
+use Rattle.py_lines.specs.Private.LineTokens.{IsStringLen, role_of}
+use Rattle.py_lines.specs.Private.Outline.{HasString}
+use Rattle.py_lines.proofs.FieldScans.TextLengths.{rest_of}
+use Rattle.py_lines.proofs.LineTokens.Strings.{fields_taken, plain_taken, string_text, string_within}
 use Rattle.py_lines.proofs.line_tokens.string.Goals as goal
+use Rattle.py_lines.proofs.line_tokens.string.Goals.{Joined-simple, then-has_fields, else-has_fields, in-Some, in_default}
 
-pub quoted_text_len-requires-clause-quote : goal.quoted_text_len-requires-clause-quote
-quoted_text_len-requires-clause-quote c = quote_of_rest c.args.bytes.now c.args.prefix c.requires.quote
+is_len : (c : Joined-simple) → IsStringLen c.args.bytes.now c.match-simple.len
+is_len c =
+    elim c.match-simple.branch [
+      | in-Some v ↦
+          subst (IsStringLen c.args.bytes.now) (sym v.len-is) (elim c.if-has_fields.branch [
+            | then-has_fields w ↦
+                fields_taken c.args.bytes.now c.args.prefix v.in-Some.len c.requires.quote c.requires.prefix
+                (sym c.requires.fields ∙ w.if-has_fields.true)
+                (subst (HasQuotedText (rest_of c.args.bytes.now c.args.prefix)) (sym w.simple-is ∙ v.in-Some.is) w.quoted_text_len-simple.ensures)
+            | else-has_fields w ↦
+                plain_taken c.args.bytes.now c.args.prefix v.in-Some.len c.requires.quote c.requires.prefix
+                (sym c.requires.fields ∙ w.if-has_fields.false) v.if-len-gt2.true
+                (subst (HasString (rest_of c.args.bytes.now c.args.prefix)) (sym w.simple-is ∙ v.in-Some.is) w.plain_string-simple.ensures.string)
+          ])
+      | in_default v ↦ λ p is b. v.len-is ∙ v.take_first.ensures p is b
+    ]
 
-pub plain_string-requires-clause-quote : goal.plain_string-requires-clause-quote
-plain_string-requires-clause-quote c = quote_of_rest c.args.bytes.now c.args.prefix c.requires.quote
+pub slice_bounds-line_ends-end : goal.slice_bounds-line_ends-end
+slice_bounds-line_ends-end c =
+    let (p, is, b) = c.requires.string in
+    let within : c.match-simple.len ≤ length c.args.bytes.now = rw (is_len c p is b) (string_within c.args.bytes.now p b) in
+    sym (length-take-le c.match-simple.len c.args.bytes.now within)
 
-pub returns-in-Some : goal.returns-in-Some
-returns-in-Some c =
-    subst (IsFirstString c.args.bytes.now) (sym c.token.ensures)
-    (fields_taken c.args.bytes.now c.args.prefix c.in-Some.len c.requires.quote c.requires.prefix
-    (sym c.requires.fields ∙ c.if-has_fields.true)
-    c.in-Some.ensures)
-
-pub returns-then-passed-gt2 : goal.returns-then-passed-gt2
-returns-then-passed-gt2 c =
-    plain_taken c.args.bytes.now c.args.prefix c.in-Some-plain_string.passed c.requires.quote c.requires.prefix
-    (sym c.requires.fields ∙ c.if-has_fields.false) c.if-passed-gt2.true c.in-Some-plain_string.ensures
+pub returns : goal.returns
+returns c = λ p is b.
+    let len = is_len (goal.at.returns c).Joined-simple p is b in
+    record {
+      role = ap (λ k. role_of k p.text) (sym is);
+      len = len;
+      line_ends = c.line_ends.ensures.count p.text (string_text c.args.bytes.now p c.match-simple.len b len);
+    }

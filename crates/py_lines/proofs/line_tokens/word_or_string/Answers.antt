@@ -1,15 +1,7 @@
-use Rattle.std.proofs.Common.{sym, ◌∙◌, subst, take}
-use Rattle.std.proofs.lemmas.Bool.{and_parts}
+use Rattle.std.proofs.Common.{sym, ◌∙◌, subst}
 use Rattle.py_lines.specs.Private.LineTokens.{IsTakenFor}
-use Rattle.py_lines.proofs.LineTokens.FirstPieces.{is_string, is_word, prefix_word, word_taken}
+use Rattle.py_lines.proofs.LineTokens.FirstPieces.{is_string, is_word, word_taken}
 use Rattle.py_lines.proofs.line_tokens.word_or_string.Goals as goal
-
-pub string-requires-clause-quote : goal.string-requires-clause-quote
-string-requires-clause-quote c = (and_parts _ _ (sym c.ends_prefix.ensures ∙ c.if-ends_prefix.true)).0
-
-pub string-requires-clause-prefix : goal.string-requires-clause-prefix
-string-requires-clause-prefix c =
-    prefix_word (take c.len_in-len.result c.args.bytes.now) (and_parts _ _ (sym c.ends_prefix.ensures ∙ c.if-ends_prefix.true)).1
 
 pub string-requires-clause-string : goal.string-requires-clause-string
 string-requires-clause-string c =

@@ -3,8 +3,8 @@ use Rattle.std.specs.Str.{StartsWithNoChar, IsValidUpTo}
 use Rattle.py_lines.proofs.Text.Utf8Prefixes.{joined_text, joined_prefix}
 use Rattle.py_lines.proofs.utf8.utf8_prefix.Goals as goal
 
-pub from_utf8_unchecked-requires-in-Ok : goal.from_utf8_unchecked-requires-in-Ok
-from_utf8_unchecked-requires-in-Ok c = joined_text c.args.bytes.now c.ascii_blocks-ascii.result c.ascii_blocks-ascii.ensures.utf8 c.in-Ok.ensures.cases.1
+pub from_utf8_unchecked-requires : goal.from_utf8_unchecked-requires
+from_utf8_unchecked-requires c = joined_text c.args.bytes.now c.ascii_blocks-ascii.result c.ascii_blocks-ascii.ensures.utf8 c.in-Ok.ensures.cases.1
 
 pub from_utf8_unchecked-requires-in-Err : goal.from_utf8_unchecked-requires-in-Err
 from_utf8_unchecked-requires-in-Err c =

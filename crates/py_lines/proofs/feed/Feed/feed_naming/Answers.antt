@@ -1,4 +1,4 @@
-use Rattle.std.proofs.Common.{ℕ, List, not, inl, sym, ap, ◌∙◌, subst, length, take, arith}
+use Rattle.std.proofs.Common.{ℕ, ◌+◌, List, not, inl, sym, ap, ◌∙◌, subst, length, take, arith}
 use Rattle.std.proofs.lemmas.List.{length-take-le}
 use Rattle.std.proofs.lemmas.Result.{err_from_is_err_and}
 use Rattle.py_lines.specs.ScannerState.{LacksBoth}
@@ -46,15 +46,21 @@ lacks_both-requires c =
     let size = length-take-le new.state.scan.stop c.deref.result.now (omega (arith, held_within new _ line.1, ap length c.deref.ensures.value)) in
     omega (arith, size, line.1.stop, line.1.some)
 
-pub release-requires : goal.release-requires
-release-requires c = record { ready = line_here (goal.at.release-requires c).Else-is_none; fits = omega (arith, c.in_ok-taken.ensures.room.fits) }
+pub let_go-requires : goal.let_go-requires
+let_go-requires c =
+    let f = c.take_bytes.new.self in
+    record {
+      holds = line_here (goal.at.let_go-requires c).Else-is_none;
+      room = c.in_ok-taken.ensures.room;
+      after = λ read spell. ap (λ (n : ℕ). f.state.line + n) (c.line_ends.ensures.count read (spell ∙ sym (ap (take f.state.scan.stop) c.deref-then-lacks_both.ensures.value)));
+    }
 
 pub returns-then-lacks_both : goal.returns-then-lacks_both
 returns-then-lacks_both c =
     let lacks = subst (λ (l : List ℕ). LacksBoth c.args.word.now c.args.other.now (take c.take_bytes.new.self.state.scan.stop l))
     c.deref.ensures.value (c.lacks_both.ensures.yes c.if-lacks_both.true) in
     let was = none_is c.args.self.now.ready (sym c.in_ok-waits.ensures.1 ∙ c.if-branch.false) in
-    let answer = fed_released c.in_ok-taken.ensures was (c.is_none.ensures ∙ ap not c.if-is_none.false) lacks c.release.ensures in
+    let answer = fed_released c.in_ok-taken.ensures was (c.is_none.ensures ∙ ap not c.if-is_none.false) lacks c.let_go.ensures in
     record { feeds = answer.0; sound = answer.1 }
 
 pub returns-in_err-read_tokens : goal.returns-in_err-read_tokens

@@ -3,7 +3,7 @@ use Rattle.py_lines.specs.Private.Feed.{StopsHeld, Stop}
 use Rattle.py_lines.proofs.Feeds.OpenLine.{reached_by, within_held, held_refused}
 use Rattle.py_lines.proofs.Readers.LineFaults.{refused_within}
 use Rattle.py_lines.proofs.feed.Feed.meet.Goals as goal
-use Rattle.py_lines.proofs.feed.Feed.meet.Goals.{In-LineEnd, In-Refused}
+use Rattle.py_lines.proofs.feed.Feed.meet.Goals.{In-Refused}
 
 -- what the scan of the characters came to
 refused : (c : In-Refused) → StopsHeld c.args.self.now (Stop.Refused c.in-Refused.c)

@@ -1,32 +1,7 @@
-use Rattle.std.proofs.Common.{◌≡◌, ℕ, drop, None, sym, ap, ◌∙◌, arith}
-use Rattle.std.specs.Global.{Vec}
-use Rattle.std.proofs.lemmas.List.{drop_all}
-use Rattle.py_lines.specs.Private.Feed.{Feed, LetsGo, LineState}
-use Rattle.py_lines.specs.Private.LineState.{BeginsAnew, passed}
-use Rattle.py_lines.proofs.Feeds.OpenLine.{begun_open}
-use Rattle.py_lines.proofs.feed.Feed.release.Goals.{then-stop-len, else-stop-len}
 use Rattle.py_lines.proofs.feed.Feed.release.Goals as goal
 
--- what is held begins after the line, and so does the scan of the next one
-let_go : (old mid : Feed) (state now : LineState) (held : Vec ℕ) → mid ≡ record { held = held; state = state; ready = None; ended = old.ended }
-    → held.items ≡ drop old.state.scan.stop old.held.items → state ≡ passed old.state old.state.scan.stop old.state.scan.count.line → BeginsAnew mid.state now → LetsGo old (record mid { state = now })
-let_go old mid state now held is items pass begins =
-    let at : mid.state ≡ passed old.state old.state.scan.stop old.state.scan.count.line = ap (λ (f : Feed). f.state) is ∙ pass in
-    record {
-      place = ap (λ (s : LineState). s.place) begins.same ∙ ap (λ (s : LineState). s.place) at;
-      line = ap (λ (s : LineState). s.line) begins.same ∙ ap (λ (s : LineState). s.line) at;
-      held = ap (λ (f : Feed). f.held.items) is ∙ items;
-      ready = ap (λ (f : Feed). f.ready) is;
-      ended = ap (λ (f : Feed). f.ended) is;
-      fault = ap (λ (s : LineState). s.fault) begins.same ∙ ap (λ (s : LineState). s.fault) at;
-      opens = begun_open mid.state (record mid { state = now }) begins;
-    }
+pub let_go-requires : goal.let_go-requires
+let_go-requires c = record { holds = (c.requires.ready.0, c.requires.ready.1.holds); room = c.requires.room; after = c.requires.ready.1.after }
 
 pub returns : goal.returns
-returns c =
-    let f = c.args.self.now in
-    elim c.if-stop-len.branch [
-      | then-stop-len w ↦ let_go f c.if-stop-len.self c.pass.new.self c.restart.new.self w.clear.new.self w.self-is
-          (w.clear.ensures.items ∙ sym (drop_all f.state.scan.stop f.held.items (omega (arith, w.if-stop-len.true, c.len.ensures)))) c.pass.ensures c.restart.ensures
-      | else-stop-len w ↦ let_go f c.if-stop-len.self c.pass.new.self c.restart.new.self w.drop_first.new.held w.self-is w.drop_first.ensures c.pass.ensures c.restart.ensures
-    ]
+returns c = c.let_go.ensures

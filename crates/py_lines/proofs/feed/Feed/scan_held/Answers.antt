@@ -19,9 +19,8 @@ extend-requires c =
     let next = next_is f o.0 o.1 c.deref.result.now c.deref.ensures.value in
     let size = ap length next in
     record {
-      way = (first_mode f.state.place, f.state.line, f.held.items, begun_sound f.state.place, subst (Reached (first_mode f.state.place) f.state.line f.held.items f.state.scan) (sym next) o.1);
+      way = (first_mode f.state.place, f.held.items, begun_sound f.state.place, subst (Reached (first_mode f.state.place) f.held.items f.state.scan) (sym next) o.1);
       bytes = omega (arith, open_stop f o.0 o.1, open_size f o.0 o.1, c.requires.room.fits, size);
-      lines = omega (arith, open_stop f o.0 o.1, open_size f o.0 o.1, o.1.line, c.requires.room.fits, c.requires.room.few_lines, size);
     }
 
 pub returns : goal.returns
@@ -31,6 +30,6 @@ returns c =
     record {
       text = record { held = refl; place = refl; line = refl; ended = refl; fault = refl };
       not_ready = c.requires.not_ready;
-      stops = c.extend.ensures.stops (first_mode f.state.place) f.state.line f.held.items (begun_sound f.state.place)
-          (subst (Reached (first_mode f.state.place) f.state.line f.held.items f.state.scan) (sym (next_is f o.0 o.1 c.deref.result.now c.deref.ensures.value)) o.1);
+      stops = c.extend.ensures.stops (first_mode f.state.place) f.held.items (begun_sound f.state.place)
+          (subst (Reached (first_mode f.state.place) f.held.items f.state.scan) (sym (next_is f o.0 o.1 c.deref.result.now c.deref.ensures.value)) o.1);
     }

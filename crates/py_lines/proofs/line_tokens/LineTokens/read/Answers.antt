@@ -8,7 +8,7 @@ use Rattle.py_lines.proofs.line_tokens.LineTokens.read.Goals.{After-first_piece-
 pub first_piece-piece-requires : goal.first_piece-piece-requires
 first_piece-piece-requires c =
     let (left, h) = c.pieces.invariant c.requires.text.0 c.requires.text.1 in
-    let n = has_next left h c.pieces-test.true in
+    let n = has_next left c.requires.text.1 h c.pieces-test.true in
     (n.p, n.begin)
 
 -- the piece that was read
@@ -16,7 +16,7 @@ taken : (c : After-first_piece-piece) (ps : List Piece) → AreLineText c.args.t
     → IsTakenNext c.args.text.now ps c.args.line c.pieces.start c.pieces.line_here c.pieces.self c.first_piece-piece.result
 taken c ps is =
     let (left, h) = c.pieces.invariant ps is in
-    let n = has_next left h c.pieces-test.true in
+    let n = has_next left is h c.pieces-test.true in
     n.taken c.first_piece-piece.result (c.first_piece-piece.ensures n.p n.begin)
 
 pub add-requires : goal.add-requires
@@ -45,7 +45,12 @@ pieces-smaller c =
 pub pieces-preserved : goal.pieces-preserved
 pieces-preserved c = λ ps is. (taken (goal.at.pieces-preserved c).After-first_piece-piece ps is).more c.add.new.self c.in_ok-add.ensures
 
-pub returns : goal.returns
-returns c = λ ps is.
+pub returns-clause-tokens : goal.returns-clause-tokens
+returns-clause-tokens c = λ ps is.
     let (left, h) = c.pieces.invariant ps is in
-    whole_read left h (omega (arith, c.pieces-test.false))
+    (whole_read left h (omega (arith, c.pieces-test.false))).0
+
+pub returns-clause-after : goal.returns-clause-after
+returns-clause-after c = λ ps is.
+    let (left, h) = c.pieces.invariant ps is in
+    (whole_read left h (omega (arith, c.pieces-test.false))).1

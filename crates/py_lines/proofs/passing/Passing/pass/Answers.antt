@@ -15,13 +15,13 @@ returns-in-LineFeed c =
 
 pub returns-in-Opening : goal.returns-in-Opening
 returns-in-Opening c =
-    opening_passed c.args.bytes.now c.args.at c.args.self.now c.requires.within c.requires.marked c.args.place c.args.frames.now c.open-met.result
-    c.open-met.new.self c.pass_bracket.result c.pass_bracket.new.self c.in-Opening.ensures c.open-met.ensures c.pass_bracket.ensures
+    opening_passed c.args.bytes.now c.args.at c.args.self.now c.requires.within c.requires.marked c.args.place c.args.frames.now c.«open».result
+    c.«open».new.self c.pass_bracket.result c.pass_bracket.new.self c.in-Opening.ensures c.«open».ensures c.pass_bracket.ensures
 
 pub returns-in-Closing : goal.returns-in-Closing
 returns-in-Closing c =
-    closing_passed c.args.bytes.now c.args.at c.args.self.now c.requires.within c.requires.marked c.args.place c.args.frames.now c.close-met.result
-    c.close-met.new.self c.pass_bracket-in-Closing.result c.pass_bracket-in-Closing.new.self c.in-Closing.ensures c.close-met.ensures
+    closing_passed c.args.bytes.now c.args.at c.args.self.now c.requires.within c.requires.marked c.args.place c.args.frames.now c.close.result
+    c.close.new.self c.pass_bracket-in-Closing.result c.pass_bracket-in-Closing.new.self c.in-Closing.ensures c.close.ensures
     c.pass_bracket-in-Closing.ensures
 
 pub returns-in-Return : goal.returns-in-Return

@@ -3,7 +3,7 @@ use Rattle.std.proofs.lemmas.Bool.{and_from}
 use Rattle.py_lines.specs.Character.{is_break}
 use Rattle.py_lines.specs.Private.Run.{is_remark_byte}
 use Rattle.py_lines.proofs.LineScan.AsciiRuns.{is_low_from}
-use Rattle.py_lines.proofs.SimpleLines.MarkedPieces.{comment_begun, comment_further, marked_comment}
+use Rattle.py_lines.proofs.SimpleLines.MarkedPieces.{comment_begun, comment_further, comment_holds, marked_comment}
 use Rattle.py_lines.proofs.SimpleLines.Passing.{piece_passed}
 use Rattle.py_lines.proofs.passing.Passing.pass_ascii_comment.Goals.{then-specials-test+then-bytes-end-lt128+else-not-is_break, then-specials-test+else-bytes-end-lt128, else-specials-test}
 use Rattle.py_lines.proofs.passing.Passing.pass_ascii_comment.Goals as goal
@@ -39,5 +39,5 @@ returns-clause-passed c = λ _ place frames shallow.
     ] in
     let passes = marked_comment bytes at end read.further within c.requires.hash read.each breaks in
     let there = c.keep.ensures bytes (within, read.next.special within) (read.next.rest within) in
-    piece_passed bytes at c.args.self.now c.requires.within c.requires.marked place frames (record { len = end - at; line_ends = 0 }) false end c.keep.new.self c.pass_to.new.self shallow passes
-    (omega (arith, read.further)) there c.pass_to.ensures
+    piece_passed bytes at c.args.self.now c.requires.within c.requires.marked place frames (end - at) 0 false end c.keep.new.self c.pass_to.new.self shallow passes
+    (comment_holds bytes at end read.further within c.requires.hash read.each) (omega (arith, read.further)) there c.pass_to.ensures

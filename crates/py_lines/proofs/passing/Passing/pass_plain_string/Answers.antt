@@ -1,7 +1,7 @@
-use Rattle.std.proofs.Common.{◌+◌, ◌-◌, ◌<◌, true, arith, length, subst, take}
+use Rattle.std.proofs.Common.{◌+◌, ◌-◌, ◌<◌, true, arith, length, subst, take, ℕ}
 use Rattle.py_lines.specs.declared.prefix.Prefix.{Prefix}
 use Rattle.py_lines.specs.Private.Outline.{IsPrefix, tail_of}
-use Rattle.py_lines.proofs.SimpleLines.MarkedPieces.{marked_string}
+use Rattle.py_lines.proofs.SimpleLines.MarkedPieces.{marked_string, string_holds}
 use Rattle.py_lines.proofs.SimpleLines.Passing.{piece_passed}
 use Rattle.py_lines.proofs.passing.Passing.pass_plain_string.Goals as goal
 
@@ -16,6 +16,8 @@ returns-clause-passed c = λ _ place frames shallow.
     let further : at < end = omega (arith, after) in
     let some : at + 1 < end = omega (arith, after, c.if-end-at.false) in
     let prefix = subst (λ (p : Prefix). IsPrefix p (tail_of (take at bytes))) c.in-Plain.is c.before-2.ensures in
-    let passes = marked_string bytes at end further within c.requires.quote (λ i more less. next.plain i (omega (arith, more)) less) c.if-bytes-end.false some prefix in
-    piece_passed bytes at c.args.self.now c.requires.within c.requires.marked place frames (record { len = end + 1 - at; line_ends = 0 }) true (end + 1) c.next-end.new.self c.pass_to.new.self shallow passes
+    let plain = λ (i : ℕ) (more : at < i) (less : i < end). next.plain i (omega (arith, more)) less in
+    let passes = marked_string bytes at end further within c.requires.quote plain c.if-bytes-end.false some prefix in
+    let holds = string_holds bytes at end further within c.requires.quote plain c.if-bytes-end.false in
+    piece_passed bytes at c.args.self.now c.requires.within c.requires.marked place frames (end + 1 - at) 0 true (end + 1) c.next-end.new.self c.pass_to.new.self shallow passes holds
     (omega (arith, further)) (next.rest within) c.pass_to.ensures

@@ -1,6 +1,7 @@
-use Rattle.std.proofs.Common.{◌<◌, ◌-◌, ◌≤◌, length, take, drop, sym, ap, arith, ◌∙◌, ⊎_elim, length-append, length-drop}
+use Rattle.std.proofs.Common.{◌<◌, ◌-◌, length, take, drop, sym, ap, arith, ◌∙◌, length-drop}
 use Rattle.std.proofs.lemmas.List.{take_rest}
-use Rattle.py_lines.proofs.LineScan.LineStops.{GoesTo, gone, goes_long, left_goes, goes_run, goes_character, stops_line, stops_returned, stops_refused, stops_text}
+use Rattle.py_lines.proofs.LineScan.LineSteps.{pushed}
+use Rattle.py_lines.proofs.LineScan.LineStops.{GoesTo, gone, left_goes, goes_run, goes_character, stops_line, stops_returned, stops_refused, stops_text}
 use Rattle.py_lines.proofs.Text.FirstCharacters.{first_size}
 use Rattle.py_lines.proofs.scan.Scan.extend.Goals as goal
 use Rattle.py_lines.proofs.scan.Scan.extend.Goals.{After-hold-rest, In-Bytes, In-Going}
@@ -14,21 +15,21 @@ goes : (c : In-Going) → (left : GoesTo c.args.self.now c.args.bytes.now c.take
     → GoesTo c.args.self.now c.args.bytes.now c.push.new.self
     (take (length c.in-Bytes.left.now - c.len_utf8-len.result) (drop c.len_utf8-len.result c.in-Bytes.left.now))
 goes c left =
-    goes_character left c.in-Some.ensures (sym c.ends_before.ensures ∙ c.if-ends_before.false) c.push.result c.push.new.self c.push.ensures c.in-Going.is
+    goes_character left c.in-Some.ensures (sym c.is_ended_before.ensures ∙ c.if-is_ended_before.false) c.push.result c.push.new.self (pushed _ _ _ _ c.push.ensures.takes) c.in-Going.is
     c.len_utf8-len.result c.len_utf8-len.ensures.value
 
 pub take_pieces-requires : goal.take_pieces-requires
 take_pieces-requires c =
     let at = gone c.requires.way c.characters.invariant.goes in
-    record { bytes = omega (arith, c.requires.bytes, at.room); lines = omega (arith, c.requires.lines, at.room, at.lines) }
+    record { bytes = omega (arith, c.requires.bytes, at.room) }
 
 pub returns-in_default : goal.returns-in_default
 returns-in_default c = record { stops = stops_text (left_to (goal.at.returns-in_default c).In-Bytes) c.in_default.ensures }
 
-pub returns-then-ends_before : goal.returns-then-ends_before
-returns-then-ends_before c = record {
+pub returns-then-is_ended_before : goal.returns-then-is_ended_before
+returns-then-is_ended_before c = record {
   stops = rw c.free.ensures
-      (stops_returned (left_to (goal.at.returns-then-ends_before c).In-Bytes) c.in-Some.ensures (sym c.ends_before.ensures ∙ c.if-ends_before.true));
+      (stops_returned (left_to (goal.at.returns-then-is_ended_before c).In-Bytes) c.in-Some.ensures (sym c.is_ended_before.ensures ∙ c.if-is_ended_before.true));
 }
 
 pub push-requires : goal.push-requires
@@ -36,49 +37,39 @@ push-requires c =
     let at = gone c.requires.way (left_to (goal.at.push-requires c).In-Bytes) in
     record {
       bytes = omega (arith, c.requires.bytes, at.room, first_size c.in-Some.ensures);
-      lines = omega (arith, c.requires.lines, at.room, at.lines);
       placed = at.placed;
     }
-
-pub hold_lines-more-requires : goal.hold_lines-more-requires
-hold_lines-more-requires c =
-    let to = goal.at.hold_lines-more-requires c in
-    let at = gone c.requires.way (goes to.In-Going (left_to to.In-Bytes)) in
-    record { bytes = omega (arith, c.requires.bytes, at.room); lines = omega (arith, c.requires.lines, at.room, at.lines); quote = at.quote }
 
 pub hold-rest-requires : goal.hold-rest-requires
 hold-rest-requires c =
     let to = goal.at.hold-rest-requires c in
-    let at = gone c.requires.way (goes_long (goes to.In-Going (left_to to.In-Bytes)) c.hold_lines-more.ensures) in
+    let at = gone c.requires.way (goes to.In-Going (left_to to.In-Bytes)) in
     record { bytes = omega (arith, c.requires.bytes, at.room); quote = at.quote }
 
 pub take_in_fields-rest-requires : goal.take_in_fields-rest-requires
 take_in_fields-rest-requires c =
     let to = goal.at.take_in_fields-rest-requires c in
-    let held = goes_run (goes_long (goes to.In-Going (left_to to.In-Bytes)) c.hold_lines-more.ensures) c.hold-rest.ensures in
+    let held = goes_run (goes to.In-Going (left_to to.In-Bytes)) c.hold-rest.ensures.holds in
     let at = gone c.requires.way held in
-    record { way = at.way; bytes = omega (arith, c.requires.bytes, at.room); lines = omega (arith, c.requires.lines, at.room, at.line) }
+    record { way = at.way; bytes = omega (arith, c.requires.bytes, at.room) }
 
 pub characters-preserved : goal.characters-preserved
 characters-preserved c =
     let to = goal.at.characters-preserved c in
-    record { goes = goes_run (goes_long (goes to.In-Going (left_to to.In-Bytes)) c.hold_lines-more.ensures) c.hold-rest.ensures }
+    record { goes = goes_run (goes to.In-Going (left_to to.In-Bytes)) c.hold-rest.ensures.holds }
 
 pub characters-preserved-then-has_field : goal.characters-preserved-then-has_field
 characters-preserved-then-has_field c =
     let to = goal.at.characters-preserved-then-has_field c in
-    let held = goes_run (goes_long (goes to.In-Going (left_to to.In-Bytes)) c.hold_lines-more.ensures) c.hold-rest.ensures in
-    record { goes = λ m line whole start r. c.take_in_fields-rest.ensures.reached m line whole start (held m line whole start r) }
+    let held = goes_run (goes to.In-Going (left_to to.In-Bytes)) c.hold-rest.ensures.holds in
+    record { goes = λ m whole start r. c.take_in_fields-rest.ensures.reached m whole start (held m whole start r) }
 
 held_smaller : (c : After-hold-rest) → length c.hold-rest.result.now < length c.characters.rest.now
 held_smaller c =
     let left = c.in-Bytes.left.now in
     let len = c.len_utf8-len.result in
-    let more = c.hold_lines-more.result.now in
-    let held = c.hold-rest.ensures in
-    let shorter : length more ≤ length (take (length left - len) (drop len left)) =
-    ⊎_elim (λ same. omega (arith, ap length same.0)) (λ reads. omega (arith, ap length reads.spell, length-append reads.run more)) c.hold_lines-more.ensures in
-    omega (arith, ap length held.rest_is, length-drop held.len more, shorter, ap length (take_rest left len), length-drop len left, c.len_utf8-len.ensures.lower_bound, first_size c.in-Some.ensures, c.len_utf8-len.ensures.value, c.in-Bytes.ensures.shorter)
+    let (n, held, rest_is) = c.hold-rest.ensures.holds in
+    omega (arith, ap length rest_is, length-drop n (take (length left - len) (drop len left)), ap length (take_rest left len), length-drop len left, c.len_utf8-len.ensures.lower_bound, first_size c.in-Some.ensures, c.len_utf8-len.ensures.value, c.in-Bytes.ensures.shorter)
 
 pub characters-smaller : goal.characters-smaller
 characters-smaller c = held_smaller (goal.at.characters-smaller c).After-hold-rest
@@ -90,10 +81,10 @@ characters-smaller-then-has_field c =
 
 pub returns-in-LineEnded : goal.returns-in-LineEnded
 returns-in-LineEnded c = record {
-  stops = stops_line (left_to (goal.at.returns-in-LineEnded c).In-Bytes) c.in-Some.ensures (sym c.ends_before.ensures ∙ c.if-ends_before.false) c.push.result c.push.new.self c.push.ensures c.in-LineEnded.is;
+  stops = stops_line (left_to (goal.at.returns-in-LineEnded c).In-Bytes) c.in-Some.ensures (sym c.is_ended_before.ensures ∙ c.if-is_ended_before.false) c.push.result c.push.new.self (pushed _ _ _ _ c.push.ensures.takes) c.in-LineEnded.is;
 }
 
 pub returns-in-Refused : goal.returns-in-Refused
 returns-in-Refused c = record {
-  stops = stops_refused (left_to (goal.at.returns-in-Refused c).In-Bytes) c.in-Some.ensures (sym c.ends_before.ensures ∙ c.if-ends_before.false) c.push.result c.push.new.self c.push.ensures c.in-Refused.is;
+  stops = stops_refused (left_to (goal.at.returns-in-Refused c).In-Bytes) c.in-Some.ensures (sym c.is_ended_before.ensures ∙ c.if-is_ended_before.false) c.push.result c.push.new.self (pushed _ _ _ _ c.push.ensures.takes) c.in-Refused.is;
 }

@@ -1,21 +1,18 @@
-use Rattle.std.proofs.Common.{◌≡◌, ◌<◌, ◌⊎◌, inl, inr, ap, arith, ◌∙◌}
-use Rattle.std.proofs.lemmas.List.{take_rest}
-use Rattle.py_lines.specs.Private.Run.{with_bytes}
-use Rattle.py_lines.specs.declared.field_scan.FieldScan.{FieldScan}
+use Rattle.std.proofs.Common.{subst}
+use Rattle.py_lines.specs.Private.Run.{HasAsciiQuoteOpen}
+use Rattle.py_lines.proofs.FieldScans.Runs.{holds_characters, holds_text}
+use Rattle.py_lines.proofs.FieldScans.TextLengths.{rest_is}
 use Rattle.py_lines.proofs.scan.Scan.hold.Goals as goal
-use Rattle.py_lines.proofs.scan.Scan.hold.Goals.{then-len-gt0, else-len-gt0}
+use Rattle.py_lines.proofs.scan.Scan.hold.Goals.{in-Code+in-Code, in-Body+in-Some, in-Body+in-None}
 
-pub returns : goal.returns
-returns c =
-    let old = c.args.self.now in
-    let inside = c.hold-len.new.self in
-    let new = c.if-len-gt0.self in
-    let len = c.hold-len.result in
-    let holds = c.hold-len.ensures.holds in
-    let reads : ((len ≡ 0) × (new ≡ old)) ⊎ ((0 < len) × (new ≡ with_bytes (record old { inside = inside }) len))
-    = elim c.if-len-gt0.branch [
-      | then-len-gt0 w ↦ inr (w.if-len-gt0.true, w.self-is)
-      | else-len-gt0 w ↦ let none : len ≡ 0 = omega (arith, w.if-len-gt0.false) in
-          inl (none, w.self-is ∙ ap (λ (f : FieldScan). record old { inside = f }) (holds.none none))
-    ] in
-    record { len = len; inside = inside; holds = holds; rest_is = take_rest c.args.bytes.now len; reads = reads }
+pub returns-clause-holds : goal.returns-clause-holds
+returns-clause-holds c = (
+  c.match-self.len,
+  elim c.match-self.branch [
+    | in-Code+in-Code w ↦
+        rw w.len-is (holds_characters c.args.self.now w.in-Code.mode c.args.bytes.now w.characters_in-len.result w.in-Code.is (subst HasAsciiQuoteOpen w.in-Code.is c.requires.quote) w.characters_in-len.ensures)
+    | in-Body+in-Some w ↦ rw w.len-is (holds_text c.args.self.now w.in-Some.quote c.args.bytes.now w.text_len.result w.in-Some.ensures w.text_len.ensures)
+    | in-Body+in-None w ↦ rw w.len-is w.keep.ensures
+  ],
+  rest_is c.args.bytes.now c.match-self.len,
+)

@@ -1,6 +1,6 @@
 use Rattle.std.proofs.Common.{◌++◌, ◌∷◌, []}
 use Rattle.std.proofs.lemmas.Result.{err_from_is_err_and}
-use Rattle.py_lines.proofs.Readers.LineAnswers.{all_within, place_boundary, line_ended, is_line_text, few_lines_line, continues_line}
+use Rattle.py_lines.proofs.Readers.LineAnswers.{all_within, place_boundary, line_ended, is_line_text, continues_line}
 use Rattle.py_lines.proofs.source.Source.end_line.Goals as goal
 use Rattle.py_lines.specs.Private.Source.{Stop}
 
@@ -12,7 +12,6 @@ give-requires c =
     let ended = line_ended s c.args.len c.requires in
     record {
       boundary = place_boundary s stop c.requires s.state.scan.stop (all_within c.requires.scans.read s.state.scan.stop ended.stop);
-      lines = few_lines_line s c.args.len c.requires;
       text = (at.body ++ at.last ∷ [], is_line_text s stop c.requires c.args.len (at.body ++ at.last ∷ []) ended);
     }
 

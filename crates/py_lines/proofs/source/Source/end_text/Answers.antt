@@ -1,12 +1,12 @@
 use Rattle.std.proofs.Common.{◌≡◌, ℕ, ◌-◌, ◌≤◌, None, Some, [], Err, inl, inr, true, length, sym, subst, arith}
 use Rattle.std.proofs.lemmas.Result.{err_from_is_err_and}
 use Rattle.py_lines.specs.Private.Source.{Source, Advances, FailsAfter, HasScanned, FaultKind, LexError, Stop, LineFault}
-use Rattle.py_lines.specs.Private.FieldScan.{EndsField}
+use Rattle.py_lines.specs.Private.Scan.{EndsField}
 use Rattle.py_lines.specs.Private.LineState.{IsEndLineFault}
 use Rattle.py_lines.specs.Private.Machine.{is_final}
 use Rattle.py_lines.proofs.LineScan.TextSteps.{begun_sound}
 use Rattle.py_lines.proofs.Machine.PieceSteps.{pieces_at}
-use Rattle.py_lines.proofs.Readers.LineAnswers.{all_within, place_boundary, is_line_text, stop_size, fails_at_bytes, fails_at_end, end_within, last_line, continues_text, few_lines_text}
+use Rattle.py_lines.proofs.Readers.LineAnswers.{all_within, place_boundary, is_line_text, stop_size, fails_at_bytes, fails_at_end, end_within, last_line, continues_text}
 use Rattle.py_lines.proofs.Readers.LineFaults.{Within, finished}
 use Rattle.py_lines.proofs.source.Source.end_text.Goals as goal
 
@@ -30,7 +30,7 @@ pub returns-in-Some : goal.returns-in-Some
 returns-in-Some c = line_fault_fails c.args.self.now c.requires c.in-Some.line_fault c.in-Some.ensures c.fail.result c.fail.new.self c.fail.ensures
 
 -- the text may end there
-ends : (s : Source) (has : HasScanned s Stop.TextEnd) → EndsField s.state.scan.inside s.state.scan.stop None → (is_final has.scans.stops.0.state.mode ≡ true) × (has.scans.stops.0.brackets ≡ [])
+ends : (s : Source) (has : HasScanned s Stop.TextEnd) → EndsField s.state.scan None → (is_final has.scans.stops.0.state.mode ≡ true) × (has.scans.stops.0.brackets ≡ [])
 ends s has is = finished has.scans.stops.0 (begun_sound s.state.place) is
 
 pub give-requires : goal.give-requires
@@ -41,7 +41,6 @@ give-requires c =
     let pieces = pieces_at c.requires.scans.stops.0.state in
     record {
       boundary = place_boundary s Stop.TextEnd c.requires s.state.scan.stop (all_within c.requires.scans.read s.state.scan.stop (stop_size s c.requires));
-      lines = few_lines_text s c.requires;
       text = (pieces, is_line_text s Stop.TextEnd c.requires 0 pieces (last_line s c.requires done.0 done.1 (omega (arith, c.in_default.ensures.0))));
     }
 

@@ -1,4 +1,0 @@
-use Rattle.py_lines.proofs.scanner.Scanner.offset.Goals as goal
-
-pub returns : goal.returns
-returns c = rw (← c.self.view_is) c.reached.ensures.place
