@@ -7,6 +7,7 @@ pub mod Ended
 pub mod OpenLine
 pub mod ReadyLines
 pub mod LastBytes
+pub mod LeftBytes
 pub mod GivenBack
 pub mod FedHeld
 pub mod Taken

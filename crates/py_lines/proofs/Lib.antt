@@ -18,7 +18,7 @@
 -- each field that is open, is stated for any limit on what may stand at a depth, so one proof gives two theorems: where it may
 -- end, its pieces read the text; and they are shallow if each character had room. What it holds says which lists of pieces and
 -- which strings are open, and what is open can be closed, so a text is live exactly if the machine goes through it with room. The code
--- goes by this machine, in mode.rt, field_mode.rt and scan.rt.
+-- goes by this machine, in scan.rt and string_text.rt.
 --
 -- That of specs/Private/ScanMachine.antt finds the pieces of a line. To it a string with fields is one open piece, and the machine with
 -- fields says how far that has come. Where one of the two has come, so has the other, and their states belong together (`IsTied`,
@@ -40,24 +40,25 @@
 -- machine goes on to the text's end or to its fault, so the lines of the whole text begin with them. A reader at the
 -- start has given none, so every text has some lexing. Settled pieces begin all pieces that read more, so their lines are final.
 --
--- What is open in a line (proofs/FieldScans): the scan keeps the mode, the place and the frames of the state of the machine with fields
--- (`Follows`, specs/Private/Scan), and each character keeps it so (Taking, Openings). What the scan says of a fault is what that
--- state says (FieldFaults). Characters of one piece, code of a field up to a sign, and simple text of a string, with whole fields, are
--- taken at once (Runs). Simple text leads the machine from one place of a string to another, whatever was open before (`Leads`,
--- specs/Private/FieldText; Texts and TextLengths).
+-- What is open in a line (proofs/FieldScans): the scan keeps the mode, the place and the frames of a state of the machine with fields
+-- (`Follows`, specs/Private/Scan), and each item keeps it so: in code (Taking, Operators), and in the text of strings (StringTexts, TextFields).
+-- Where an item ends before the machine has ended it, that state is as good as the machine's own before the next byte (`GoAlike`; Resting,
+-- Taking), so what holds of a step from the one holds from the other. What the scan says of a fault is what the machine's state says.
+-- Characters of one piece, code of a field up to a sign, and simple text of a string, with whole fields, are taken at once (Runs). Simple
+-- text leads the machine from one place of a string to another, whatever was open before (`Leads`, specs/Private/FieldText; Texts and
+-- TextLengths).
 --
--- The scan of one logical line (proofs/LineScan): where it has come from the line's start, both machines have (`IsUnderWay`,
+-- The scan of one logical line (proofs/LineScan): what it has gone over of the line, both machines have (`IsUnderWay`,
 -- specs/Private/LineScan). A character that ends the line in one of them does so in the other, since their states belong together
--- (LineSteps). So the scan, which follows the machine with fields, knows where the line ends, and the other machine has its pieces. What
--- is taken at once finishes none of these (Runs). Where no piece and no field is open the scan passes over whole pieces as over simple
--- lines (SimpleLines/Passing), in whatever mode the line began, and stands again where all of them are closed: after an operator, a
--- string, or a line end or a join with LF (WholePieces). A string with fields whose text is simple is passed so too (WholeStrings). After
--- a line end the machine goes on as it does alone, so the next line is scanned from its own start.
+-- (LineSteps). So the scan, which goes by the machine with fields, knows where the line ends, and the other machine has its pieces. What
+-- is taken at once finishes none of these (LineStops). Where no piece and no field is open the scan passes over whole pieces as over simple
+-- lines (SimpleLines/Passing), in whatever mode the line began (WholePieces). A string with fields whose text is simple is passed so too
+-- (WholeStrings). After a line end the machine goes on as it does alone, so the next line is scanned from its own start.
 --
 -- The tokens of a whole line (proofs/LineTokens): they are read from its text alone, piece by piece, and so for all pieces
 -- that the text spells. Each class of pieces begins with other bytes. A word, a space or a comment is the run of bytes that
--- the text begins with, since what follows it can't go on with it. A string is what the scan closes first: by one reading no
--- other piece stands there. So what was read is always the first part of the line's pieces, and at the end all of them.
+-- the text begins with, since what follows it can't go on with it. A string is what the scan closes first (FirstString): by one
+-- reading no other piece stands there. So what was read is always the first part of the line's pieces, and at the end all of them.
 --
 -- Bytes that open or close something (proofs/SpecialBytes) are found by masks of 64 bytes.
 --

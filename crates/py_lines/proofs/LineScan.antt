@@ -4,7 +4,6 @@ pub mod StringSteps
 pub mod PieceEnd
 pub mod NextCharacter
 pub mod LineSteps
-pub mod OpenPieces
 pub mod TextSteps
 pub mod LineCount
 pub mod Runs

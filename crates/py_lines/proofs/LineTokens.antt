@@ -2,5 +2,6 @@
 pub mod Spellings
 pub mod FirstCharacters
 pub mod FirstPieces
+pub mod FirstString
 pub mod Strings
 pub mod Lines

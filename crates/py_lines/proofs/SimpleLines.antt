@@ -12,5 +12,7 @@ pub mod Lines
 pub mod UnderWay
 pub mod Passing
 pub mod PieceEnds
+pub mod PlainTexts
+pub mod PlainStrings
 pub mod MarkedPieces
 pub mod PassedEnds

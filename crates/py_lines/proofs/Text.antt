@@ -6,6 +6,7 @@ pub mod Utf8Shapes
 pub mod FirstCharacters
 pub mod Incomplete
 pub mod HighBytes
+pub mod FirstBytes
 pub mod Lanes
 pub mod LineEnds
 pub mod Splits

@@ -1,5 +1,6 @@
 -- What contracts of private functions alone cite: the machines that go through a text, the scan of one logical line,
 -- and the reader of lines. No public contract names a word of these files.
+pub mod Mode
 pub mod Machine
 pub mod FieldMachine
 pub mod ScanMachine

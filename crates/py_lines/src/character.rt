@@ -2,7 +2,7 @@
 
 ghost use Rattle.std.specs.Prelude.{◌≡◌};
 ghost use Rattle.py_lines.specs.Character.{is_mark, is_space, is_word_character, is_quote};
-ghost use Rattle.py_lines.specs.Character.{is_line_feed, is_return, is_break, is_backslash};
+ghost use Rattle.py_lines.specs.Character.{is_break, is_backslash};
 ghost use Rattle.py_lines.specs.Character.{is_brace};
 ghost use Rattle.py_lines.specs.Balance.{is_opening, is_closing};
 
@@ -42,22 +42,6 @@ pub fn is_quote(c: char) -> bool
     ensures { result ≡ is_quote c }
 {
     matches!(c, '\'' | '"')
-}
-
-/// Line feed.
-#[tactic(auto, unfolding(crate::specs::Character::is_line_feed))]
-pub fn is_line_feed(c: char) -> bool
-    ensures { result ≡ is_line_feed c }
-{
-    c == '\n'
-}
-
-/// Carriage return.
-#[tactic(auto, unfolding(crate::specs::Character::is_return))]
-pub fn is_return(c: char) -> bool
-    ensures { result ≡ is_return c }
-{
-    c == '\r'
 }
 
 /// The characters of line ends.

@@ -2,7 +2,6 @@
 
 ghost use Rattle.std.specs.Prelude.{◌≡◌, ℕ, ◌+◌, ◌-◌, ◌<◌, ◌≤◌, ◌^◌, ◌++◌, IsTrue, false};
 ghost use Rattle.std.specs.Prelude.{drop, take, length, Option, OnOk, OnErr};
-ghost use Rattle.std.specs.Str.{StartsWithNoChar};
 ghost use Rattle.py_lines.specs.Private.Feed.{TellsHopeless};
 ghost use Rattle.py_lines.specs.Private.LineTokens.{IsLineText};
 ghost use Rattle.py_lines.specs.Private.Outline.{BeginWithLines};
@@ -17,14 +16,13 @@ use crate::unit::Unit;
 use memchr::memmem;
 use std::alloc::{AllocError, Global};
 
-/// Whether no bytes after these, which begin no character, complete them.
-fn is_hopeless(bytes: &[u8]) -> bool
-    requires { StartsWithNoChar bytes.now }
-    ensures tells { TellsHopeless bytes.now result }
+/// After how many bytes of whole characters bytes stand that no bytes after them complete.
+fn hopeless_at(bytes: &[u8]) -> Option<usize>
+    ensures { TellsHopeless bytes.now result }
 {
     match std::str::from_utf8(bytes) {
-        Ok(_) => false,
-        Err(error) => error.error_len().is_some(),
+        Err(error) if error.error_len().is_some() => Some(error.valid_up_to()),
+        _ => None,
     }
 }
 
@@ -84,7 +82,8 @@ impl Feed {
     ghost use Rattle.py_lines.specs.Private.Feed.{HasRoom, IsOpen, IsHeldOpen, IsCutAt, FailsAt};
     ghost use Rattle.py_lines.specs.Private.Feed.{ReadsTokens, ScansHeld, StopsHeld, StopsWith, IsScanned};
     ghost use Rattle.py_lines.specs.Private.Feed.{GivesBack, HoldsPiece, HoldsSo, TakesSo};
-    ghost use Rattle.py_lines.specs.Private.Feed.{WaitsSo, HoldsLine, IsLineAfterHeld, IsReady, IsSoundFeed, EndsText, LetsGo};
+    ghost use Rattle.py_lines.specs.Private.Feed.{WaitsSo, HoldsLine, IsLineAfterHeld, IsReady};
+    ghost use Rattle.py_lines.specs.Private.Feed.{IsSoundFeed, EndsText, LetsGo, LetsGoWithout};
 
     /// At this byte of a text, which is on this line. Nothing was fed.
     pub fn at(alloc: Global, place: u64, line: u64) -> Feed
@@ -136,27 +135,18 @@ impl Feed {
         }
     }
 
-    /// Judges what is left after the characters: a part of a character, or nothing. After CR it shows that the line has
-    /// ended.
+    /// Judges what is left where the scan stopped: an item that the bytes don't tell yet, which may end with a part of a character.
     fn scan_part(&mut self) -> Result<(), LexError>
         requires stops { StopsHeld self.old Stop.TextEnd }
         requires not_ready { self.old.ready ≡ None }
         requires room { HasRoom self.old 0 }
         ensures { ScansHeld self.old result self.new }
     {
-        if self.held.len() <= self.state.scan.stop {
-            return Ok(());
+        let stop = self.state.scan.stop;
+        match hopeless_at(&self.held[stop..]) {
+            Some(len) => Err(self.fail(FaultKind::BadUtf8, stop + len)),
+            None => Ok(()),
         }
-        if self.state.scan.is_returned() {
-            self.state.scan.free();
-            self.ready = Some(1);
-            return Ok(());
-        }
-        if is_hopeless(&self.held[self.state.scan.stop..]) {
-            let offset = self.state.scan.stop;
-            return Err(self.fail(FaultKind::BadUtf8, offset));
-        }
-        Ok(())
     }
 
     /// Does what follows from where the scan of the characters stopped.
@@ -173,10 +163,7 @@ impl Feed {
                 Ok(())
             }
             Stop::TextEnd => self.scan_part(),
-            Stop::Refused(c) => {
-                let line_fault = self.state.scan.refusal(c);
-                Err(self.fail(line_fault.kind, line_fault.place))
-            }
+            Stop::Wrong(line_fault) => Err(self.fail(line_fault.kind, line_fault.place)),
         }
     }
 
@@ -216,7 +203,7 @@ impl Feed {
         ensures { HoldsPiece self.old piece.now result self.new }
     {
         let before = self.held.len();
-        // A part of a character is held, or the scan was begun anew.
+        // An item is held that the bytes don't tell, or the scan was begun anew.
         if self.state.scan.stop < before {
             self.held.extend_from_slice(&piece[..piece.len().min(1)])?;
             return Ok(self.scan_held());
@@ -299,6 +286,24 @@ impl Feed {
         Ok(taken)
     }
 
+    /// Lets go the line that stands in what is held, if neither word stands in it: whether it is let go.
+    fn let_go_without(&mut self, word: &[u8], other: &[u8]) -> bool
+        requires holds { (line : Option LogicalLine) × HoldsSo self.old self.old.ready line }
+        requires room { HasRoom self.old 0 }
+        ensures { LetsGoWithout word.now other.now self.old result self.new }
+    {
+        if self.ready.is_none() {
+            return false;
+        }
+        let stop = self.state.scan.stop;
+        if !lacks_both(&self.held[..stop], word, other) {
+            return false;
+        }
+        let line = self.state.line + line_ends(&self.held[..stop]);
+        self.let_go(line);
+        true
+    }
+
     /// Takes bytes of a piece, up to a line's end: how many. A line in which neither word stands is let go at once, without its tokens.
     pub fn feed_naming(
         &mut self,
@@ -318,16 +323,9 @@ impl Feed {
         }
         let before = self.held.len();
         let taken = self.take_bytes(piece)?;
-        if self.ready.is_none() {
-            return Ok(taken);
+        if !self.let_go_without(word, other) {
+            self.read_tokens(before)?;
         }
-        if lacks_both(&self.held[..self.state.scan.stop], word, other) {
-            let stop = self.state.scan.stop;
-            let line = self.state.line + line_ends(&self.held[..stop]);
-            self.let_go(line);
-            return Ok(taken);
-        }
-        self.read_tokens(before)?;
         Ok(taken)
     }
 
@@ -411,16 +409,14 @@ impl Feed {
         if self.ready.is_some() {
             return Ok(());
         }
-        if self.state.scan.is_returned() {
-            self.ready = Some(1);
-            return Ok(());
+        let scanned = self.state.scan.stop;
+        match self.state.scan.end(&self.held[scanned..]) {
+            Ok(end_len) => {
+                self.ready = Some(end_len);
+                Ok(())
+            }
+            Err(line_fault) => Err(self.fail(line_fault.kind, line_fault.place)),
         }
-        let rest = self.held.len() - self.state.scan.stop;
-        if let Some(line_fault) = self.state.end_fault(rest) {
-            return Err(self.fail(line_fault.kind, line_fault.place));
-        }
-        self.ready = Some(0);
-        Ok(())
     }
 
     /// The text ends here. What is held is its last line, if anything is.

@@ -42,79 +42,11 @@ pub struct OpenField {
     pub start: usize,
 }
 
-/// What is open, as an array keeps it: in few bytes.
-#[derive(Clone, Copy)]
-struct Slot {
-    /// The byte where it stands.
-    place: usize,
-    /// The byte at which the string round the field begins.
-    start: usize,
-    /// The bracket, or the quote of that string.
-    sign: char,
-    /// Where in that string the field stands, if it is one.
-    region: Option<Region>,
-    /// Whether that string has three quotes at each end.
-    is_long: bool,
-    /// Whether it is raw.
-    is_raw: bool,
-}
-
-impl Slot {
-    ghost use Rattle.std.specs.Prelude.{◌≡◌};
-    ghost use Rattle.py_lines.specs.Private.Frames.{frame_of};
-
-    /// That of a bracket or a field.
-    fn of(frame: Frame) -> Slot
-        ensures { frame_of result ≡ frame }
-    {
-        match frame {
-            Frame::Bracket(opener, place) => Slot {
-                place,
-                start: 0,
-                sign: opener,
-                region: None,
-                is_long: false,
-                is_raw: false,
-            },
-            Frame::Field(field) => {
-                let quote = field.host.quote;
-                Slot {
-                    place: field.place,
-                    start: field.start,
-                    sign: quote,
-                    region: Some(field.region),
-                    is_long: field.host.is_long,
-                    is_raw: field.host.is_raw,
-                }
-            }
-        }
-    }
-
-    /// The bracket or the field.
-    fn frame(self) -> Frame
-        ensures { result ≡ frame_of self }
-    {
-        match self.region {
-            None => Frame::Bracket(self.sign, self.place),
-            Some(region) => Frame::Field(OpenField {
-                place: self.place,
-                host: StringWithFields {
-                    quote: self.sign,
-                    is_long: self.is_long,
-                    is_raw: self.is_raw,
-                },
-                region,
-                start: self.start,
-            }),
-        }
-    }
-}
-
 /// The brackets and fields that are open. No text has more than 200 of them open at once.
 #[derive(Drop)]
 pub struct Frames {
     /// They, the innermost last. What stands after them counts for nothing.
-    slots: [Slot; 200],
+    frames: [Frame; 200],
     /// How many they are.
     depth: u8,
     /// How many of them are fields.
@@ -123,21 +55,21 @@ pub struct Frames {
 
 // Clauses see what is open, the innermost first.
 impl Model for Frames {
-    ghost use Rattle.std.specs.Prelude.{◌≡◌, ◌≤◌, List, length, take};
+    ghost use Rattle.std.specs.Prelude.{◌≡◌, ◌≤◌, List, length, reverse, take};
     ghost use Rattle.py_lines.specs.declared.frames.Frame.{Frame};
-    ghost use Rattle.py_lines.specs.Private.Frames.{AreNested, fields_of, frames_in};
+    ghost use Rattle.py_lines.specs.Private.Frames.{AreNested, fields_of};
 
     ghost Value = { List Frame };
 
-    ghost view = { λ f. frames_in (take f.depth f.slots) };
+    ghost view = { λ f. reverse (take f.depth f.frames) };
 
-    ghost invariant = { λ f. (length f.slots ≡ 200) × (f.depth ≤ 200)
-        × AreNested (frames_in (take f.depth f.slots))
-        × (f.fields ≡ fields_of (frames_in (take f.depth f.slots))) };
+    ghost invariant = { λ f. (length f.frames ≡ 200) × (f.depth ≤ 200)
+        × AreNested (reverse (take f.depth f.frames))
+        × (f.fields ≡ fields_of (reverse (take f.depth f.frames))) };
 }
 
 impl Frames {
-    ghost use Rattle.std.specs.Prelude.{◌≡◌, ◌==◌, ◌<◌, List, [], ◌∷◌, drop, length};
+    ghost use Rattle.std.specs.Prelude.{◌≡◌, ◌==◌, ◌<◌, ◌≤◌, List, [], ◌∷◌, drop, length};
     ghost use Rattle.py_lines.specs.Private.Frames.{ClosesBracket, IsInnermostFrame, OpensBracket, OpensIn};
     ghost use Rattle.py_lines.specs.Private.Frames.{has_field, place_of};
     ghost use Rattle.py_lines.specs.declared.frames.Frame.{Frame};
@@ -147,16 +79,8 @@ impl Frames {
         ensures { result ≡ [] }
     {
         // All is zero, so the compiler fills the array without a loop.
-        let empty = Slot {
-            place: 0,
-            start: 0,
-            sign: '\0',
-            region: None,
-            is_long: false,
-            is_raw: false,
-        };
         Frames {
-            slots: [empty; 200],
+            frames: [Frame::Bracket('\0', 0); 200],
             depth: 0,
             fields: 0,
         }
@@ -181,7 +105,8 @@ impl Frames {
     /// How many brackets and fields are open.
     #[tactic(auto, using(crate::proofs::FieldScans::FrameArrays::first_frames_length))]
     pub fn len(&self) -> usize
-        ensures { result ≡ length self.now }
+        ensures is { result ≡ length self.now }
+        ensures few { result ≤ 200 }
     {
         self.depth as usize
     }
@@ -201,7 +126,7 @@ impl Frames {
         if self.depth == 0 {
             return None;
         }
-        Some(self.slots[self.depth as usize - 1].frame())
+        Some(self.frames[self.depth as usize - 1])
     }
 
     /// The byte of what was opened last, if something is open.
@@ -209,7 +134,10 @@ impl Frames {
         ensures { (frame : Frame) (others : List Frame)
             → self.now ≡ frame ∷ others → result ≡ place_of frame }
     {
-        self.slots[self.depth.saturating_sub(1) as usize].place
+        match self.frames[self.depth.saturating_sub(1) as usize] {
+            Frame::Bracket(_, place) => place,
+            Frame::Field(field) => field.place,
+        }
     }
 
     /// Opens a bracket or a field.
@@ -219,7 +147,7 @@ impl Frames {
         requires opens { OpensIn frame self.old }
         ensures { self.new ≡ frame ∷ self.old }
     {
-        self.slots[self.depth as usize] = Slot::of(frame);
+        self.frames[self.depth as usize] = frame;
         self.depth += 1;
         if let Frame::Field(_) = frame {
             self.fields += 1;

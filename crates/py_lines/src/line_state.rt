@@ -1,5 +1,6 @@
 //! Where a reader of logical lines stands. `Lines` and `Scanner` have it in common.
 
+ghost use Rattle.py_lines.specs.Private.LineScan.{first_open};
 ghost use Rattle.py_lines.specs.Private.LineState.{first_mode};
 ghost use Rattle.std.specs.Prelude.{◌≡◌, ℕ, ◌+◌, ◌<◌, ◌^◌, length, IfOk, OnOk};
 
@@ -7,13 +8,13 @@ use crate::fault::{Fault, FaultKind, LexError};
 use crate::line_ends::line_ends;
 use crate::line_tokens::LineTokens;
 use crate::mode::Mode;
-use crate::scan::{LineFault, Scan};
+use crate::scan::Scan;
 use crate::unit::Unit;
 use std::alloc::{AllocError, Global};
 
 /// What is open where a line begins at this byte: a mark may stand at the text's start.
 fn first_mode(place: u64) -> Mode
-    ensures { result ≡ first_mode place }
+    ensures { result ≡ first_open (first_mode place) }
 {
     if place == 0 { Mode::Start } else { Mode::Free }
 }
@@ -36,7 +37,7 @@ pub struct LineState {
 impl LineState {
     ghost use Rattle.py_lines.specs.Token.{EachLiesIn};
     ghost use Rattle.py_lines.specs.UnitLine.{line_in};
-    ghost use Rattle.py_lines.specs.Private.LineState.{BeginsAnew, BeginsAt, IsEndLineFault, KeepsFault};
+    ghost use Rattle.py_lines.specs.Private.LineState.{BeginsAnew, BeginsAt, KeepsFault};
     ghost use Rattle.py_lines.specs.Private.LineState.{first_mode, passed, read_line, with_tokens};
     ghost use Rattle.py_lines.specs.Private.LineTokens.{HoldsTokens, IsLineAfter, IsLineText};
 
@@ -98,20 +99,6 @@ impl LineState {
         };
         self.fault = Some(fault);
         LexError::Fault(fault)
-    }
-
-    /// What is wrong where the text ends so many bytes after the characters that were scanned, if anything is. Such bytes
-    /// begin no character.
-    pub fn end_fault(&self, rest: usize) -> Option<LineFault>
-        ensures { IsEndLineFault self.now.scan rest result }
-    {
-        if rest > 0 {
-            return Some(LineFault {
-                kind: FaultKind::BadUtf8,
-                place: self.scan.stop,
-            });
-        }
-        self.scan.unfinished()
     }
 
     /// The line whose tokens were read: this text at this byte and on this line, with so many bytes of line end.

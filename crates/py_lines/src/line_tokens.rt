@@ -2,7 +2,7 @@
 
 ghost use Rattle.std.specs.Prelude.{◌≡◌, ℕ, ◌+◌, ◌<◌, ◌^◌, true, [], drop, length, take, IfOk, OnOk};
 ghost use Rattle.std.specs.Char.{is_ascii_digit};
-ghost use Rattle.py_lines.specs.Character.{is_quote, is_space};
+ghost use Rattle.py_lines.specs.Character.{is_break, is_quote, is_space};
 ghost use Rattle.py_lines.specs.Piece.{Piece, begins};
 ghost use Rattle.py_lines.specs.Private.Run.{IsRunOf, is_wide_word, word_spelling};
 ghost use Rattle.py_lines.specs.Private.ScanMachine.{is_field_spelling};
@@ -10,10 +10,11 @@ ghost use Rattle.py_lines.specs.Private.LineTokens.{AddsPiece, BeginWithPiece, B
 ghost use Rattle.py_lines.specs.Private.LineTokens.{HoldsTokens, IsFirstPiece, IsFirstString, IsLineAfter, IsLineText};
 ghost use Rattle.py_lines.specs.Private.LineTokens.{ends_prefix, is_prefix_word, kind_with, line_end_len, mark_len, token_piece, word_kind};
 
-use crate::character::{is_line_feed, is_quote, is_return, is_space};
+use crate::character::{is_quote, is_space};
 use crate::class::Class;
 use crate::line_ends::line_ends;
 use crate::mode::{Mode, Spelling};
+use crate::outline::outer_end_len;
 use crate::plain_strings::plain_string;
 use crate::run::{ByteRun, comment_run};
 use crate::scan::Scan;
@@ -59,13 +60,10 @@ impl LinePiece {
 
 /// How many bytes the line end has that the bytes begin with: LF, CR LF or CR.
 fn whole_line_end(bytes: &[u8]) -> usize
+    requires { begins is_break bytes.now ≡ true }
     ensures { result ≡ line_end_len bytes.now }
 {
-    if bytes.len() > 1 && is_return(bytes[0] as char) && is_line_feed(bytes[1] as char) {
-        2
-    } else {
-        1
-    }
+    outer_end_len(bytes).unwrap_or(1)
 }
 
 /// The string that the bytes begin with, with fields or without, whose prefix has so many of them, or none. Where it is simple, it is

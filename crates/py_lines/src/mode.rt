@@ -1,17 +1,13 @@
-//! The piece of code that is open, and what a character does to it.
+//! What is open at a place of a line.
 
-ghost use Rattle.std.specs.Prelude.{◌≡◌, ◌<◌, ◌==◌, ◌||◌, ◌&&◌, if◌then◌else◌, length};
-ghost use Rattle.py_lines.specs.Private.Machine.{first_spelling, spelling_with, short_move, long_move};
-ghost use Rattle.py_lines.specs.Private.Machine.{start_of};
-ghost use Rattle.py_lines.specs.Private.ScanMachine.{is_field_spelling, is_raw_spelling, begins_string, quote_move};
+ghost use Rattle.std.specs.Prelude.{◌≡◌, ◌<◌, length};
+ghost use Rattle.py_lines.specs.Private.Machine.{first_spelling, spelling_with};
+ghost use Rattle.py_lines.specs.Private.ScanMachine.{is_field_spelling, is_raw_spelling, begins_string};
 ghost use Rattle.py_lines.specs.Private.Run.{word_spelling};
-ghost use Rattle.py_lines.specs.Private.Scan.{piece_move};
+ghost use Rattle.py_lines.specs.Private.Scan.{grown, is_free_mode, is_text, string_mode};
 
-use crate::character::{
-    is_backslash, is_break, is_line_feed, is_mark, is_quote, is_return, is_space, is_word_character,
-};
-use crate::class::Class;
-use crate::host::StringWithFields;
+use crate::character::{is_break, is_space, is_word_character};
+use crate::host::{Region, StringWithFields};
 
 /// Whether a word may be the prefix of a string, as far as it goes.
 #[derive(Clone, Copy)]
@@ -36,71 +32,28 @@ pub enum Spelling {
     Name,
 }
 
-/// The piece of code that is open, and how far it has come. A `char` is the quote of the string.
+/// What is open. A `char` is the quote of a string.
 #[derive(Clone, Copy)]
 pub enum Mode {
     /// At the text's start, where a mark may stand.
     Start,
-    /// No piece is open.
+    /// No piece.
     Free,
     Space,
     Word(Spelling),
     Comment,
-    /// After one quote.
-    Opened(char),
-    /// In a short string that holds something.
-    Inside(char),
-    /// After a backslash in a short string.
-    Escape(char),
-    /// After a backslash and CR in a short string: LF may belong to them.
-    EscapeReturn(char),
-    /// After two quotes.
-    Empty(char),
-    /// In a long string, not after a quote of its kind.
+    /// The text of a short string without fields.
+    Short(char),
+    /// The text of a string of three quotes without fields.
     Long(char),
-    /// In a long string, after one quote of its kind.
-    LongOne(char),
-    /// In a long string, after two quotes of its kind.
-    LongTwo(char),
-    /// After a backslash in a long string.
-    LongEscape(char),
-    /// After one quote of a string with fields.
-    FieldOpened(StringWithFields),
-    /// After two quotes of a string with fields.
-    FieldEmpty(StringWithFields),
-    /// In a string with fields that holds something, or that three quotes begin, for definitions to which that is one piece. In the code it
-    /// is a `FieldMode::Body`.
-    Fielded,
-    /// After a backslash outside strings and comments.
-    Backslash,
-    /// After a backslash and CR: LF may belong to them.
-    JoinReturn,
-    /// After CR: LF may belong to it.
-    Return,
-}
-
-/// What a character does to the piece that is open.
-#[derive(Clone, Copy)]
-pub enum Move {
-    Grows(Mode),
-    Closes,
-    Breaks,
-    Refused,
-}
-
-/// What a character begins.
-#[derive(Clone, Copy)]
-pub enum Start {
-    Open(Mode),
-    Operator,
-    LineEnd,
-    Nothing,
+    /// The text of a string with fields. The flag says whether each brace stands for itself, up to the next `}`.
+    Fields(StringWithFields, Region, bool),
 }
 
 impl Spelling {
     /// The spelling of a word that begins with `c`.
     #[tactic(auto, unfolding(crate::specs::Private::Machine::first_spelling, crate::specs::Character::is_digit, crate::specs::Character::is_r, crate::specs::Character::is_b, crate::specs::Character::is_f, crate::specs::Character::is_t, crate::specs::Character::is_u))]
-    fn of(c: char) -> Spelling
+    pub fn of(c: char) -> Spelling
         ensures { result ≡ first_spelling c }
     {
         match c {
@@ -168,118 +121,49 @@ impl Spelling {
     }
 }
 
-/// What a quote does after a word.
-#[tactic(auto, unfolding(crate::specs::Private::ScanMachine::quote_move))]
-fn quote_move(spelling: Spelling, quote: char) -> Move
-    ensures { result ≡ quote_move spelling quote }
-{
-    if spelling.has_fields() {
-        Move::Grows(Mode::FieldOpened(StringWithFields {
-            quote,
-            is_long: false,
-            is_raw: spelling.is_raw(),
-        }))
-    } else if spelling.is_prefix() {
-        Move::Grows(Mode::Opened(quote))
-    } else {
-        Move::Breaks
-    }
-}
-
-/// What a character does in a short string, where its quote does this.
-#[tactic(auto, unfolding(crate::specs::Private::Machine::short_move))]
-fn short_move(quote: char, c: char, at_quote: Move) -> Move
-    ensures { result ≡ (if c == quote then at_quote else short_move quote c) }
-{
-    if c == quote {
-        at_quote
-    } else if is_backslash(c) {
-        Move::Grows(Mode::Escape(quote))
-    } else if is_break(c) {
-        Move::Refused
-    } else {
-        Move::Grows(Mode::Inside(quote))
-    }
-}
-
-/// What a character does in a long string, where a quote of its kind does this.
-#[tactic(auto, unfolding(crate::specs::Private::Machine::long_move))]
-fn long_move(quote: char, c: char, at_quote: Move) -> Move
-    ensures { result ≡ (if c == quote then at_quote else long_move quote c) }
-{
-    if c == quote {
-        at_quote
-    } else if is_backslash(c) {
-        Move::Grows(Mode::LongEscape(quote))
-    } else {
-        Move::Grows(Mode::Long(quote))
-    }
-}
-
 impl Mode {
-    /// What the next character does to the open piece. Strings with fields are not told here.
-    #[tactic(auto, unfolding(crate::specs::Private::Machine::move_of, crate::specs::Private::ScanMachine::meet_of))]
-    pub fn meet(self, c: char) -> Move
-        ensures { result ≡ piece_move self c }
+    /// Whether no piece is open, after the text's start.
+    #[inline(always)]
+    pub fn is_free(self) -> bool
+        ensures { result ≡ is_free_mode self }
+    {
+        matches!(self, Mode::Free)
+    }
+
+    /// Whether a string's text is open.
+    pub fn is_text(self) -> bool
+        ensures { result ≡ is_text self }
+    {
+        matches!(self, Mode::Short(_) | Mode::Long(_) | Mode::Fields(_, _, _))
+    }
+
+    /// The word, the space or the comment that is open with one more character, if that is a part of it.
+    pub fn with(self, c: char) -> Option<Mode>
+        ensures { result ≡ grown self c }
     {
         match self {
-            Mode::Start if is_mark(c) => Move::Closes,
-            Mode::Start => Move::Breaks,
-            Mode::Free => Move::Breaks,
-            Mode::Space if is_space(c) => Move::Grows(Mode::Space),
-            Mode::Space => Move::Breaks,
-            Mode::Word(spelling) if is_word_character(c) => Move::Grows(Mode::Word(spelling.with(
-                c,
-            ))),
-            Mode::Word(spelling) if is_quote(c) => quote_move(spelling, c),
-            Mode::Word(_) => Move::Breaks,
-            Mode::Comment if is_break(c) => Move::Breaks,
-            Mode::Comment => Move::Grows(Mode::Comment),
-            Mode::Opened(quote) => short_move(quote, c, Move::Grows(Mode::Empty(quote))),
-            Mode::Inside(quote) => short_move(quote, c, Move::Closes),
-            Mode::Escape(quote) if is_return(c) => Move::Grows(Mode::EscapeReturn(quote)),
-            Mode::Escape(quote) => Move::Grows(Mode::Inside(quote)),
-            Mode::EscapeReturn(quote) if is_line_feed(c) => Move::Grows(Mode::Inside(quote)),
-            Mode::EscapeReturn(quote) => short_move(quote, c, Move::Closes),
-            Mode::Empty(quote) if c == quote => Move::Grows(Mode::Long(quote)),
-            Mode::Empty(_) => Move::Breaks,
-            Mode::Long(quote) => long_move(quote, c, Move::Grows(Mode::LongOne(quote))),
-            Mode::LongOne(quote) => long_move(quote, c, Move::Grows(Mode::LongTwo(quote))),
-            Mode::LongTwo(quote) => long_move(quote, c, Move::Closes),
-            Mode::LongEscape(quote) => Move::Grows(Mode::Long(quote)),
-            Mode::FieldOpened(_) | Mode::FieldEmpty(_) | Mode::Fielded => Move::Refused,
-            Mode::Backslash if is_line_feed(c) => Move::Closes,
-            Mode::Backslash if is_return(c) => Move::Grows(Mode::JoinReturn),
-            Mode::Backslash => Move::Refused,
-            Mode::JoinReturn | Mode::Return if is_line_feed(c) => Move::Closes,
-            Mode::JoinReturn | Mode::Return => Move::Breaks,
+            Mode::Space if is_space(c) => Some(self),
+            Mode::Word(spelling) if is_word_character(c) => Some(Mode::Word(spelling.with(c))),
+            Mode::Comment if !is_break(c) => Some(self),
+            _ => None,
         }
     }
-}
 
-impl Start {
-    /// What a character begins where no piece is open.
-    #[inline(always)]
-    pub fn of(c: char) -> Start
-        ensures { result ≡ start_of c }
+    /// In the text of the string that this quote begins after such a word.
+    pub fn of_string(spelling: Spelling, quote: char, is_long: bool) -> Mode
+        ensures { result ≡ string_mode spelling quote is_long }
     {
-        if !c.is_ascii() {
-            return if unicode_ident::is_xid_start(c) {
-                Start::Open(Mode::Word(Spelling::Name))
-            } else {
-                Start::Nothing
+        if spelling.has_fields() {
+            let host = StringWithFields {
+                quote,
+                is_long,
+                is_raw: spelling.is_raw(),
             };
-        }
-        match Class::of(c as u8) {
-            Class::Word => Start::Open(Mode::Word(Spelling::of(c))),
-            Class::Space => Start::Open(Mode::Space),
-            Class::Operator | Class::Opening | Class::Closing => Start::Operator,
-            Class::LineFeed => Start::LineEnd,
-            Class::Return => Start::Open(Mode::Return),
-            Class::Quote => Start::Open(Mode::Opened(c)),
-            Class::Hash => Start::Open(Mode::Comment),
-            Class::Backslash => Start::Open(Mode::Backslash),
-            Class::Wide | Class::Other => Start::Nothing,
+            Mode::Fields(host, Region::Literal, false)
+        } else if is_long {
+            Mode::Long(quote)
+        } else {
+            Mode::Short(quote)
         }
     }
 }

@@ -11,7 +11,7 @@ use crate::frames::Frames;
 use crate::line_ends::line_ends;
 use crate::passing::{Passing, Special};
 use crate::plain_strings::plain_string;
-use crate::prefix::Prefix;
+use crate::prefix::word_before;
 use crate::run::whole_comment;
 use crate::whole_strings::quoted_text_len;
 
@@ -22,8 +22,6 @@ pub struct PassedPiece {
     pub len: usize,
     /// How many line ends.
     pub line_ends: u64,
-    /// Whether it is known that no piece is open after it.
-    pub closes: bool,
 }
 
 /// Lines that were passed.
@@ -45,10 +43,10 @@ pub fn outer_end_len(bytes: &[u8]) -> Option<usize>
     if bytes[0] == b'\n' {
         return Some(1);
     }
-    if bytes.len() > 1 && bytes[0] == b'\r' {
-        return Some(1 + (bytes[1] == b'\n') as usize);
+    if bytes.len() < 2 || bytes[0] != b'\r' {
+        return None;
     }
-    None
+    if bytes[1] == b'\n' { Some(2) } else { Some(1) }
 }
 
 /// Passes the string whose first quote stands at this byte, where it is simple.
@@ -59,23 +57,17 @@ fn string(bytes: &[u8], at: usize) -> Option<PassedPiece>
     ensures { PassesPiece bytes.now at result }
 {
     let rest = &bytes[at..];
-    let (len, line_ends) = match Prefix::before(bytes, at) {
-        Prefix::Plain => {
+    let (len, line_ends) = match word_before(bytes, at) {
+        Some(spelling) if !spelling.is_prefix() => return None,
+        Some(spelling) if spelling.has_fields() => (quoted_text_len(rest)?, 0),
+        _ => {
             let len = plain_string(rest)?;
             // Only a string of three quotes holds line ends.
             let is_long = rest.len() > 2 && rest[1] == rest[0] && rest[2] == rest[0];
             (len, if is_long { line_ends(&rest[..len]) } else { 0 })
         }
-        Prefix::Fields => (quoted_text_len(rest)?, 0),
-        Prefix::Other => return None,
     };
-    // A third quote may follow two.
-    let closes = len > 2;
-    Some(PassedPiece {
-        len,
-        line_ends,
-        closes,
-    })
+    Some(PassedPiece { len, line_ends })
 }
 
 /// Passes the comment, the join or the string that begins at this byte. Most are passed by the marks alone: it is apart from the loop over
@@ -93,7 +85,6 @@ pub fn piece(bytes: &[u8], class: Class, at: usize) -> Option<PassedPiece>
             Some(PassedPiece {
                 len: 1 + text,
                 line_ends: 0,
-                closes: false,
             })
         }
         // A join of two lines (Python Language Reference, 2.1.5).
@@ -102,7 +93,6 @@ pub fn piece(bytes: &[u8], class: Class, at: usize) -> Option<PassedPiece>
             Some(PassedPiece {
                 len: 1 + line_end,
                 line_ends: 1,
-                closes: rest[line_end] == b'\n',
             })
         }
         Class::Quote => string(bytes, at),

@@ -1,9 +1,9 @@
 //! Bytes of a line that are passed over at once, from one that isn't plain to the next.
 
 ghost use Rattle.std.specs.Prelude.{◌≡◌, ℕ, ◌+◌, ◌<◌, ◌≤◌, ◌^◌, Bool, false, true, IsTrue, List, length, slice_index};
-ghost use Rattle.py_lines.specs.Character.{is_hash, is_quote};
+ghost use Rattle.py_lines.specs.Character.{is_hash, is_quote, is_return};
 ghost use Rattle.py_lines.specs.Private.Marks.{HasMarks, is_of_class};
-ghost use Rattle.py_lines.specs.Private.Passing.{IsLineEndAt, IsMet, PassesMarked, PassesSpecial};
+ghost use Rattle.py_lines.specs.Private.Passing.{IsLineEndAt, PassesMarked, PassesSpecial};
 ghost use Rattle.py_lines.specs.Private.Passing.{nothing_passed, passed_to};
 ghost use Rattle.py_lines.specs.declared.marks.Marks.{Marks};
 
@@ -11,8 +11,8 @@ use crate::character::is_break;
 use crate::class::Class;
 use crate::frames::Frames;
 use crate::marks::Marks;
-use crate::outline::{outer_end_len, piece};
-use crate::prefix::Prefix;
+use crate::outline::piece;
+use crate::prefix::word_before;
 use crate::whole_strings::MAX_DEPTH_AROUND_STRING;
 
 /// What a byte that isn't plain came to.
@@ -33,8 +33,6 @@ pub struct Passing {
     pub all: usize,
     /// How many line ends they hold.
     pub line_ends: u64,
-    /// After so many of them it is known that no piece is open.
-    pub closed: usize,
     /// The bytes after them that are not plain.
     pub marks: Marks,
 }
@@ -49,37 +47,32 @@ impl Passing {
         Passing {
             all: 0,
             line_ends: 0,
-            closed: 0,
             marks: Marks::at(bytes, 0),
         }
     }
 
-    /// Passes the bytes up to this one, with so many line ends. It may be known that no piece is open there.
+    /// Passes the bytes up to this one, with so many line ends.
     #[inline(always)]
-    pub fn pass_to(&mut self, to: usize, line_ends: u64, closes: bool)
+    fn pass_to(&mut self, to: usize, line_ends: u64)
         requires { self.old.line_ends + line_ends < 2 ^ 64 }
-        ensures { self.new ≡ passed_to self.old to line_ends closes }
+        ensures { self.new ≡ passed_to self.old to line_ends }
     {
         self.all = to;
         self.line_ends += line_ends;
-        if closes {
-            self.closed = to;
-        }
     }
 
-    /// Passes the line end of so many bytes at this byte, where the bytes after it are marked. Whether LF is the last of them has to be
-    /// told: after CR alone the scan has a piece open.
+    /// Passes the line end of so many bytes at this byte, where the bytes after it are marked.
     #[inline(always)]
-    fn pass_line_end(&mut self, frames: &Frames, at: usize, len: usize, by_feed: bool) -> Special
+    fn pass_line_end(&mut self, frames: &Frames, at: usize, len: usize) -> Special
         requires some { 0 < len }
         requires fits { at + len < 2 ^ 64 }
         requires few { self.old.line_ends ≤ at }
         ensures { (bytes : List ℕ) (place : ℕ) (marks : Marks)
-            → IsLineEndAt bytes at len by_feed → HasMarks bytes (at + len) self.old.marks
+            → IsLineEndAt bytes at len → HasMarks bytes (at + len) self.old.marks
             → PassesSpecial bytes at place (record self.old { marks = marks }) frames.now result
             self.new frames.now }
     {
-        self.pass_to(at + len, 1, by_feed);
+        self.pass_to(at + len, 1);
         if frames.is_empty() {
             Special::LineEnd(len)
         } else {
@@ -91,31 +84,20 @@ impl Passing {
     #[inline(always)]
     fn pass_return(&mut self, frames: &Frames, bytes: &[u8], at: usize) -> Special
         requires within { at < length bytes.now }
+        requires returns { is_return (slice_index bytes.now at) ≡ true }
         requires marked { HasMarks bytes.now (at + 1) self.old.marks }
         requires few { self.old.line_ends ≤ at }
         ensures { (place : ℕ)
             → PassesSpecial bytes.now at place self.old frames.now result self.new frames.now }
     {
-        let Some(len) = outer_end_len(&bytes[at..]) else {
-            return Special::Unpassed;
-        };
-        self.marks.pass(bytes, at + len);
-        let by_feed = bytes[at + len - 1] == b'\n';
-        self.pass_line_end(frames, at, len, by_feed)
-    }
-
-    /// Passes the bracket at this byte, if it may stand there.
-    #[inline(always)]
-    fn pass_bracket(&mut self, met: bool, at: usize) -> Special
-        requires fits { at + 1 < 2 ^ 64 }
-        requires few { self.old.line_ends ≤ at }
-        ensures { IsMet met at self.old result self.new }
-    {
-        if !met {
+        if at + 1 == bytes.len() {
             return Special::Unpassed;
         }
-        self.pass_to(at + 1, 0, true);
-        Special::Passed
+        if bytes[at + 1] != b'\n' {
+            return self.pass_line_end(frames, at, 1);
+        }
+        self.marks.pass(bytes, at + 2);
+        self.pass_line_end(frames, at, 2)
     }
 
     /// Passes the string that the quote at this byte begins, if it has no fields and the next byte that isn't plain closes it: whether
@@ -134,11 +116,13 @@ impl Passing {
         if end >= bytes.len() || bytes[end] != bytes[at] || end == at + 1 {
             return false;
         }
-        let Prefix::Plain = Prefix::before(bytes, at) else {
-            return false;
-        };
+        if let Some(spelling) = word_before(bytes, at) {
+            if spelling.has_fields() || !spelling.is_prefix() {
+                return false;
+            }
+        }
         self.marks = marks;
-        self.pass_to(end + 1, 0, true);
+        self.pass_to(end + 1, 0);
         true
     }
 
@@ -162,7 +146,7 @@ impl Passing {
         }
         marks.keep(end);
         self.marks = marks;
-        self.pass_to(end, 0, false);
+        self.pass_to(end, 0);
         true
     }
 
@@ -193,7 +177,7 @@ impl Passing {
         };
         let to = at + piece.len;
         self.marks.pass(bytes, to);
-        self.pass_to(to, piece.line_ends, piece.closes);
+        self.pass_to(to, piece.line_ends);
         Special::Passed
     }
 
@@ -206,12 +190,18 @@ impl Passing {
         ensures { PassesSpecial bytes.now at place self.old frames.old result
             self.new frames.new }
     {
-        match Class::of(bytes[at]) {
-            Class::LineFeed => self.pass_line_end(frames, at, 1, true),
-            Class::Return => self.pass_return(frames, bytes, at),
-            Class::Opening => self.pass_bracket(frames.open(bytes[at] as char, place), at),
-            Class::Closing => self.pass_bracket(frames.close(bytes[at] as char), at),
-            class => self.pass_piece(frames, bytes, class, at),
+        let class = Class::of(bytes[at]);
+        let met = match class {
+            Class::LineFeed => return self.pass_line_end(frames, at, 1),
+            Class::Return => return self.pass_return(frames, bytes, at),
+            Class::Opening => frames.open(bytes[at] as char, place),
+            Class::Closing => frames.close(bytes[at] as char),
+            _ => return self.pass_piece(frames, bytes, class, at),
+        };
+        if !met {
+            return Special::Unpassed;
         }
+        self.pass_to(at + 1, 0);
+        Special::Passed
     }
 }

@@ -3,7 +3,8 @@
 ghost use Rattle.std.specs.Prelude.{◌≡◌, ℕ, ◌<◌, ◌≤◌, ◌==◌, ◌&&◌, length, nat_lt};
 ghost use Rattle.py_lines.specs.Character.{is_space};
 ghost use Rattle.py_lines.specs.declared.mode.Mode.TheVariants.{Word};
-ghost use Rattle.py_lines.specs.Private.Run.{CountsSet, HasAsciiQuote, IsRunOf, IsWholeComment};
+ghost use Rattle.py_lines.specs.Private.Scan.{HasQuote};
+ghost use Rattle.py_lines.specs.Private.Run.{CountsSet, IsRunOf, IsWholeComment};
 ghost use Rattle.py_lines.specs.Private.Run.{Marks, Spans, is_between, is_in_run, is_ascii_word};
 ghost use Rattle.py_lines.specs.Private.Run.{is_comment_byte, is_body_byte, is_text_byte, is_literal_byte};
 ghost use Rattle.py_lines.specs.Private.Run.{is_long_byte};
@@ -263,14 +264,14 @@ pub fn long_characters(quote: u8, bytes: &[u8]) -> usize
     characters_of(ByteRun::LongText(quote), ByteRun::Long(quote), bytes)
 }
 
-/// How many bytes of whole characters a text begins with that leave the open piece as it is.
+/// How many bytes of whole characters a text begins with that leave the open piece as it is, where that is no string with fields.
 #[inline(always)]
 pub fn characters_in(mode: Mode, bytes: &[u8]) -> usize
-    requires quote { HasAsciiQuote mode }
+    requires quote { HasQuote mode }
     ensures { Spans (stays mode) bytes.now result }
 {
     match mode {
-        Mode::Inside(quote) => body_characters(quote as u8, bytes),
+        Mode::Short(quote) => body_characters(quote as u8, bytes),
         Mode::Long(quote) => long_characters(quote as u8, bytes),
         Mode::Comment => utf8_len(&bytes[..comment_run(bytes)]),
         Mode::Space => ByteRun::Space.len_in(bytes),

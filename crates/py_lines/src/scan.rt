@@ -1,32 +1,34 @@
-//! The scan of a line: what is open where it stops, a piece of the line's code or of a string with fields, and the brackets and fields
-//! round it.
+//! The scan of a line: what is open where it stops, a piece of the line's code or the text of a string, and the brackets and fields round
+//! it. It takes a line item after item, and stops before one that the bytes don't tell whole.
 
-ghost use Rattle.std.specs.Prelude.{◌≡◌, ◌==◌, ◌&&◌, ◌+◌, ◌<◌, ◌≤◌, ◌^◌, true, length, nat_lt};
-ghost use Rattle.std.specs.Char.{len_utf8};
-ghost use Rattle.py_lines.specs.Balance.{is_opening};
-ghost use Rattle.py_lines.specs.Private.FieldFaults.{is_waiting};
-ghost use Rattle.py_lines.specs.Private.Scan.{line_end_progress, mode_from};
-ghost use Rattle.py_lines.specs.Private.ScanMachine.{host_in};
+ghost use Rattle.std.specs.Prelude.{◌≡◌, ◌==◌, ◌+◌, ◌<◌, ◌≤◌, ◌^◌, None, Some, false, true, length, nat_lt, slice_index};
+ghost use Rattle.py_lines.specs.Character.{is_backslash, is_operator, is_quote};
+ghost use Rattle.py_lines.specs.Piece.{begins};
 
-use crate::character::{is_break, is_closing, is_opening, is_quote};
+use crate::character::{is_backslash, is_closing, is_mark, is_opening, is_quote};
+use crate::class::Class;
 use crate::fault::FaultKind;
-use crate::field_mode::{At, FieldMode, FieldMove};
 use crate::frames::{Frame, Frames, MAX_DEPTH, OpenField};
 use crate::host::{Region, StringWithFields};
-use crate::mode::{Mode, Start};
+use crate::mode::{Mode, Spelling};
+use crate::outline::outer_end_len;
 use crate::run::{ByteRun, characters_in};
+use crate::string_text::{TextMove, fields_move, quotes_len, text_move};
+use crate::utf8::{first_character, utf8_prefix};
 use crate::whole_pieces::last_operator_end;
-use crate::whole_strings::text_len;
+use crate::whole_strings::{literal_run, text_len};
 
-/// What a character came to.
+/// What the next bytes came to.
 #[derive(Clone, Copy)]
 pub enum Progress {
-    /// It was taken, and the line goes on.
-    Going,
-    /// The line ended with it: so many bytes are its line end.
+    /// So many of them were taken, and the line goes on.
+    Going(usize),
+    /// The line ended with the first of them: so many are its line end.
     LineEnded(usize),
-    /// It may not come next.
-    Refused,
+    /// They don't tell yet. None was taken.
+    Waits,
+    /// This is wrong.
+    Wrong(LineFault),
 }
 
 /// Where the scan of a line stopped.
@@ -34,10 +36,10 @@ pub enum Progress {
 pub enum Stop {
     /// After the line: so many bytes are its line end.
     LineEnd(usize),
-    /// Where the next bytes, if there are any, begin no character.
+    /// Before bytes that don't tell what they are, or after all.
     TextEnd,
-    /// Before a character that may not come next.
-    Refused(char),
+    /// Where this is wrong.
+    Wrong(LineFault),
 }
 
 /// What is wrong in a line.
@@ -52,9 +54,9 @@ pub struct LineFault {
 /// What is open where the scan of a line stops. Places are bytes from the line's start.
 #[derive(Drop)]
 pub struct Scan {
-    /// The piece that is open.
-    pub mode: FieldMode,
-    /// The byte at which it begins: that of the string, if a string's text is open.
+    /// What is open, the brackets and fields aside.
+    pub mode: Mode,
+    /// The byte at which the open piece begins: that of the string, if a string's text is open.
     pub start: usize,
     /// The brackets and fields that are open.
     pub frames: Frames,
@@ -63,26 +65,25 @@ pub struct Scan {
 }
 
 impl Scan {
-    ghost use Rattle.std.specs.Prelude.{ℕ, false, Some, [], drop};
-    ghost use Rattle.py_lines.specs.Private.Machine.{start_of};
-    ghost use Rattle.py_lines.specs.Private.FieldMachine.{closes, breaks, begins_code, opens_field, ends_field};
-    ghost use Rattle.py_lines.specs.Private.Scan.{EndsCode, EndsField, HoldsField, HoldsRun, IsInPlace};
-    ghost use Rattle.py_lines.specs.Private.Scan.{PushesField, RefusesField, StandsInText, TakesMove};
-    ghost use Rattle.py_lines.specs.Private.Scan.{ended_in, ends_piece_before, entered, freed, is_returned, is_settled, opened_at, passed, with_bytes};
+    ghost use Rattle.std.specs.Prelude.{drop};
+    ghost use Rattle.std.specs.Char.{len_utf8};
+    ghost use Rattle.py_lines.specs.Balance.{is_opening};
     ghost use Rattle.py_lines.specs.Private.Frames.{InField, IsInnermostFrame, StandsIn, has_field};
-    ghost use Rattle.py_lines.specs.Private.Run.{HasAsciiQuoteOpen};
-    ghost use Rattle.py_lines.specs.declared.mode.Mode.TheVariants.{Free};
-    ghost use Rattle.py_lines.specs.declared.mode.Start.TheVariants.{Operator};
-    ghost use Rattle.py_lines.specs.declared.field_mode.FieldMode.TheVariants.{Code};
-    ghost use Rattle.py_lines.specs.declared.scan.Progress.TheVariants.{Refused};
+    ghost use Rattle.py_lines.specs.Private.Run.{BeginsWith};
+    ghost use Rattle.py_lines.specs.Private.Scan.{DoesText, EndsField, EndsOpen, EndsTextSo, HasPending, HasQuote};
+    ghost use Rattle.py_lines.specs.Private.Scan.{HoldsRun, IsInPlace, IsPending, OpensField, Steps, TakesOperator};
+    ghost use Rattle.py_lines.specs.Private.Scan.{begun_at, ended_in, ends_before, is_settled, is_text};
+    ghost use Rattle.py_lines.specs.Private.Scan.{line_end_progress, mode_from, opened_at, passed, wrong_here};
+    ghost use Rattle.py_lines.specs.declared.mode.Mode.TheVariants.{Fields, Free};
     ghost use Rattle.py_lines.specs.declared.frames.Frame.{Frame};
+    ghost use Rattle.py_lines.specs.declared.scan.Progress.TheVariants.{Going};
 
     /// At the start of a line.
     pub fn new(mode: Mode) -> Scan
         ensures { result ≡ opened_at mode }
     {
         Scan {
-            mode: FieldMode::Code(mode),
+            mode,
             start: 0,
             frames: Frames::new(),
             stop: 0,
@@ -93,7 +94,7 @@ impl Scan {
     pub fn restart(&mut self, mode: Mode)
         ensures { self.new ≡ opened_at mode }
     {
-        self.mode = FieldMode::Code(mode);
+        self.mode = mode;
         self.start = 0;
         self.frames.clear();
         self.stop = 0;
@@ -108,18 +109,10 @@ impl Scan {
 
     /// Whether so many more brackets and fields may open.
     fn has_room(&self, more: usize) -> bool
-        ensures { result ≡ nat_lt (length self.now.frames + more) 201 }
+        ensures is { result ≡ nat_lt (length self.now.frames + more) 201 }
+        ensures few { length self.now.frames ≤ 200 }
     {
         self.frames.len().saturating_add(more) <= MAX_DEPTH
-    }
-
-    /// No piece is open any longer: the next one begins where the scan has come to.
-    #[inline(always)]
-    pub fn free(&mut self)
-        ensures { self.new ≡ freed self.old }
-    {
-        self.mode = FieldMode::Code(Mode::Free);
-        self.start = self.stop;
     }
 
     /// Takes so many bytes of code, after which no piece is open.
@@ -129,24 +122,31 @@ impl Scan {
         ensures { self.new ≡ passed self.old len }
     {
         self.stop += len;
-        self.free();
+        self.mode = Mode::Free;
+        self.start = self.stop;
     }
 
-    /// Whether the line ended with the CR just read, unless LF follows.
-    pub fn is_returned(&self) -> bool
-        ensures { result ≡ is_returned self.now }
+    /// What is wrong where the scan stops.
+    fn wrong(&self, kind: FaultKind) -> Progress
+        ensures { result ≡ wrong_here self.now kind }
     {
-        self.mode.is_return() && self.frames.is_empty()
+        Progress::Wrong(LineFault {
+            kind,
+            place: self.stop,
+        })
     }
 
-    /// What a line end of so many bytes comes to: in brackets and fields the line goes on.
-    fn line_end(&self, len: usize) -> Progress
-        ensures { result ≡ line_end_progress (length self.now.frames == 0) len }
+    /// Takes a line end of so many bytes: in brackets and fields the line goes on.
+    fn take_line_end(&mut self, len: usize) -> Progress
+        requires { self.old.stop + len < 2 ^ 64 }
+        ensures progress { result ≡ line_end_progress (length self.old.frames == 0) len }
+        ensures passed { self.new ≡ passed self.old len }
     {
+        self.pass(len);
         if self.frames.is_empty() {
             Progress::LineEnded(len)
         } else {
-            Progress::Going
+            Progress::Going(len)
         }
     }
 
@@ -158,230 +158,240 @@ impl Scan {
         ensures placed { IsInPlace self.new }
     {
         self.frames.pop();
-        self.mode = FieldMode::Body(field.host, field.region, false, At::Between);
+        self.mode = Mode::Fields(field.host, field.region, false);
         self.start = field.start;
         self.stop += 1;
     }
 
-    /// Closes the open piece with this character.
-    fn close(&mut self, c: char) -> Progress
-        requires bytes { self.old.stop + len_utf8 c < 2 ^ 64 }
-        ensures takes { TakesMove self.old c closes result self.new }
-        ensures placed { IsInPlace self.old → IsInPlace self.new }
-    {
-        let returned = self.mode.is_return();
-        self.pass(c.len_utf8());
-        if returned {
-            self.line_end(2)
-        } else {
-            Progress::Going
-        }
-    }
-
     /// Takes an operator that opens no bracket, outside brackets of a field's code: `}` ends the field, and `:` begins its specification.
     fn take_in_field(&mut self, c: char, field: OpenField) -> Progress
-        requires bytes { self.old.stop + len_utf8 c < 2 ^ 64 }
-        requires operator { start_of c ≡ Operator }
+        requires bytes { self.old.stop + 1 < 2 ^ 64 }
+        requires operator { is_operator c ≡ true }
         requires other { is_opening c ≡ false }
         requires innermost { IsInnermostFrame (Some (Frame.Field field)) self.old.frames }
-        ensures takes { TakesMove self.old c breaks result self.new }
-        ensures same { result ≡ Refused → self.new ≡ self.old }
-        ensures placed { IsInPlace self.old → IsInPlace self.new }
+        ensures { TakesOperator self.old c result self.new }
     {
         if c == '}' {
             self.leave(field);
         } else if c == ':' {
-            self.mode = FieldMode::Body(field.host, Region::Specification, false, At::Between);
+            self.mode = Mode::Fields(field.host, Region::Specification, false);
             self.start = field.start;
             self.stop += 1;
         } else if is_closing(c) {
-            return Progress::Refused;
+            return self.wrong(FaultKind::WrongClose);
         } else {
             self.pass(1);
         }
-        Progress::Going
+        Progress::Going(1)
     }
 
     /// Takes an operator after the open piece.
     fn take_operator(&mut self, c: char) -> Progress
-        requires bytes { self.old.stop + len_utf8 c < 2 ^ 64 }
-        requires operator { start_of c ≡ Operator }
-        ensures takes { TakesMove self.old c breaks result self.new }
-        ensures same { result ≡ Refused → self.new ≡ self.old }
-        ensures placed { IsInPlace self.old → IsInPlace self.new }
+        requires bytes { self.old.stop + 1 < 2 ^ 64 }
+        requires operator { is_operator c ≡ true }
+        ensures { TakesOperator self.old c result self.new }
     {
-        let met = if is_opening(c) {
-            self.frames.open(c, self.stop)
+        if is_opening(c) {
+            if !self.frames.open(c, self.stop) {
+                return self.wrong(FaultKind::TooDeep);
+            }
         } else if let Some(Frame::Field(field)) = self.frames.innermost() {
             return self.take_in_field(c, field);
-        } else {
-            !is_closing(c) || self.frames.close(c)
-        };
-        if !met {
-            return Progress::Refused;
+        } else if is_closing(c) && !self.frames.close(c) {
+            return self.wrong(FaultKind::WrongClose);
         }
         self.pass(1);
-        Progress::Going
+        Progress::Going(1)
     }
 
-    /// Takes a character that begins a piece of code, after the open one.
-    fn begin_piece(&mut self, c: char) -> Progress
-        requires bytes { self.old.stop + len_utf8 c < 2 ^ 64 }
-        ensures takes { TakesMove self.old c breaks result self.new }
-        ensures same { result ≡ Refused → self.new ≡ self.old }
-        ensures placed { IsInPlace self.old → IsInPlace self.new }
+    /// Takes the quotes with which the bytes begin, after the open piece or with it as their prefix: they begin a string, or are an empty
+    /// one.
+    fn take_quotes(&mut self, bytes: &[u8]) -> Progress
+        requires bytes { self.old.stop + length bytes.now < 2 ^ 64 }
+        requires quote { begins is_quote bytes.now ≡ true }
+        requires after { ends_before self.old.mode (slice_index bytes.now 0) ≡ true }
+        ensures { Steps self.old bytes.now result self.new }
     {
-        match Start::of(c) {
-            Start::Open(mode) => {
-                self.mode = FieldMode::Code(mode);
-                self.start = self.stop;
-                self.stop += c.len_utf8();
-                Progress::Going
-            }
-            Start::Operator => self.take_operator(c),
-            Start::LineEnd => {
-                self.pass(1);
-                self.line_end(1)
-            }
-            Start::Nothing => Progress::Refused,
+        let Some(quotes) = quotes_len(bytes) else {
+            return Progress::Waits;
+        };
+        if quotes == 2 {
+            self.pass(2);
+            return Progress::Going(2);
+        }
+        let (start, spelling) = match self.mode {
+            Mode::Word(spelling) if spelling.is_prefix() => (self.start, spelling),
+            _ => (self.stop, Spelling::Name),
+        };
+        self.mode = Mode::of_string(spelling, bytes[0] as char, quotes == 3);
+        self.start = start;
+        self.stop += quotes;
+        Progress::Going(quotes)
+    }
+
+    /// Takes the join of two lines with whose backslash the bytes begin (Python Language Reference, 2.1.5).
+    fn take_join(&mut self, bytes: &[u8]) -> Progress
+        requires bytes { self.old.stop + length bytes.now < 2 ^ 64 }
+        requires backslash { begins is_backslash bytes.now ≡ true }
+        requires after { ends_before self.old.mode (slice_index bytes.now 0) ≡ true }
+        ensures { Steps self.old bytes.now result self.new }
+    {
+        if let Some(len) = outer_end_len(&bytes[1..]) {
+            self.pass(1 + len);
+            return Progress::Going(1 + len);
+        }
+        match first_character(&bytes[1..]) {
+            None | Some('\r') => Progress::Waits,
+            Some(_) => self.wrong(FaultKind::BadJoin),
         }
     }
 
-    /// Opens a field of the string whose text is open, by its `{` at this byte. Its code begins where the scan has come to.
-    fn enter(&mut self, host: StringWithFields, region: Region, brace: usize)
-        requires room { length self.old.frames < 200 }
-        requires stands { StandsIn region self.old.frames }
-        ensures { self.new ≡ entered self.old host region brace }
+    /// Takes the first character of a word, of space or of a comment, which is open then.
+    fn begin_piece(&mut self, mode: Mode, c: char) -> Progress
+        requires bytes { self.old.stop + len_utf8 c < 2 ^ 64 }
+        ensures progress { result ≡ Going (len_utf8 c) }
+        ensures begun { self.new ≡ begun_at self.old mode (len_utf8 c) }
     {
+        self.mode = mode;
+        self.start = self.stop;
+        self.stop += c.len_utf8();
+        Progress::Going(c.len_utf8())
+    }
+
+    /// Takes what the bytes begin with, after the open piece: this character is the first of it.
+    fn take_piece(&mut self, c: char, bytes: &[u8]) -> Progress
+        requires bytes { self.old.stop + length bytes.now < 2 ^ 64 }
+        requires first { BeginsWith bytes.now c }
+        requires after { ends_before self.old.mode c ≡ true }
+        ensures { Steps self.old bytes.now result self.new }
+    {
+        match Class::of(bytes[0]) {
+            Class::Word => self.begin_piece(Mode::Word(Spelling::of(c)), c),
+            Class::Wide if unicode_ident::is_xid_start(c) => {
+                self.begin_piece(Mode::Word(Spelling::Name), c)
+            }
+            Class::Space => self.begin_piece(Mode::Space, c),
+            Class::Hash => self.begin_piece(Mode::Comment, c),
+            Class::Operator | Class::Opening | Class::Closing => self.take_operator(c),
+            Class::LineFeed | Class::Return => match outer_end_len(bytes) {
+                Some(len) => self.take_line_end(len),
+                None => Progress::Waits,
+            },
+            Class::Quote => self.take_quotes(bytes),
+            Class::Backslash => self.take_join(bytes),
+            Class::Wide | Class::Other => self.wrong(FaultKind::BadChar),
+        }
+    }
+
+    /// Takes what the bytes begin with, where no string's text is open.
+    fn take_in_code(&mut self, bytes: &[u8]) -> Progress
+        requires bytes { self.old.stop + length bytes.now < 2 ^ 64 }
+        requires code { is_text self.old.mode ≡ false }
+        ensures { Steps self.old bytes.now result self.new }
+    {
+        let Some(c) = first_character(bytes) else {
+            return Progress::Waits;
+        };
+        let len = c.len_utf8();
+        if let Mode::Start = self.mode {
+            if is_mark(c) {
+                self.pass(len);
+                return Progress::Going(len);
+            }
+        }
+        if let Some(mode) = self.mode.with(c) {
+            self.mode = mode;
+            self.stop += len;
+            return Progress::Going(len);
+        }
+        self.take_piece(c, bytes)
+    }
+
+    /// Opens a field of the string whose text is open, by its `{`. Its code begins after it.
+    fn open_field(&mut self, host: StringWithFields, region: Region) -> Progress
+        requires bytes { self.old.stop + 1 < 2 ^ 64 }
+        requires stands { StandsIn region self.old.frames }
+        ensures { OpensField self.old host region result self.new }
+    {
+        if !self.has_room(1) {
+            return self.wrong(FaultKind::TooDeep);
+        }
         self.frames.push(Frame::Field(OpenField {
-            place: brace,
+            place: self.stop,
             host,
             region,
             start: self.start,
         }));
-        self.free();
-    }
-
-    /// Takes the character with which the code of a field begins, whose `{` stands directly before.
-    fn begin_code(&mut self, host: StringWithFields, c: char) -> Progress
-        requires bytes { self.old.stop + len_utf8 c < 2 ^ 64 }
-        ensures takes { TakesMove self.old c (begins_code (host_in host)) result self.new }
-        ensures placed { IsInPlace self.old → IsInPlace self.new }
-    {
-        if !self.has_room(1) {
-            return Progress::Refused;
-        }
-        let (mode, start) = (self.mode, self.start);
-        self.enter(host, Region::Literal, self.stop.saturating_sub(1));
-        match self.begin_piece(c) {
-            Progress::Refused => {
-                // The field doesn't begin so: all is as it was.
-                self.frames.pop();
-                self.mode = mode;
-                self.start = start;
-                Progress::Refused
-            }
-            taken => taken,
-        }
-    }
-
-    /// Opens a field in a specification, by its `{`.
-    #[tactic(auto, using(crate::proofs::FieldScans::Openings::shut_there))]
-    fn open_field(&mut self, host: StringWithFields, c: char) -> Progress
-        requires bytes { self.old.stop + len_utf8 c < 2 ^ 64 }
-        requires field { InField self.old.frames }
-        ensures takes { TakesMove self.old c (opens_field (host_in host)) result self.new }
-        ensures placed { IsInPlace self.old → IsInPlace self.new }
-    {
-        if !self.has_room(1) {
-            return Progress::Refused;
-        }
-        self.stop += 1;
-        self.enter(host, Region::Specification, self.stop - 1);
-        Progress::Going
+        self.pass(1);
+        Progress::Going(1)
     }
 
     /// Ends the field whose specification is open, with a `}`.
-    #[tactic(auto, using(crate::proofs::FieldScans::Places::no_bracket, crate::proofs::FieldScans::Places::some_frame))]
     fn end_field(&mut self) -> Progress
         requires bytes { self.old.stop + 1 < 2 ^ 64 }
         requires field { InField self.old.frames }
-        ensures takes { (c : ℕ) → TakesMove self.old c ends_field result self.new }
-        ensures placed { IsInPlace self.old → IsInPlace self.new }
+        ensures { EndsField self.old result self.new }
     {
         match self.frames.innermost() {
             Some(Frame::Field(field)) => {
                 self.leave(field);
-                Progress::Going
+                Progress::Going(1)
             }
             Some(Frame::Bracket(_, _)) => unreachable!(),
             None => unreachable!(),
         }
     }
 
-    /// Takes the next character. A refused one leaves all as it was.
-    pub fn push(&mut self, c: char) -> Progress
-        requires bytes { self.old.stop + len_utf8 c < 2 ^ 64 }
+    /// Does what bytes do to the text of the string that is open.
+    fn take_text(&mut self, text_move: TextMove, bytes: &[u8]) -> Progress
+        requires bytes { self.old.stop + length bytes.now < 2 ^ 64 }
+        requires text { is_text self.old.mode ≡ true }
+        requires does { DoesText (mode_from self.old.mode) bytes.now text_move }
         requires placed { IsInPlace self.old }
-        ensures takes { PushesField self.old c result self.new }
-        ensures placed { IsInPlace self.new }
+        ensures { Steps self.old bytes.now result self.new }
     {
-        match self.mode.meet(c) {
-            FieldMove::Grows(mode) => {
+        let (kind, place) = match text_move {
+            TextMove::Grows(mode, len) => {
                 self.mode = mode;
-                self.stop += c.len_utf8();
-                Progress::Going
+                self.stop += len;
+                return Progress::Going(len);
             }
-            FieldMove::Closes => self.close(c),
-            FieldMove::Breaks => self.begin_piece(c),
-            FieldMove::BeginsCode(host) => self.begin_code(host, c),
-            FieldMove::OpensField(host) => self.open_field(host, c),
-            FieldMove::EndsField => self.end_field(),
-            FieldMove::Refused => Progress::Refused,
-        }
+            TextMove::Closes(len) => {
+                self.pass(len);
+                return Progress::Going(len);
+            }
+            TextMove::OpensField(host, region) => return self.open_field(host, region),
+            TextMove::EndsField => return self.end_field(),
+            TextMove::Waits => return Progress::Waits,
+            TextMove::BreaksString => (FaultKind::OpenString, self.start),
+            TextMove::EndsSpecification => (FaultKind::OpenField, self.frames.last_place()),
+        };
+        Progress::Wrong(LineFault { kind, place })
     }
 
-    /// Whether the open piece, if there is one, ends before `c` where no bracket and no field is open.
-    pub fn ends_before(&self, c: char) -> bool
-        ensures { result ≡ ends_piece_before self.now c }
+    /// Takes the item that the bytes begin with, where they tell it.
+    pub fn step(&mut self, bytes: &[u8]) -> Progress
+        requires some { 0 < length bytes.now }
+        requires bytes { self.old.stop + length bytes.now < 2 ^ 64 }
+        requires quote { HasQuote self.old.mode }
+        requires placed { IsInPlace self.old }
+        ensures { Steps self.old bytes.now result self.new }
     {
-        !self.mode.is_free()
-            && self.frames.is_empty()
-            && matches!(self.mode.meet(c), FieldMove::Breaks)
-    }
-
-    /// How many bytes end no line, and leave all that is open as it is.
-    #[tactic(auto, using(crate::proofs::FieldScans::Runs::holds_field))]
-    fn keep(&self, bytes: &[u8]) -> usize
-        ensures { HoldsField self.now bytes.now result (with_bytes self.now result) }
-    {
-        let mut len = 0;
-        while len < bytes.len() && self.mode.keeps(bytes[len]) {
-            len += 1;
-        }
-        len
-    }
-
-    /// The quote of the string that is open, where it stands between two parts of its literal part, and there is room for all that simple
-    /// text opens.
-    #[tactic(auto, using(crate::proofs::LineScan::Runs::quote_ascii))]
-    fn open_text(&self) -> Option<u8>
-        ensures { StandsInText self.now result }
-    {
-        match self.mode {
-            FieldMode::Body(host, Region::Literal, false, At::Between)
-                if is_quote(host.quote) && self.has_room(100) => Some(host.quote as u8),
-            _ => None,
-        }
+        let text_move = match self.mode {
+            Mode::Short(quote) => text_move(self.mode, quote, false, bytes),
+            Mode::Long(quote) => text_move(self.mode, quote, true, bytes),
+            Mode::Fields(host, region, named) => fields_move(host, region, named, bytes),
+            _ => return self.take_in_code(bytes),
+        };
+        self.take_text(text_move, bytes)
     }
 
     /// Takes code of a field that ends no line, where no piece is open, and answers the bytes after it.
-    fn take_code<'s>(&mut self, bytes: &'s [u8]) -> &'s [u8]
+    fn take_field_code<'s>(&mut self, bytes: &'s [u8]) -> &'s [u8]
         requires bytes { self.old.stop + length bytes.now < 2 ^ 64 }
-        requires code { self.old.mode ≡ Code Free }
+        requires code { self.old.mode ≡ Free }
         requires field { has_field self.old.frames ≡ true }
-        ensures holds { HoldsRun self.old bytes.now result.now self.new }
-        ensures placed { IsInPlace self.old → IsInPlace self.new }
+        ensures { HoldsRun self.old bytes.now result.now self.new }
     {
         let code = &bytes[..ByteRun::Code.len_in(bytes)];
         // Words, spaces and signs, up to the last sign: after it no piece is open.
@@ -395,90 +405,135 @@ impl Scan {
     /// Takes bytes that end no line, and no piece of it outside fields, and answers the bytes after them.
     pub fn hold<'s>(&mut self, bytes: &'s [u8]) -> &'s [u8]
         requires bytes { self.old.stop + length bytes.now < 2 ^ 64 }
-        requires quote { HasAsciiQuoteOpen self.old.mode }
-        ensures holds { HoldsRun self.old bytes.now result.now self.new }
-        ensures placed { IsInPlace self.old → IsInPlace self.new }
+        requires quote { HasQuote self.old.mode }
+        ensures { HoldsRun self.old bytes.now result.now self.new }
     {
         let len = match self.mode {
-            FieldMode::Code(Mode::Free) if self.frames.has_field() => return self.take_code(bytes),
-            FieldMode::Code(mode) => characters_in(mode, bytes),
-            FieldMode::Body(..) => match self.open_text() {
-                Some(quote) => text_len(quote, bytes),
-                None => self.keep(bytes),
-            },
+            Mode::Free if self.frames.has_field() => return self.take_field_code(bytes),
+            // Deeper in fields, text is seldom simple.
+            Mode::Fields(host, Region::Literal, false) if self.frames.len() <= 10 => {
+                text_len(host.quote as u8, bytes)
+            }
+            Mode::Fields(host, _, _) => literal_run(host.quote as u8, bytes),
+            mode => characters_in(mode, bytes),
         };
         self.stop += len;
         &bytes[len..]
     }
 
-    /// What is wrong where `c` is refused.
-    pub fn refusal(&self, c: char) -> LineFault
-        ensures { RefusesField self.now c result }
+    /// What is wrong where the text ends with these characters in the text of this string with fields, which is open.
+    fn unfinished_fields(
+        &self,
+        host: StringWithFields,
+        region: Region,
+        named: bool,
+        bytes: &[u8],
+    ) -> LineFault
+        requires mode { self.now.mode ≡ Fields host region named }
+        requires pending { IsPending self.now.mode bytes.now }
+        ensures { EndsOpen self.now bytes.now (Some result) }
     {
-        let (kind, place) = if self.mode.is_waiting() && self.frames.len() == MAX_DEPTH {
-            (FaultKind::TooDeep, self.stop.saturating_sub(1))
-        } else if is_break(c) {
-            (FaultKind::OpenString, self.start)
-        } else if self.mode.is_after_backslash() {
-            (FaultKind::BadJoin, self.start)
-        } else if is_closing(c) {
-            (FaultKind::WrongClose, self.stop)
-        } else if is_opening(c) {
-            (FaultKind::TooDeep, self.stop)
-        } else if self.mode.quotes_specification(c) {
-            (FaultKind::OpenField, self.frames.last_place())
+        if let Region::Specification = region {
+            return LineFault {
+                kind: FaultKind::OpenField,
+                place: self.frames.last_place(),
+            };
+        }
+        // A `{` would open a field, if there is room.
+        if !named && bytes.len() == 1 && bytes[0] == b'{' {
+            let kind = if self.has_room(1) {
+                FaultKind::OpenField
+            } else {
+                FaultKind::TooDeep
+            };
+            return LineFault {
+                kind,
+                place: self.stop,
+            };
+        }
+        let kind = if host.is_long {
+            FaultKind::OpenTriple
         } else {
-            (FaultKind::BadChar, self.stop)
+            FaultKind::OpenString
         };
-        LineFault { kind, place }
+        LineFault {
+            kind,
+            place: self.start,
+        }
     }
 
-    /// What is wrong where the text ends in this piece of code, if it may not: a string, a backslash, or else a bracket or a field.
-    fn unfinished_code(&self, mode: Mode) -> Option<LineFault>
-        ensures { EndsCode self.now mode result }
+    /// What is wrong where the text ends with these characters and no string's text is open, if anything is: a string that they begin, a
+    /// backslash, or else a bracket or a field is open.
+    fn unfinished_code(&self, bytes: &[u8]) -> Option<LineFault>
+        requires code { is_text self.now.mode ≡ false }
+        requires pending { IsPending self.now.mode bytes.now }
+        ensures { EndsOpen self.now bytes.now result }
     {
-        let (kind, place) = match mode {
-            Mode::Opened(_)
-            | Mode::Inside(_)
-            | Mode::Escape(_)
-            | Mode::EscapeReturn(_)
-            | Mode::FieldOpened(_) => (FaultKind::OpenString, self.start),
-            Mode::Long(_)
-            | Mode::LongOne(_)
-            | Mode::LongTwo(_)
-            | Mode::LongEscape(_)
-            | Mode::Fielded => (FaultKind::OpenTriple, self.start),
-            Mode::Backslash => (FaultKind::BadJoin, self.start),
-            _ => match self.frames.innermost()? {
-                Frame::Bracket(_, place) => (FaultKind::OpenBracket, place),
-                Frame::Field(field) => (FaultKind::OpenField, field.place),
-            },
+        if bytes.len() == 1 && is_quote(bytes[0] as char) {
+            let place = match self.mode {
+                Mode::Word(spelling) if spelling.is_prefix() => self.start,
+                _ => self.stop,
+            };
+            return Some(LineFault {
+                kind: FaultKind::OpenString,
+                place,
+            });
+        }
+        if bytes.len() == 1 && is_backslash(bytes[0] as char) {
+            return Some(LineFault {
+                kind: FaultKind::BadJoin,
+                place: self.stop,
+            });
+        }
+        let (kind, place) = match self.frames.innermost()? {
+            Frame::Bracket(_, place) => (FaultKind::OpenBracket, place),
+            Frame::Field(field) => (FaultKind::OpenField, field.place),
         };
         Some(LineFault { kind, place })
     }
 
-    /// What is wrong where the text ends here, if it may not: what is open.
-    pub fn unfinished(&self) -> Option<LineFault>
-        ensures { EndsField self.now result }
+    /// What is wrong where the text ends with these characters, if anything is.
+    fn unfinished(&self, bytes: &[u8]) -> Option<LineFault>
+        requires pending { IsPending self.now.mode bytes.now }
+        ensures { EndsOpen self.now bytes.now result }
     {
-        let (kind, place) = match self.mode {
-            FieldMode::Code(mode) => return self.unfinished_code(mode),
-            FieldMode::Body(_, Region::Specification, _, _) => {
-                (FaultKind::OpenField, self.frames.last_place())
+        let kind = match self.mode {
+            Mode::Short(_) => FaultKind::OpenString,
+            Mode::Long(_) => FaultKind::OpenTriple,
+            Mode::Fields(host, region, named) => {
+                return Some(self.unfinished_fields(host, region, named, bytes));
             }
-            FieldMode::Body(_, Region::Literal, _, At::AfterBrace) => {
-                let kind = if self.has_room(1) {
-                    FaultKind::OpenField
-                } else {
-                    FaultKind::TooDeep
-                };
-                (kind, self.stop.saturating_sub(1))
-            }
-            FieldMode::Body(host, Region::Literal, _, _) if host.is_long => {
-                (FaultKind::OpenTriple, self.start)
-            }
-            FieldMode::Body(_, Region::Literal, _, _) => (FaultKind::OpenString, self.start),
+            _ => return self.unfinished_code(bytes),
         };
-        Some(LineFault { kind, place })
+        Some(LineFault {
+            kind,
+            place: self.start,
+        })
+    }
+
+    /// Ends the text with these bytes, before which the scan stops: how many bytes the line end of its last line has, or what is wrong
+    /// there.
+    pub fn end(&mut self, bytes: &[u8]) -> Result<usize, LineFault>
+        requires bytes { self.old.stop + length bytes.now < 2 ^ 64 }
+        requires pending { HasPending self.old.mode bytes.now }
+        ensures { EndsTextSo self.old bytes.now result self.new }
+    {
+        let returned = !bytes.is_empty() && bytes[0] == b'\r';
+        if returned && !self.mode.is_text() && self.frames.is_empty() {
+            self.pass(1);
+            return Ok(1);
+        }
+        let characters = utf8_prefix(bytes).len();
+        if characters < bytes.len() {
+            return Err(LineFault {
+                kind: FaultKind::BadUtf8,
+                place: self.stop + characters,
+            });
+        }
+        if let Some(line_fault) = self.unfinished(bytes) {
+            return Err(line_fault);
+        }
+        self.stop += characters;
+        Ok(0)
     }
 }

@@ -1,12 +1,12 @@
 //! The reader inside a `Lines`: one logical line at a time, with its tokens or the text's fault.
 
-ghost use Rattle.std.specs.Prelude.{◌≡◌, ◌+◌, ◌<◌, ◌≤◌, length, take, drop, true, Some, Ok, Err, IsUtf8};
+ghost use Rattle.std.specs.Prelude.{◌≡◌, ◌+◌, ◌<◌, ◌≤◌, length, take, drop, true, IsUtf8};
 ghost use Rattle.std.specs.Str.{IsCharBoundary, StartsWithNoChar};
 
-use crate::fault::{FaultKind, LexError};
+use crate::fault::LexError;
 use crate::line_state::LineState;
 use crate::outline::simple_lines;
-use crate::scan::Stop;
+use crate::scan::{LineFault, Stop};
 use crate::unit::Unit;
 use crate::utf8::utf8_prefix;
 use std::alloc::{AllocError, Global};
@@ -38,7 +38,7 @@ pub struct Source<'t> {
 
 impl<'t> Source<'t> {
     ghost use Rattle.py_lines.specs.Reader.View.{reader_of};
-    ghost use Rattle.py_lines.specs.Private.Source.{line_of_source, scanned_text, GivesLine, FailsAfter, HasScanned, Advances};
+    ghost use Rattle.py_lines.specs.Private.Source.{line_of_source, scanned_text, GivesLine, FailsAfter, HasScanned, EndsLine, Advances};
     ghost use Rattle.py_lines.specs.Private.LineTokens.{IsLineText};
     ghost use Rattle.py_lines.specs.Reader.{GoesOnAt, at_start};
     ghost use Rattle.py_lines.specs.Token.{EachLiesIn};
@@ -106,45 +106,29 @@ impl<'t> Source<'t> {
         Ok(())
     }
 
-    /// The text has this fault, from now on. It stands so many bytes after the lines that were read.
-    fn fail(&mut self, kind: FaultKind, offset: usize) -> LexError
-        requires { IsCharBoundary self.old.characters.now (self.old.state.place + offset) }
-        ensures { FailsAfter self.old kind offset result self.new }
+    /// The text has this fault of the next line, from now on.
+    fn fail(&mut self, line_fault: LineFault) -> LexError
+        requires { IsCharBoundary self.old.characters.now (self.old.state.place + line_fault.place) }
+        ensures { FailsAfter self.old line_fault result self.new }
     {
         let place = self.state.place as usize;
-        let prefix = &self.characters[place..place + offset];
-        self.state.fail(kind, prefix)
+        let prefix = &self.characters[place..place + line_fault.place];
+        self.state.fail(line_fault.kind, prefix)
     }
 
-    /// The fault of a text whose next character is refused.
-    fn refuse(&mut self, c: char) -> LexError
-        requires { HasScanned self.old (Stop.Refused c) }
-        ensures { Advances self.old (Err result) self.new }
+    /// Ends the line, where its scan stopped so: how many bytes its line end has, or what is wrong.
+    fn end_line(&mut self, stop: Stop) -> Result<usize, LineFault>
+        requires { HasScanned self.old stop }
+        ensures { EndsLine self.old stop result self.new }
     {
-        let line_fault = self.state.scan.refusal(c);
-        self.fail(line_fault.kind, line_fault.place)
-    }
-
-    /// The line that its line end closed.
-    fn end_line(&mut self, len: usize) -> Result<bool, LexError>
-        requires { HasScanned self.old (Stop.LineEnd len) }
-        ensures { Advances self.old result self.new }
-    {
-        self.give(len)?;
-        Ok(true)
-    }
-
-    /// The last line of the text, or the fault that stands at its end.
-    fn end_text(&mut self) -> Result<bool, LexError>
-        requires { HasScanned self.old Stop.TextEnd }
-        ensures { Advances self.old result self.new }
-    {
-        let rest = self.bytes.len() - self.characters.len();
-        if let Some(line_fault) = self.state.end_fault(rest) {
-            return Err(self.fail(line_fault.kind, line_fault.place));
+        match stop {
+            Stop::LineEnd(len) => Ok(len),
+            Stop::TextEnd => {
+                let scanned = self.state.place as usize + self.state.scan.stop;
+                self.state.scan.end(&self.bytes[scanned..])
+            }
+            Stop::Wrong(line_fault) => Err(line_fault),
         }
-        self.give(0)?;
-        Ok(true)
     }
 
     /// Reads the next logical line: whether there is one.
@@ -158,14 +142,14 @@ impl<'t> Source<'t> {
             return Ok(false);
         }
         self.state.restart();
-        match self
-            .state
-            .scan
-            .scan_text(&self.characters[self.state.place as usize..])
-        {
-            Stop::LineEnd(len) => self.end_line(len),
-            Stop::TextEnd => self.end_text(),
-            Stop::Refused(c) => Err(self.refuse(c)),
+        let rest = &self.characters.as_bytes()[self.state.place as usize..];
+        let stop = self.state.scan.extend(rest);
+        match self.end_line(stop) {
+            Ok(len) => {
+                self.give(len)?;
+                Ok(true)
+            }
+            Err(line_fault) => Err(self.fail(line_fault)),
         }
     }
 

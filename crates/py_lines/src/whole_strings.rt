@@ -151,7 +151,7 @@ fn part_len(quote: u8, bytes: &[u8]) -> Option<usize>
 
 /// How many bytes of its text a string with fields goes on with, up to a brace or what may end it: none where a field follows another.
 #[inline(always)]
-fn literal_run(quote: u8, bytes: &[u8]) -> usize
+pub fn literal_run(quote: u8, bytes: &[u8]) -> usize
     ensures { IsRunOf (is_literal_byte quote) bytes.now result }
 {
     if !bytes.is_empty() && is_brace(bytes[0] as char) {

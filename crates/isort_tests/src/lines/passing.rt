@@ -81,6 +81,9 @@ static STRINGS: &[Passing] = &[
     Passing("a\nb = Rb\"c\\\"d\", '', \"\"\n", 23, 21, (23, 3)),
     Passing("a\nb'''c'''\n", 11, 9, (11, 3)),
     Passing("a\n'''b\\\n'''\n", 12, 10, (12, 4)),
+    // Two quotes in a string of three, and one before an escaped one.
+    Passing("a\n'''b''c'''\n", 13, 11, (13, 3)),
+    Passing("a\n'''b'\\''''\n", 13, 11, (13, 3)),
 ];
 
 /// Joins, short strings with fields, and lines at the byte.
@@ -98,11 +101,8 @@ static SHORT: &[Passing] = &[
 
 /// Lines that are not passed over.
 static LEFT: &[Passing] = &[
-    // What is left to the scan: a word before a string, two quotes in a string of three, a quote before a backslash, and a backslash
-    // before a space.
+    // What is left to the scan: a word before a string, and a backslash before a space.
     Passing("a\nbar'c'\n", 9, 0, (2, 2)),
-    Passing("a\n'''b''c'''\n", 13, 0, (2, 2)),
-    Passing("a\n'''b'\\''''\n", 13, 0, (2, 2)),
     Passing("a\nb = \\ \n", 9, 0, (2, 2)),
     // A fault: a bracket that closes none, a character that begins nothing, and strings that aren't closed.
     Passing("a\nb = (c]\n", 10, 0, (2, 2)),
@@ -151,15 +151,16 @@ static RETURNS: &[Passing] = &[
 ];
 
 static CHARACTERS: &[Passing] = &[
-    // Characters outside ASCII in comments, and in strings: at their start, after ASCII, before an escape, and after a quote.
+    // Characters outside ASCII in comments, and in strings: at their start, after ASCII, before an escape, after a quote, and after a
+    // backslash.
     Passing("a\nb  # \u{e4}\n", 10, 8, (10, 3)),
     Passing("a\n# \u{416}\u{4f60}\u{1f600}\r\n", 15, 13, (15, 3)),
     Passing("a\nb = '\u{4f60} c'\n", 14, 12, (14, 3)),
     Passing("a\n'c\u{e9}\\n'\n", 10, 8, (10, 3)),
     Passing("a\n\"\"\"\u{e4}\n\"\u{e4}\"\"\"\n", 15, 13, (15, 4)),
-    // What is left to the scan: such a word, such a character after a backslash, and a string with fields that holds one.
+    Passing("a\n'\\\u{e4}'\n", 8, 6, (8, 3)),
+    // What is left to the scan: such a word, and a string with fields that holds one.
     Passing("a\nb = \u{e4}\n", 9, 0, (2, 2)),
-    Passing("a\n'\\\u{e4}'\n", 8, 0, (2, 2)),
     Passing("a\nf'\u{e4}'\n", 8, 0, (2, 2)),
 ];
 

@@ -11,8 +11,8 @@ use Rattle.py_lines.specs.LogicalLine.{byte_len}
 use Rattle.py_lines.specs.Dialect.{plain_dialect, fielded_dialect}
 use Rattle.py_lines.specs.WithoutFields.{IsPlainReading}
 use Rattle.py_lines.specs.Faults.{IsLiveIn}
-use Rattle.py_lines.specs.declared.mode.Mode.{Mode}
-use Rattle.py_lines.specs.declared.mode.Mode.TheVariants as modes
+use Rattle.py_lines.specs.Private.Machine.{Mode}
+use Rattle.py_lines.specs.Private.Mode as modes
 use Rattle.py_lines.specs.Private.Machine.{Scanned, fresh, text_start, class_of, started, moved, step, move_from, steps_from, is_final, Holds, IsSound, Bracket, brackets_of, move_of, is_prefix_spelling}
 use Rattle.py_lines.proofs.Pieces.PieceLists.{piece}
 use Rattle.py_lines.proofs.Pieces.OpenBrackets.{closer_pops, balanced-from_stack, stack-from_balanced, stack_before, stack_push}
@@ -29,7 +29,7 @@ use Rattle.py_lines.proofs.Fields.Elsewhere.{later, no_field_prefix, none_false}
 use Rattle.py_lines.specs.Character.{is_quote}
 use Rattle.py_lines.specs.FieldStrings.{is_field_prefix, may_have_fields}
 use Rattle.py_lines.specs.declared.mode.Spelling.{Spelling}
-use Rattle.py_lines.specs.declared.mode.Move.{Move}
+use Rattle.py_lines.specs.Private.Machine.{Move}
 use Rattle.py_lines.specs.Private.ScanMachine.{is_field_spelling, quote_move, meet_of, move_in, scan_steps}
 
 -- from one state, the machine goes over these characters to another, with these brackets open

@@ -9,7 +9,7 @@ use Rattle.py_lines.specs.declared.fault.FaultKind.TheVariants.{OpenString}
 use Rattle.py_lines.proofs.FieldMachine.WorkedRows.{tested}
 use Rattle.py_lines.proofs.Machine.PieceSteps.{scanned}
 use Rattle.py_lines.proofs.Elsewhere.SameRuns.{plain_runs_live}
-use Rattle.py_lines.specs.declared.mode.Mode.TheVariants as modes
+use Rattle.py_lines.specs.Private.Mode as modes
 
 -- f"{x is live without fields: a quote closes the string
 live_without : IsLiveIn plain_dialect (codes "f\"{x")

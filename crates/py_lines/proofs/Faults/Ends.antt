@@ -9,7 +9,7 @@ use Rattle.py_lines.specs.LogicalLine.{byte_len, first_or_zero}
 use Rattle.py_lines.specs.Balance.{is_opening, is_operator_that, is_opener, IsBalanced}
 use Rattle.py_lines.specs.Faults.{Unfinished, open_brace, open_short, open_long, open_join, open_bracket, open_inside, InOpenBracket, OpensBraceTooDeep, kind_of_unfinished, IsOpenAtEnd, IsEndFault}
 use Rattle.py_lines.specs.FieldStrings.{Host, literal, specification}
-use Rattle.py_lines.specs.declared.mode.Mode.TheVariants as modes
+use Rattle.py_lines.specs.Private.Mode as modes
 use Rattle.py_lines.specs.Private.Machine.{in_short, in_long, is_after_backslash, Bracket, brackets_of, class_of}
 use Rattle.py_lines.specs.Private.FieldMachine.{text_place, before, after_brace, in_open_short, in_open_long, after_open_backslash, InSpecificationOf, FieldMode, plain, opened, empty, body, Level, FieldScanned, field_state, field_text_start, field_steps_from, field_pieces, may_end, openers_through, have_room, IsFieldFinal, levels_open, frames, field_closed}
 use Rattle.py_lines.proofs.Pieces.PieceLists.{spelled-append, piece}

@@ -1,28 +1,34 @@
 -- The text ends with what is held: its last line, or the fault that stands there.
-use Rattle.std.proofs.Common.{◌≡◌, ℕ, ◌+◌, ◌-◌, ◌<◌, ◌≤◌, true, false, None, Some, Ok, Err, List, [], ◌++◌, length, inl, inr, refl, sym, ap, ◌∙◌, subst, append-nil, arith, Option, drop, length-drop, encode_utf8_all, is_some}
-use Rattle.std.proofs.lemmas.Bool.{and_parts}
+use Rattle.std.proofs.Common.{◌≡◌, ℕ, ◌+◌, ◌<◌, true, None, Some, Ok, Err, Result, List, [], ◌∷◌, ◌++◌, length, inl, inr, refl, sym, ap, ◌∙◌, subst, append-nil, arith, Option, drop, length-drop, encode_utf8_all, is_some, length-append}
+use Rattle.std.specs.Str.{StartsWithNoChar}
+use Rattle.std.proofs.lemmas.Str.{encodes_same, length-le-encodes}
 use Rattle.std.proofs.lemmas.List.{nil_from_length, take_all}
-use Rattle.py_lines.specs.LogicalLine.{LogicalLine, byte_len}
+use Rattle.py_lines.specs.LogicalLine.{LogicalLine, byte_len, line_ends, line_of}
 use Rattle.py_lines.specs.Lexed.{IsLexed}
 use Rattle.py_lines.specs.ScannerState.{IsScanning, WhereWhole, fed_of, EndsScan, Finishes, ScannerState}
-use Rattle.py_lines.specs.Private.Machine.{is_final}
-use Rattle.py_lines.specs.Private.LineScan.{is_returned, none_open, line_start, IsUnderWay}
-use Rattle.py_lines.specs.Private.Scan.{EndsField}
-use Rattle.py_lines.specs.Private.LineState.{IsEndLineFault, first_mode}
-use Rattle.py_lines.specs.Private.Run.{Reached}
-use Rattle.py_lines.specs.Private.Feed.{EndsText, FailsAt, Holds, IsScanned, HasEndedText, HasReadTokens, HasRoom, HoldsSo, IsHeldOpen, IsSoundFeed, ReadsTokens, ScansHeld, StandsSo, StopsHeld, StopsWith, line_held, with_line, FaultKind, LexError, Stop, Feed, scanning_of, ready_of, LineFault}
-use Rattle.py_lines.proofs.LineScan.LineSteps.{way_returned}
-use Rattle.py_lines.proofs.LineScan.NextCharacter.{is_return_mode, empty_stack}
-use Rattle.py_lines.proofs.LineScan.TextSteps.{begun_sound}
+use Rattle.py_lines.specs.Character.{is_line_feed}
+use Rattle.py_lines.specs.Piece.{Piece, begins, spelled}
+use Rattle.py_lines.specs.Fields.{AreReadBefore}
+use Rattle.py_lines.specs.Private.FieldFaults.{here}
+use Rattle.py_lines.specs.Private.ScanMachine.{IsScanSound}
+use Rattle.py_lines.specs.Private.LineScan.{IsAtLineEnd, IsLeft, IsUnderWay, line_start}
+use Rattle.py_lines.specs.Private.Scan.{EndsTextSo}
+use Rattle.py_lines.specs.Private.LineState.{IsFaultAfter, first_mode}
+use Rattle.py_lines.specs.Private.Feed.{EndsText, FailsAt, Holds, IsScanned, HasEndedText, HasReadTokens, HasRoom, HoldsSo, IsHeldOpen, IsSoundFeed, ReadsTokens, ScansHeld, StandsSo, StopsHeld, StopsWith, line_held, with_line, FaultKind, LexError, Scan, Stop, Feed, scanning_of, ready_of, LineState, LineFault}
+use Rattle.py_lines.proofs.LineScan.LineSteps.{returned, way_here}
+use Rattle.py_lines.proofs.LineScan.TextSteps.{begun_sound, way_goes}
 use Rattle.py_lines.proofs.Machine.PieceSteps.{pieces_at}
-use Rattle.py_lines.proofs.Readers.LineAnswers.{IsScannedLine, line_at_text_end, line_at_return, returned_final, all_within}
+use Rattle.py_lines.proofs.Readers.LineAnswers.{ComesToEnd, IsEnded, IsReadLine, IsScannedLine, all_within, left_ends, line_at_end, line_at_text_end, one_more}
+use Rattle.py_lines.proofs.ScanMachine.Soundness.{StandsSound, end_sound, stands_sound}
 use Rattle.py_lines.proofs.Readers.LineFaults.{Within, finished, unfinished_within}
 use Rattle.py_lines.proofs.Feeds.Known.{IsKnown, first_at, goes_at, is_known}
 use Rattle.py_lines.proofs.Feeds.DecidedSoFar.{way_open}
-use Rattle.py_lines.proofs.Feeds.Ended.{ended_bytes, ended_unfinished, ended_line}
-use Rattle.py_lines.proofs.Feeds.OpenLine.{fails_keep, fails_ready, fault_after, holds_on, dropped, holds_self, room_more, runs_out, scans_on, open_stands, open_stop, open_size, reached_by}
+use Rattle.py_lines.proofs.Feeds.Ended.{ended_bytes, ended_unfinished}
+use Rattle.py_lines.proofs.Feeds.OpenLine.{fails_keep, fails_ready, fault_after, holds_on, dropped, holds_self, room_more, runs_out, scans_on}
+use Rattle.py_lines.proofs.Feeds.LeftBytes.{left_none}
 use Rattle.py_lines.proofs.Feeds.ReadyLines.{holds_line, ended_holds, some_is}
 use Rattle.py_lines.proofs.Lexings.FirstLines.{all_first}
+use Rattle.py_lines.proofs.LogicalLines.Cuts.{byte_len-append}
 use Rattle.py_lines.proofs.Feeds.FedHeld.{never_before}
 use Rattle.py_lines.proofs.Feeds.Taken.{settled_held}
 
@@ -59,6 +65,18 @@ text_left old mid keeps some not_ready scanned =
           (rw (keeps.place, keeps.held) (settled_held text lines old not_ready scanning)));
     }
 
+-- the text's last line
+pub ended_line : (text : List ℕ) (state : LineState) (lines : List LogicalLine) (read rest : List ℕ) (k : IsKnown text state.place state.line lines read rest) → length text ≡ state.place + length (encode_utf8_all read ++ rest)
+    → rest ≡ [] → {u : List Piece} → IsReadLine (line_start (first_mode state.place)) read u → AreReadBefore u [] → IsLexed text (lines ++ line_of state.place state.line u ∷ []) None
+ended_line text state lines read rest k whole none {u} own fit =
+    let size : length text ≡ state.place + byte_len read = omega (arith, whole, ap length none, length-append (encode_utf8_all read) rest) in
+    let all : length text ≡ byte_len (spelled k.base ++ (read ++ k.more)) + length k.tail = ap length (sym k.decodes.spell) ∙ length-append (encode_utf8_all (spelled k.base ++ (read ++ k.more))) k.tail in
+    let left : byte_len k.more + length k.tail ≡ 0 = omega (arith, size, all, k.here, byte_len-append (spelled k.base) (read ++ k.more), byte_len-append read k.more) in
+    let more : k.more ≡ [] = nil_from_length k.more (omega (arith, left, length-le-encodes k.more)) in
+    let tail : k.tail ≡ [] = nil_from_length k.tail (omega (arith, left)) in
+    let first = one_more k own (subst (AreReadBefore u) (sym more) fit) (IsEnded.by_text (ap (λ t. t ++ k.tail) more ∙ tail)) in
+    all_first text (state.place + byte_len read) (state.line + line_ends read) (lines ++ line_of state.place state.line u ∷ []) first (omega (arith, size))
+
 -- what is held was scanned, and no line has ended in it
 pub record IsLeftOpen (old f : Feed) : Type 0 where
   pub keeps : Holds old old.held.items old.state.fault f
@@ -66,86 +84,111 @@ pub record IsLeftOpen (old f : Feed) : Type 0 where
   pub some : 0 < length f.held.items
 
 module _ {old f : Feed} (h : IsLeftOpen old f) where
-  abbrev way : IsUnderWay (first_mode f.state.place) f.state.scan h.scanned.0.read
-  way = h.scanned.0.stops.0
+  -- where the scan stopped
+  abbrev pub left_at : IsLeft (first_mode f.state.place) f.held.items f.state.scan h.scanned.0.read h.scanned.0.rest
+  left_at = h.scanned.0.stops
 
-  abbrev o : Reached (first_mode f.state.place) f.held.items f.state.scan h.scanned.0.rest
-  o = reached_by h.scanned.0 way
+  abbrev read : List ℕ
+  read = h.scanned.0.read
+
+  abbrev rest : List ℕ
+  rest = h.scanned.0.rest
+
+  abbrev way : IsUnderWay (first_mode f.state.place) read
+  way = left_at.way
+
+  start : IsScanSound (line_start (first_mode f.state.place)) []
+  start = begun_sound f.state.place
+
+  here_is : here way.field ≡ byte_len read
+  here_is = way_here way start
 
   module _ (text : List ℕ) (lines : List LogicalLine) (scanning : IsScanning (scanning_of old) text lines) (whole : length text ≡ fed_of (scanning_of old)) where
     -- what is known where the text ends
-    known_at : IsKnown text f.state.place f.state.line lines h.scanned.0.read h.scanned.0.rest
-    known_at = is_known text f.state.place f.state.line lines h.scanned.0.read h.scanned.0.rest (first_at h.keeps.place h.keeps.line scanning.first) h.scanned.0.scalars (goes_at text h.keeps.place (h.scanned.0.spell ∙ h.keeps.held) scanning.held) (omega (arith, h.some, ap length h.scanned.0.spell))
+    known_at : IsKnown text f.state.place f.state.line lines read rest
+    known_at = is_known text f.state.place f.state.line lines read rest (first_at h.keeps.place h.keeps.line scanning.first) h.scanned.0.scalars (goes_at text h.keeps.place (h.scanned.0.spell ∙ h.keeps.held) scanning.held) (omega (arith, h.some, ap length h.scanned.0.spell))
 
-    whole_at : length text ≡ f.state.place + length (encode_utf8_all h.scanned.0.read ++ h.scanned.0.rest)
+    whole_at : length text ≡ f.state.place + length (encode_utf8_all read ++ rest)
     whole_at = omega (arith, whole, h.keeps.place, ap length h.keeps.held, ap length h.scanned.0.spell)
 
-  -- what these come to
-  pub all_scanned : length f.held.items ≤ f.state.scan.stop → h.scanned.0.rest ≡ []
-  all_scanned full = nil_from_length h.scanned.0.rest (omega (arith, full, open_stop f h.scanned.0.rest o, open_size f h.scanned.0.rest o))
+  read_some : rest ≡ [] → 0 < byte_len read
+  read_some none = omega (arith, h.some, ap length h.scanned.0.spell, length-append (encode_utf8_all read) rest, ap length none)
 
-  read_some : h.scanned.0.rest ≡ [] → 0 < byte_len h.scanned.0.read
-  read_some none = omega (arith, h.some, open_size f h.scanned.0.rest o, ap length none)
+  -- what the end of the text comes to, by the state where the machine is
+  module _ (scan : Scan) where
+    pub at_end : (bytes : List ℕ) → bytes ≡ left_at.left → (result : Result ℕ LineFault) → EndsTextSo f.state.scan bytes result scan → ComesToEnd way.field rest result scan
+    at_end bytes is result ends =
+        subst (λ t. ComesToEnd way.field t result scan) (append-nil rest)
+        (left_ends left_at start h.scanned.0.spell [] (subst StartsWithNoChar (sym (append-nil rest)) left_at.none) result scan
+        (subst (λ t. EndsTextSo f.state.scan t result scan) (is ∙ sym (append-nil left_at.left)) ends))
 
-  unfinished_in : h.scanned.0.rest ≡ [] → (line_fault : LineFault) → EndsField f.state.scan (Some line_fault) → Within h.scanned.0.read line_fault.place
-  unfinished_in none line_fault is = unfinished_within f.state.place f.state.scan h.scanned.0.read way (read_some none) line_fault is
+    -- the scan stopped after all then
+    abbrev pub stopped : Feed
+    stopped = record f { state = record f.state { scan = scan } }
 
-  -- the fault that the text has there is kept
-  end_fault : f.ready ≡ None → (new : Feed) (error : LexError) (kind : FaultKind) (offset : ℕ) (fails : FailsAt f kind offset error new) → WhereWhole (scanning_of old) (λ text lines. IsLexed text lines (Some fails.keeps.fault)) → EndsText old (Err error) new
-  end_fault not_ready new error kind offset fails lexed = subst (λ (e : LexError). EndsText old (Err e) new) (sym fails.keeps.error_is) (record {
-    text = holds_on h.keeps (fails_keep f new kind offset error fails) h.keeps.held refl;
-    none_ready = fails_ready f new kind offset error fails not_ready;
-    lexed = lexed;
-  })
+    -- the fault that the text has there is kept
+    end_fault : f.ready ≡ None → (new : Feed) (error : LexError) (kind : FaultKind) (offset : ℕ) (fails : FailsAt stopped kind offset error new) → WhereWhole (scanning_of old) (λ text lines. IsLexed text lines (Some fails.keeps.fault)) → EndsText old (Err error) new
+    end_fault not_ready new error kind offset fails lexed = subst (λ (e : LexError). EndsText old (Err e) new) (sym fails.keeps.error_is) (record {
+      text = holds_on h.keeps (fails_keep stopped new kind offset error fails) h.keeps.held refl;
+      none_ready = fails_ready stopped new kind offset error fails not_ready;
+      lexed = lexed;
+    })
 
-  -- what is wrong there: bytes that begin no character are left, or something is open
-  module _ (held : ℕ) (all : held ≡ length f.held.items) (line_fault : LineFault) where
-    pub end_fault_within : IsEndLineFault f.state.scan (held - f.state.scan.stop) (Some line_fault) → Within h.scanned.0.read line_fault.place
-    end_fault_within (inl (more, kind, place)) = subst (Within h.scanned.0.read) (sym place) (all_within h.scanned.0.read f.state.scan.stop (open_stop f h.scanned.0.rest o))
-    end_fault_within (inr (none, unfinished)) = unfinished_in (all_scanned (omega (arith, all, none))) line_fault unfinished
+    fault_at : (new : Feed) (error : LexError) (kind : FaultKind) (offset : ℕ) (fails : FailsAt stopped kind offset error new) (w : Within read offset) → IsFaultAfter f.state kind offset (encode_utf8_all w.prefix) fails.keeps.fault
+    fault_at new error kind offset fails w =
+        let at = fault_after stopped new kind offset error fails read rest h.scanned.0.spell h.scanned.0.scalars w in
+        record { is = at.is; place = at.place; line = at.line }
 
-    pub end_fault_fails : f.ready ≡ None → is_returned f.state.scan ≡ false → (new : Feed) (error : LexError) → FailsAt f line_fault.kind line_fault.place error new
-        → IsEndLineFault f.state.scan (held - f.state.scan.stop) (Some line_fault) → EndsText old (Err error) new
-    end_fault_fails not_ready not_yet new error fails (inl (more, kind, place)) =
-        let left : 0 < length h.scanned.0.rest = omega (arith, all, more, open_size f h.scanned.0.rest o, open_stop f h.scanned.0.rest o) in
-        let here = subst (λ (k : FaultKind). FailsAt f k f.state.scan.stop error new) kind (subst (λ (n : ℕ). FailsAt f line_fault.kind n error new) place fails) in
-        end_fault not_ready new error FaultKind.BadUtf8 f.state.scan.stop here (λ text lines scanning whole.
-        ended_bytes text f.state lines h.scanned.0.read h.scanned.0.rest (known_at text lines scanning whole) (whole_at text lines scanning whole) way not_yet left here.keeps.fault
-        (fault_after f new FaultKind.BadUtf8 f.state.scan.stop error here h.scanned.0.rest o (record { prefix = h.scanned.0.read; later = []; split = append-nil h.scanned.0.read; size = open_stop f h.scanned.0.rest o })) h.scanned.0.stops.1)
-    end_fault_fails not_ready not_yet new error fails (inr (none, unfinished)) =
-        let empty = all_scanned (omega (arith, all, none)) in
-        let w = unfinished_in empty line_fault unfinished in
-        end_fault not_ready new error line_fault.kind line_fault.place fails (λ text lines scanning whole.
-        ended_unfinished text f.state lines h.scanned.0.read h.scanned.0.rest (known_at text lines scanning whole) (whole_at text lines scanning whole) way not_yet empty (read_some empty) line_fault unfinished fails.keeps.fault w
-        (fault_after f new line_fault.kind line_fault.place error fails h.scanned.0.rest o w))
+    -- what is wrong there: bytes that begin no character are left, or something is open
+    module _ (line_fault : LineFault) where
+      pub end_fault_within : ComesToEnd way.field rest (Err line_fault) scan → Within read line_fault.place
+      end_fault_within (open_yet, inl (more, kind, place)) = all_within read line_fault.place (place ∙ here_is)
+      end_fault_within (open_yet, inr (none, unfinished)) = unfinished_within f.state.place read way (read_some none) line_fault unfinished
 
-  -- the last line is ready
-  last_line : (end_len : ℕ) → h.scanned.0.rest ≡ [] → is_final way.state.mode ≡ true → way.brackets ≡ []
-      → IsScannedLine (line_start (first_mode f.state.place)) f.state.scan h.scanned.0.read end_len (pieces_at way.state) → EndsText old (Ok tt) (record f { ready = Some end_len })
-  last_line end_len none final empty line = record {
-    text = record { held = h.keeps.held; place = h.keeps.place; line = h.keeps.line; ended = h.keeps.ended; fault = h.keeps.fault };
-    line = _;
-    holds = (holds_line f end_len h.scanned.0.read h.scanned.0.rest (pieces_at way.state) h.scanned.0.scalars h.scanned.0.spell line, refl);
-    lexed = λ text lines scanning whole. (
-      ended_line text f.state lines h.scanned.0.read h.scanned.0.rest (known_at text lines scanning whole) (whole_at text lines scanning whole) way none empty
-          final line.line.some line.line.whole,
-      sym h.scanned.0.spell ∙ ap (λ t. encode_utf8_all h.scanned.0.read ++ t) none ∙ append-nil (encode_utf8_all h.scanned.0.read) ∙ ap encode_utf8_all (sym line.line.spell),
-    );
-  }
+      pub end_fault_fails : f.ready ≡ None → (new : Feed) (error : LexError) → FailsAt stopped line_fault.kind line_fault.place error new → ComesToEnd way.field rest (Err line_fault) scan → EndsText old (Err error) new
+      end_fault_fails not_ready new error fails (open_yet, inl (more, kind, place)) =
+          let moved : FailsAt stopped FaultKind.BadUtf8 (byte_len read) error new
+          = subst (λ (k : FaultKind). FailsAt stopped k (byte_len read) error new) kind (subst (λ (n : ℕ). FailsAt stopped line_fault.kind n error new) (place ∙ here_is) fails) in
+          end_fault not_ready new error FaultKind.BadUtf8 (byte_len read) moved (λ text lines scanning whole.
+          ended_bytes text f.state lines read rest (known_at text lines scanning whole) (whole_at text lines scanning whole) way open_yet more moved.keeps.fault
+          (fault_at new error FaultKind.BadUtf8 (byte_len read) moved (record { prefix = read; later = []; split = append-nil read; size = refl })) left_at.none)
+      end_fault_fails not_ready new error fails (open_yet, inr (none, unfinished)) =
+          let w = unfinished_within f.state.place read way (read_some none) line_fault unfinished in
+          end_fault not_ready new error line_fault.kind line_fault.place fails (λ text lines scanning whole.
+          ended_unfinished text f.state lines read rest (known_at text lines scanning whole) (whole_at text lines scanning whole) way open_yet none (read_some none) line_fault unfinished fails.keeps.fault w
+          (fault_at new error line_fault.kind line_fault.place fails w))
 
-  pub ends_plain : h.scanned.0.rest ≡ [] → is_returned f.state.scan ≡ false → EndsField f.state.scan None → EndsText old (Ok tt) (record f { ready = Some 0 })
-  ends_plain none not_yet unfinished =
-      let (final, empty) = finished way (begun_sound f.state.place) unfinished in
-      last_line 0 none final empty (line_at_text_end (first_mode f.state.place) f.state.scan h.scanned.0.read way (open_stands f h.scanned.0.rest o) final
-      (way_open way (begun_sound f.state.place) not_yet) empty (read_some none))
+    abbrev ready : ℕ → Feed
+    ready end_len = record stopped { ready = Some end_len }
 
-  pub ends_returned : is_returned f.state.scan ≡ true → EndsText old (Ok tt) (record f { ready = Some 1 })
-  ends_returned returned =
-      let parts = and_parts (is_return_mode way.state.mode) (none_open way.brackets) (sym (way_returned way (begun_sound f.state.place)) ∙ returned) in
-      let empty = empty_stack way.brackets parts.1 in
-      let none = h.scanned.2 returned in
-      last_line 1 none (returned_final way.state.mode parts.0) empty
-      (line_at_return (first_mode f.state.place) f.state.scan h.scanned.0.read way (open_stands f h.scanned.0.rest o) parts.0 empty (read_some none))
+    -- the last line is ready
+    last_line : (end_len : ℕ) (u : List Piece) → rest ≡ [] → IsScannedLine (line_start (first_mode f.state.place)) scan read end_len u → AreReadBefore u [] → EndsText old (Ok tt) (ready end_len)
+    last_line end_len u none line fit = record {
+      text = record { held = h.keeps.held; place = h.keeps.place; line = h.keeps.line; ended = h.keeps.ended; fault = h.keeps.fault };
+      line = _;
+      holds = (holds_line (ready end_len) end_len read rest u h.scanned.0.scalars h.scanned.0.spell line, refl);
+      lexed = λ text lines scanning whole. (
+        ended_line text f.state lines read rest (known_at text lines scanning whole) (whole_at text lines scanning whole) none line.line fit,
+        sym h.scanned.0.spell ∙ ap (λ t. encode_utf8_all read ++ t) none ∙ append-nil (encode_utf8_all read) ∙ ap encode_utf8_all (sym line.line.spell),
+      );
+    }
+
+    sound : StandsSound (first_mode f.state.place) read way.state way.brackets
+    sound = stands_sound (first_mode f.state.place) read way.state way.brackets start (way_goes way)
+
+    pub ends_so : (end_len : ℕ) → ComesToEnd way.field rest (Ok end_len) scan → EndsText old (Ok tt) (ready end_len)
+    ends_so end_len (stop, inl (size, is)) =
+        let m = first_mode f.state.place in
+        let at : IsAtLineEnd m scan read [] 1 = returned way start stop is (λ after none. ap (begins is_line_feed) (encodes_same after [] none)) in
+        subst (λ (n : ℕ). EndsText old (Ok tt) (ready n)) (sym size)
+        (last_line 1 (at.body ++ at.last ∷ []) (left_none left_at is) (line_at_end m scan read [] 1 at [] refl) (at.fit [] refl))
+    ends_so end_len (stop, inr (size, none, not_yet, unfinished)) =
+        let m = first_mode f.state.place in
+        let (final, empty) = finished way start unfinished in
+        subst (λ (n : ℕ). EndsText old (Ok tt) (ready n)) (sym size)
+        (last_line 0 (pieces_at way.state) none
+        (line_at_text_end m scan read way sound final (way_open way start not_yet) empty (read_some none) (stop ∙ here_is))
+        (end_sound m read way.state way.brackets sound final).fit)
 
 -- the text has ended
 abbrev pub ended_now : Feed → Feed

@@ -21,6 +21,7 @@ use Rattle.py_lines.proofs.Feeds.SettledSoFar.{settled_open, settled_ready, ende
 use Rattle.py_lines.proofs.Feeds.DecidedSoFar.{undecided}
 use Rattle.py_lines.proofs.Feeds.ReadyLines.{ended_alone, ended_scan, pieces_alone, same_before}
 use Rattle.py_lines.proofs.Feeds.LastBytes.{exactly_encoded}
+use Rattle.py_lines.proofs.Feeds.LeftBytes.{left_none}
 use Rattle.py_lines.proofs.LineScan.NextCharacter.{is_return_mode}
 use Rattle.py_lines.proofs.LineScan.LineSteps.{follows_whole, way_returned}
 
@@ -96,16 +97,18 @@ module _ (f : Feed) (s : IsScanned f None) (text : List ℕ) (lines : List Logic
 
     settled_scanned : IsSettled (take (f.state.place + length f.held.items) text) lines
     settled_scanned =
-        let (way, bad) = s.0.stops in
-        let last = λ (h : is_return_mode way.state.mode && none_open way.brackets ≡ true). s.2 (way_returned way (begun_sound f.state.place) ∙ h) in
+        let left = s.0.stops in
+        let way = left.way in
+        let last = λ (h : is_return_mode way.state.mode && none_open way.brackets ≡ true). left_none left (way_returned way (begun_sound f.state.place) ∙ h) in
         subst (λ l. IsSettled (take (f.state.place + length l) text) lines) s.0.spell
-        (settled_open text f.state.place f.state.line lines s.0.read s.0.rest known_open way.state way.brackets (way_goes way) way.one_line bad (omega (arith, some, ap length s.0.spell)) last)
+        (settled_open text f.state.place f.state.line lines s.0.read s.0.rest known_open way.state way.brackets (way_goes way) way.one_line left.none (omega (arith, some, ap length s.0.spell)) last)
 
     undecided_scanned : DecideNone (take (f.state.place + length f.held.items) text)
     undecided_scanned fault =
-        let (way, bad) = s.0.stops in
+        let left = s.0.stops in
+        let way = left.way in
         subst (λ l. ¬ (Decides (take (f.state.place + length l) text) fault)) s.0.spell
-        (undecided text f.state.place f.state.line lines s.0.read s.0.rest known_open way.state way.brackets (way_goes way) bad s.1 fault)
+        (undecided text f.state.place f.state.line lines s.0.read s.0.rest known_open way.state way.brackets (way_goes way) left.none s.1 fault)
 
   -- the lines given are settled then, and no fault is decided
   pub scanned_open : SettleNone text f.state.place f.held.items lines × DecideNone (take (f.state.place + length f.held.items) text)

@@ -1,10 +1,10 @@
 -- What a call that feeds a piece answers, for every text that goes on so.
-use Rattle.std.proofs.Common.{◌≡◌, ℕ, ◌+◌, ◌⊎◌, true, Err, None, Some, List, length, take, drop, refl, sym, ap, ◌∙◌, subst, inl, inr, append-nil, arith}
+use Rattle.std.proofs.Common.{◌≡◌, ℕ, ◌+◌, ◌⊎◌, true, false, Err, None, Some, List, length, take, drop, refl, sym, ap, ◌∙◌, subst, inl, inr, append-nil, arith}
 use Rattle.std.specs.Prelude.{is_some}
 use Rattle.py_lines.specs.LogicalLine.{LogicalLine}
 use Rattle.py_lines.specs.ScannerState.{ScannerState, TakesBytes, ScannerRunsOut, Feeds, FeedsNaming, LacksBoth, Releases, TakesNaming}
-use Rattle.py_lines.specs.Private.Feed.{HasReadTokens, HoldsSo, IsSoundFeed, LetsGo, ReadsTokens, StandsSo, TakesLine, line_held, with_line, LexError, Feed, line_of_feed, ready_of, scanning_of}
-use Rattle.py_lines.proofs.Feeds.ReadyLines.{line_stands, none_read, none_ready, some_is, text_stands}
+use Rattle.py_lines.specs.Private.Feed.{DropsLine, HasReadTokens, HoldsSo, IsSoundFeed, LetsGoWithout, ReadsTokens, StandsSo, TakesLine, line_held, with_line, LexError, Feed, line_of_feed, ready_of, scanning_of}
+use Rattle.py_lines.proofs.Feeds.ReadyLines.{none_read, none_ready, some_is, text_stands}
 use Rattle.py_lines.proofs.Feeds.OpenLine.{dropped, runs_out}
 use Rattle.py_lines.proofs.Feeds.Released.{released_sound, releases}
 use Rattle.py_lines.proofs.Feeds.Taken.{takes_on}
@@ -72,35 +72,42 @@ module _ {old new : Feed} {piece : List ℕ} {n : ℕ} (t : TakesLine old piece 
       }
 
   -- where there is no memory for the tokens
-  pub fed_short : IsSoundFeed old → old.ready ≡ None → {held : ℕ} → held ≡ length old.held.items → {now : Feed} (error : LexError) → ReadsTokens new held (Err error) now
+  pub fed_short : IsSoundFeed old → old.ready ≡ None → {held : ℕ} → held ≡ length old.held.items → {mid now : Feed} → mid ≡ new → (error : LexError) → ReadsTokens mid held (Err error) now
       → Feeds (scanning_of old) piece (Err error) (scanning_of now) × IsSoundFeed now
-  fed_short sound was size (LexError.Fault f) never = absurd never
-  fed_short sound was size {now} LexError.Memory drops = runs_out sound t.takes.fault was (dropped old new now (take n piece) (record {
+  fed_short sound was size same (LexError.Fault f) never = absurd never
+  fed_short sound was {held} size {mid} {now} same LexError.Memory drops = runs_out sound t.takes.fault was (dropped old new now (take n piece) (record {
     held = t.takes.held;
     place = t.takes.place;
     line = t.takes.line;
     ended = t.takes.open_yet;
     fault = t.takes.no_fault ∙ sym t.takes.fault;
-  }) size drops)
+  }) size (subst (λ (f : Feed). DropsLine f held now) same drops))
 
-  -- where one of the words stands in the line
-  pub fed_named : {now : Feed} {word other : List ℕ} → old.ready ≡ None → ¬ (LacksBoth word other (take new.state.scan.stop new.held.items)) → HasReadTokens new now → TakesNaming word other (scanning_of old) piece n (scanning_of now)
-  fed_named {now} {word} {other} was has read = naming_same word other (scanning_of old) (scanning_of now) piece n (takes_read read) (λ line is.
-      inr (subst (λ l. ¬ (LacksBoth word other l)) (sym (text_stands new new.ready t.holds (ap (λ (s : ScannerState). s.ready) (sym (read.seen t.line t.holds)) ∙ is))) has))
+  -- where it was not let go, and the tokens of the line that stands in what is held are read
+  pub fed_named : {mid now : Feed} {word other : List ℕ} → LetsGoWithout word other new false mid → HasReadTokens mid now → TakesNaming word other (scanning_of old) piece n (scanning_of now)
+  fed_named {mid} {now} {word} {other} stays read =
+      let here = subst (λ (f : Feed). HasReadTokens f now) stays.0 read in
+      naming_same word other (scanning_of old) (scanning_of now) piece n (takes_read here) (λ line is.
+      let at = text_stands new new.ready t.holds (ap (λ (s : ScannerState). s.ready) (sym (here.seen t.line t.holds)) ∙ is) in
+      inr (subst (λ text. ¬ (LacksBoth word other text)) (sym at.2) (stays.1 at.0 at.1)))
 
-  -- where none does, and it is released
-  pub fed_released : {now : Feed} {word other : List ℕ} → old.ready ≡ None → is_some new.ready ≡ true → LacksBoth word other (take new.state.scan.stop new.held.items) → LetsGo new now
-      → TakesNaming word other (scanning_of old) piece n (scanning_of now) × IsSoundFeed now
-  fed_released {now} {word} {other} was some lacks go =
-      let (end_len, ready, h, is) = line_stands new new.ready t.holds some in (
+  -- where it was let go
+  pub fed_released : {now : Feed} {word other : List ℕ} → old.ready ≡ None → LetsGoWithout word other new true now → TakesNaming word other (scanning_of old) piece n (scanning_of now) × IsSoundFeed now
+  fed_released {now} {word} {other} was (end_len, ready, lacks, go) =
+      let h = subst (λ r. HoldsSo new r t.line) ready t.holds in (
         record {
           mid = with_line new t.line;
           takes = t.takes;
-          same = inr (line_held new end_len h, is, subst (LacksBoth word other) (sym h.text.spell) lacks, subst (λ l. Releases (with_line new l) (scanning_of now)) (sym is) (releases new now end_len h go));
+          same = inr (
+            line_held new end_len h.0,
+            h.1,
+            subst (LacksBoth word other) (sym h.0.text.spell) lacks,
+            subst (λ l. Releases (with_line new l) (scanning_of now)) (sym h.1) (releases new now end_len h.0 go),
+          );
           kept = λ line seen. absurd (let none = ap (ready_of now) go.ready in cc);
           waits = λ line seen. absurd (let none = ap (ready_of old) was in cc);
         },
-        released_sound new now end_len h go t.room,
+        released_sound new now end_len h.0 go t.room,
       )
 
 -- an error is the same where lines are released at once

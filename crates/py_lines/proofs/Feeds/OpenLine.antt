@@ -1,38 +1,29 @@
 -- What is held of a line that is open, and what a scan of it comes to.
-use Rattle.std.proofs.Common.{◌≡◌, ℕ, ◌+◌, ◌-◌, ◌<◌, ◌≤◌, Bool, true, List, [], ◌∷◌, ◌++◌, length, take, drop, inr, refl, sym, ap, ◌∙◌, append_assoc, arith, length-append, length-drop, ◌^◌, false, Option, None, Some, Result, Ok, Err, subst, ⊎_elim, append-nil}
+use Rattle.std.proofs.Common.{◌≡◌, ℕ, ◌+◌, ◌-◌, ◌<◌, ◌≤◌, Bool, true, List, [], ◌++◌, length, take, drop, refl, sym, ap, ◌∙◌, append_assoc, arith, length-append, length-drop, ◌^◌, Option, None, Some, Result, Ok, Err, subst, ⊎_elim, append-nil}
 use Rattle.std.specs.Prelude.{encode_utf8_all, ◌==◌}
-use Rattle.std.specs.Str.{all_scalars, StartsWithNoChar}
+use Rattle.std.specs.Str.{all_scalars}
 use Rattle.std.specs.Global.{Vec}
 use Rattle.std.specs.Vec.{vec_len}
-use Rattle.std.proofs.lemmas.Bool.{and_parts, eqb-true, cases_lt}
-use Rattle.std.proofs.lemmas.Str.{encodes-append, encode_ascii, encodes_same}
+use Rattle.std.proofs.lemmas.Bool.{eqb-true, cases_lt}
+use Rattle.std.proofs.lemmas.Str.{encodes-append}
 use Rattle.std.proofs.lemmas.List.{nil_from_length, take_all}
 use Rattle.std.proofs.Math.Seq.{take-append_seam, drop-append_seam}
-use Rattle.py_lines.specs.Character.{is_line_feed}
 use Rattle.py_lines.specs.Piece.{begins}
 use Rattle.py_lines.specs.LogicalLine.{byte_len}
-use Rattle.py_lines.specs.Private.Run.{Reached}
-use Rattle.py_lines.specs.Private.LineScan.{is_returned, none_open, EndsWhole, IsUnderWay, ScansIn}
-use Rattle.py_lines.specs.Private.Scan.{RefusesField, freed}
+use Rattle.py_lines.specs.Private.LineScan.{Reached}
 use Rattle.py_lines.specs.Private.LineState.{first_mode, BeginsAnew, IsFaultAfter}
-use Rattle.py_lines.specs.Private.Feed.{IsCutAt, IsHeldOpen, IsOpen, StopsHeld, Scan, Stop, Feed, DropsLine, FailsAt, HasRoom, Holds, HoldsAt, IsDecidedAt, IsSoundFeed, IsUnchanged, ScansHeld, ScansTo, StandsSo, StopsWith, WhereHeld, Fault, FaultKind, LexError, ready_of, scanning_of, LineState, LineFault, Mode}
+use Rattle.py_lines.specs.Private.Feed.{IsCutAt, IsHeldOpen, IsOpen, StopsHeld, Stop, Feed, DropsLine, FailsAt, HasRoom, Holds, HoldsAt, IsDecidedAt, IsSoundFeed, IsUnchanged, ScansHeld, ScansTo, StandsSo, StopsWith, WhereHeld, Fault, FaultKind, LexError, ready_of, scanning_of, LineState, LineFault}
 use Rattle.py_lines.proofs.Text.Utf8Prefixes.{all_scalars-parts}
 use Rattle.py_lines.proofs.LogicalLines.Cuts.{byte_len-append}
-use Rattle.py_lines.proofs.ScanMachine.Soundness.{StandsSound, stands_sound}
-use Rattle.py_lines.proofs.LineScan.NextCharacter.{is_return_mode}
-use Rattle.py_lines.proofs.LineScan.LineSteps.{begun_way, returned, way_returned, way_stop}
-use Rattle.py_lines.proofs.LineScan.LineStops.{return_ends}
-use Rattle.py_lines.proofs.LineScan.TextSteps.{begun_sound, way_goes}
+use Rattle.py_lines.proofs.FieldScans.Resting.{rests_more}
+use Rattle.py_lines.proofs.LineScan.LineSteps.{begun_reached, rests_end}
+use Rattle.py_lines.proofs.LineScan.TextSteps.{begun_sound}
 use Rattle.py_lines.proofs.Readers.LineFaults.{Within, refused_within}
 use Rattle.py_lines.specs.Settled.{IsHopeless}
 use Rattle.py_lines.specs.ScannerState.{ScannerRunsOut}
 use Rattle.py_lines.proofs.Text.Incomplete.{part_none}
 use Rattle.py_lines.proofs.Feeds.DecidedSoFar.{by_bytes, by_character}
-
--- the scan of a line that is open where it stops has come there
-abbrev pub reached_by : {m : Mode} {whole : List ℕ} {scan : Scan} {stop : Stop} (s : ScansIn m whole scan stop)
-    → IsUnderWay m scan s.read → Reached m whole scan s.rest
-reached_by s way = record { read = s.read; way = way; spell = s.spell; scalars = s.scalars }
+use Rattle.py_lines.proofs.Feeds.LeftBytes.{left_open}
 
 pub none_held : (held : Vec ℕ) {empty : Bool} → empty ≡ (vec_len held == 0) → empty ≡ true → held.items ≡ []
 none_held held is empty = nil_from_length held.items (let none : vec_len held ≡ 0 = eqb-true (vec_len held) 0 (sym is ∙ empty) in omega (arith, none))
@@ -42,16 +33,23 @@ pub reached_more : (f : Feed) (rest bytes : List ℕ) → IsOpen f rest → Reac
 reached_more f rest bytes o = record {
   read = o.read;
   way = o.way;
+  rests = rests_more f.state.scan o.way.field rest bytes o.rests;
   spell = sym (append_assoc (encode_utf8_all o.read) rest bytes) ∙ ap (λ t. t ++ bytes) o.spell;
   scalars = o.scalars;
 }
 
-module _ (f : Feed) (rest : List ℕ) (o : IsOpen f rest) where
-  pub open_stands : StandsSound (first_mode f.state.place) o.read o.way.state o.way.brackets
-  open_stands = stands_sound (first_mode f.state.place) o.read o.way.state o.way.brackets (begun_sound f.state.place) (way_goes o.way)
+-- a place in characters that what is held begins with
+pub within_held : (f : Feed) (read rest : List ℕ) → encode_utf8_all read ++ rest ≡ f.held.items → all_scalars read ≡ true → (offset : ℕ) (w : Within read offset) → IsCutAt f offset × (take offset f.held.items ≡ encode_utf8_all w.prefix)
+within_held f read rest spelled scalars offset w =
+    let size : byte_len read ≡ byte_len w.prefix + byte_len w.later = ap byte_len (sym w.split) ∙ byte_len-append w.prefix w.later in
+    let spell : f.held.items ≡ encode_utf8_all w.prefix ++ (encode_utf8_all w.later ++ rest) = sym spelled ∙ ap (λ t. encode_utf8_all t ++ rest) (sym w.split) ∙ ap (λ t. t ++ rest) (encodes-append w.prefix w.later) ∙ append_assoc (encode_utf8_all w.prefix) (encode_utf8_all w.later) rest in
+    let taken : take offset f.held.items ≡ encode_utf8_all w.prefix = ap (λ (n : ℕ). take n f.held.items) w.size ∙ ap (take (byte_len w.prefix)) spell ∙ take-append_seam (encode_utf8_all w.prefix) (encode_utf8_all w.later ++ rest) in
+    let fine = (all_scalars-parts w.prefix w.later (ap all_scalars w.split ∙ scalars)).0 in
+    ((omega (arith, size, w.size, ap length (sym spelled), length-append (encode_utf8_all read) rest), (w.prefix, (fine, sym taken))), taken)
 
+module _ (f : Feed) (rest : List ℕ) (o : IsOpen f rest) where
   pub open_stop : f.state.scan.stop ≡ byte_len o.read
-  open_stop = way_stop o.way (begun_sound f.state.place)
+  open_stop = rests_end o.way (begun_sound f.state.place) o.rests
 
   pub open_size : length f.held.items ≡ byte_len o.read + length rest
   open_size = ap length (sym o.spell) ∙ length-append (encode_utf8_all o.read) rest
@@ -59,15 +57,6 @@ module _ (f : Feed) (rest : List ℕ) (o : IsOpen f rest) where
   -- where the scan stopped in the bytes that are held
   pub open_within : (bytes : List ℕ) → bytes ≡ f.held.items → f.state.scan.stop ≤ length bytes
   open_within bytes is = omega (arith, open_stop, open_size, ap length is)
-
-  -- a place in what was scanned
-  pub within_held : (offset : ℕ) (w : Within o.read offset) → IsCutAt f offset × (take offset f.held.items ≡ encode_utf8_all w.prefix)
-  within_held offset w =
-      let size : byte_len o.read ≡ byte_len w.prefix + byte_len w.later = ap byte_len (sym w.split) ∙ byte_len-append w.prefix w.later in
-      let spell : f.held.items ≡ encode_utf8_all w.prefix ++ (encode_utf8_all w.later ++ rest) = sym o.spell ∙ ap (λ t. encode_utf8_all t ++ rest) (sym w.split) ∙ ap (λ t. t ++ rest) (encodes-append w.prefix w.later) ∙ append_assoc (encode_utf8_all w.prefix) (encode_utf8_all w.later) rest in
-      let taken : take offset f.held.items ≡ encode_utf8_all w.prefix = ap (λ (n : ℕ). take n f.held.items) w.size ∙ ap (take (byte_len w.prefix)) spell ∙ take-append_seam (encode_utf8_all w.prefix) (encode_utf8_all w.later ++ rest) in
-      let scalars = (all_scalars-parts w.prefix w.later (ap all_scalars w.split ∙ o.scalars)).0 in
-      ((omega (arith, size, w.size, open_size), (w.prefix, (scalars, sym taken))), taken)
 
   -- the bytes after the place where the scan stands
   pub next_is : (held : List ℕ) → held ≡ f.held.items → take (length held - f.state.scan.stop) (drop f.state.scan.stop held) ≡ rest
@@ -83,32 +72,6 @@ pub reached_next : (f : Feed) (chunk : List ℕ) → IsHeldOpen f → length f.h
 reached_next f chunk (rest, o) all =
     let none : rest ≡ [] = nil_from_length rest (omega (arith, all, open_stop f rest o, open_size f rest o)) in
     subst (λ t. Reached (first_mode f.state.place) (f.held.items ++ chunk) f.state.scan (t ++ chunk)) none (reached_more f rest chunk o)
-
--- a line that bytes which begin no character show to have ended in CR: they don't begin with LF
-returned_whole : (read rest : List ℕ) → 0 < length rest → StartsWithNoChar rest → EndsWhole read rest
-returned_whole read [] some none = absurd (omega arith)
-returned_whole read (b ∷ more) some none = inr (b, more, refl, λ ten. none 10 more refl (ap (λ (n : ℕ). n ∷ more) ten ∙ ap (λ t. t ++ more) (sym (encode_ascii 10 (omega arith)))))
-
--- the scan once no piece is open any longer
-abbrev pub scan_freed : Feed → Feed
-scan_freed f = record f { state = record f.state { scan = freed f.state.scan } }
-
-pub ends_returned : (f : Feed) (s : StopsHeld f Stop.TextEnd) → 0 < length s.rest → is_returned f.state.scan ≡ true → StopsHeld (scan_freed f) (Stop.LineEnd 1)
-ends_returned f s some is =
-    let way = s.stops.0 in
-    let start = begun_sound f.state.place in
-    let parts = and_parts (is_return_mode way.state.mode) (none_open way.brackets) (sym (way_returned way start) ∙ is) in
-    let sound = (open_stands f s.rest (reached_by s way)).scan in
-    record {
-      read = s.read;
-      rest = s.rest;
-      scalars = s.scalars;
-      spell = s.spell;
-      stops = (
-        λ after h. returned way start is (λ a spells. ap (begins is_line_feed) (encodes_same a after spells) ∙ h (return_ends way.state s.read sound parts.0)),
-        returned_whole s.read s.rest some s.stops.1,
-      );
-    }
 
 pub holds_self : (f : Feed) → Holds f f.held.items f.state.fault f
 holds_self f = record { held = refl; place = refl; line = refl; ended = refl; fault = refl }
@@ -151,13 +114,8 @@ runs_out {old} {new} sound no_fault ready (same, none, opens) =
 
 -- the scan that was begun anew is that of a line of which nothing was read
 pub begun_open : (was : LineState) (new : Feed) → BeginsAnew was new.state → IsOpen new new.held.items
-begun_open was new b = record {
-  read = [];
-  way = subst (λ (n : ℕ). IsUnderWay (first_mode n) new.state.scan []) (sym (ap (λ (s : LineState). s.place) b.same))
-      (begun_way b.begun (begun_sound was.place));
-  spell = refl;
-  scalars = refl;
-}
+begun_open was new b = subst (λ (n : ℕ). Reached (first_mode n) new.held.items new.state.scan new.held.items) (sym (ap (λ (s : LineState). s.place) b.same))
+    (begun_reached b.begun (begun_sound was.place) new.held.items)
 
 -- nothing that a caller sees has changed then
 pub begun_unchanged : (old new : Feed) (was : LineState) → new.ready ≡ None → Holds old old.held.items old.state.fault (record new { state = was })
@@ -191,9 +149,9 @@ module _ (f new : Feed) (kind : FaultKind) (offset : ℕ) (error : LexError) (fa
   pub fails_ready : f.ready ≡ None → new.ready ≡ None
   fails_ready none = ap (λ (x : Feed). x.ready) fails.same ∙ none
 
-  -- it stands after these characters of the line that is open
-  pub fault_after : (rest : List ℕ) (o : IsOpen f rest) (w : Within o.read offset) → IsFaultAfter f.state kind offset (encode_utf8_all w.prefix) fails.keeps.fault
-  fault_after rest o w = subst (λ b. IsFaultAfter f.state kind offset b fails.keeps.fault) (within_held f rest o offset w).1 fails.keeps.at
+  -- it stands after these characters of what is held
+  pub fault_after : (read rest : List ℕ) → encode_utf8_all read ++ rest ≡ f.held.items → all_scalars read ≡ true → (w : Within read offset) → IsFaultAfter f.state kind offset (encode_utf8_all w.prefix) fails.keeps.fault
+  fault_after read rest spell scalars w = subst (λ b. IsFaultAfter f.state kind offset b fails.keeps.fault) (within_held f read rest spell scalars offset w).1 fails.keeps.at
 
   -- the scan of what is held meets a fault
   pub fails_held : f.ready ≡ None → WhereHeld f.state.place f.state.line f.held.items (λ text lines. IsDecidedAt text f.state.place lines (length f.held.items) fails.keeps.fault)
@@ -202,19 +160,19 @@ module _ (f new : Feed) (kind : FaultKind) (offset : ℕ) (error : LexError) (fa
 
 module _ (f new : Feed) (error : LexError) (not_ready : f.ready ≡ None) where
   -- what is left begins no character, whatever follows
-  pub part_fails : (s : StopsHeld f Stop.TextEnd) → IsHopeless s.rest → is_returned f.state.scan ≡ false → FailsAt f FaultKind.BadUtf8 f.state.scan.stop error new → ScansHeld f (Err error) new
-  part_fails s hopeless not_yet fails =
-      let o = reached_by s s.stops.0 in
+  pub part_fails : (s : StopsHeld f Stop.TextEnd) → IsHopeless s.rest → FailsAt f FaultKind.BadUtf8 (byte_len s.read) error new → ScansHeld f (Err error) new
+  part_fails s hopeless fails =
+      let left = s.stops in
       let some : 0 < length s.rest = ⊎_elim (λ more. more) (λ none. absurd (part_none (subst IsHopeless (nil_from_length s.rest (omega (arith, none))) hopeless))) (cases_lt 0 (length s.rest)) in
-      fails_held f new FaultKind.BadUtf8 f.state.scan.stop error fails not_ready (λ text lines first goes.
-      by_bytes text f.state lines f.held.items s.read s.rest first goes s.scalars s.spell s.stops.0 not_yet some hopeless fails.keeps.fault
-      (fault_after f new FaultKind.BadUtf8 f.state.scan.stop error fails s.rest o (record { prefix = s.read; later = []; split = append-nil s.read; size = open_stop f s.rest o })))
+      fails_held f new FaultKind.BadUtf8 (byte_len s.read) error fails not_ready (λ text lines first goes.
+      by_bytes text f.state lines f.held.items s.read s.rest first goes s.scalars s.spell left.way (left_open left some) some hopeless fails.keeps.fault
+      (fault_after f new FaultKind.BadUtf8 (byte_len s.read) error fails s.read s.rest s.spell s.scalars (record { prefix = s.read; later = []; split = append-nil s.read; size = refl })))
 
   -- the next character is refused
-  pub held_refused : (c : ℕ) (s : StopsHeld f (Stop.Refused c)) (line_fault : LineFault) → RefusesField f.state.scan c line_fault → FailsAt f line_fault.kind line_fault.place error new → ScansHeld f (Err error) new
-  held_refused c s line_fault is_line_fault fails =
-      let (way, after, scalar, spell, refuses, not_yet) = s.stops in
-      let w = refused_within f.state.place f.state.scan s.read way c refuses line_fault is_line_fault in
+  pub held_refused : (line_fault : LineFault) → StopsHeld f (Stop.Wrong line_fault) → FailsAt f line_fault.kind line_fault.place error new → ScansHeld f (Err error) new
+  held_refused line_fault s fails =
+      let no = s.stops in
+      let w = refused_within f.state.place s.read no.way no.c no.none line_fault no.fault in
       fails_held f new line_fault.kind line_fault.place error fails not_ready (λ text lines first goes.
-      by_character text f.state lines f.held.items s.read s.rest first goes s.scalars s.spell way c after scalar spell refuses not_yet line_fault is_line_fault fails.keeps.fault w
-      (fault_after f new line_fault.kind line_fault.place error fails s.rest (reached_by s way) w))
+      by_character text f.state lines f.held.items s.read s.rest first goes s.scalars s.spell no.way no.c no.after no.scalar no.spell no.none no.open_yet line_fault no.fault fails.keeps.fault w
+      (fault_after f new line_fault.kind line_fault.place error fails s.read s.rest s.spell s.scalars w))

@@ -130,9 +130,9 @@ pub line_stands : (f : Feed) (r : Option ℕ) {line : Option LogicalLine} → Ho
 line_stands f None holds h = absurd (cc)
 line_stands f (Some n) holds h = (n, refl, holds.0, holds.1)
 
-pub text_stands : (f : Feed) (r : Option ℕ) {line : Option LogicalLine} {l : LogicalLine} → HoldsSo f r line → line ≡ Some l → l.text ≡ take f.state.scan.stop f.held.items
+pub text_stands : (f : Feed) (r : Option ℕ) {line : Option LogicalLine} {l : LogicalLine} → HoldsSo f r line → line ≡ Some l → (n : ℕ) × (r ≡ Some n) × (l.text ≡ take f.state.scan.stop f.held.items)
 text_stands f None holds is = absurd (let none = holds.0 in cc)
-text_stands f (Some n) {line} {l} (h, at) is = let one : line_held f n h ≡ l = (cc) in ap (λ (u : LogicalLine). u.text) (sym one) ∙ h.text.spell
+text_stands f (Some n) {line} {l} (h, at) is = let one : line_held f n h ≡ l = (cc) in (n, refl, ap (λ (u : LogicalLine). u.text) (sym one) ∙ h.text.spell)
 
 pub some_is : (r : Option ℕ) → is_some r ≡ true → (n : ℕ) × (r ≡ Some n)
 some_is None h = absurd (cc)

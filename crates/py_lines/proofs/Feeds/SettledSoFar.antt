@@ -17,7 +17,7 @@ use Rattle.py_lines.specs.Private.Machine.{Scanned, Bracket, brackets_of}
 use Rattle.py_lines.specs.Private.ScanMachine.{IsScanSound}
 use Rattle.py_lines.specs.Private.LineScan.{EndsNoLine, line_start, none_open}
 use Rattle.py_lines.specs.Private.LineState.{first_mode}
-use Rattle.py_lines.specs.declared.mode.Mode.{Mode}
+use Rattle.py_lines.specs.Private.Machine.{Mode}
 use Rattle.std.proofs.Math.Utf8.{low_scalar}
 use Rattle.py_lines.proofs.Text.CharacterTests.{return_is, feed_is}
 use Rattle.py_lines.proofs.Text.Utf8Prefixes.{goes_on, all_scalars-append, nothing_bad}

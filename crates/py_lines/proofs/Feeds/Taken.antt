@@ -10,7 +10,7 @@ use Rattle.py_lines.specs.Private.Feed.{EndsWithLine, GivesBack, Holds, HoldsSo,
 use Rattle.py_lines.proofs.Lexings.DecidedFaults.{decided_more}
 use Rattle.py_lines.proofs.Feeds.Known.{first_at, goes_after, goes_at, goes_joined, goes_with_first}
 use Rattle.py_lines.proofs.Feeds.FedHeld.{SettleNone, holds_exactly, never_before, scanned_open, settled_fed}
-use Rattle.py_lines.proofs.Feeds.OpenLine.{holds_on, room_more, scans_on, reached_by}
+use Rattle.py_lines.proofs.Feeds.OpenLine.{holds_on, room_more, scans_on}
 use Rattle.py_lines.proofs.Feeds.ReadyLines.{ended_holds}
 
 -- the lines given are settled where none is ready
@@ -42,7 +42,7 @@ module _ (old : Feed) (sound : IsSoundFeed old) (no_fault : old.state.fault ≡ 
     line_fed : (r : Option ℕ) → EndsWithLine old.held.items new r → (line : Option LogicalLine) × HoldsSo new r line × StandsFed line
     line_fed None s = (
       None,
-      (refl, λ open_yet. (s.0.rest, reached_by s.0 s.0.stops.0)),
+      (refl, λ open_yet. (s.0.stops.left, s.0.stops.reached)),
       λ whole lines scanning go.
           let (settled, undecided) = scanned_open new s whole lines (first_new whole lines scanning go) (goes_new whole lines scanning go) in
           (λ some. subst (IsSettled (take (fed_of (scanning_of new)) whole)) (sym (append-nil lines)) (settled some), tt, λ none. undecided),

@@ -72,32 +72,32 @@ none_outside [] done (o ∷ os) fs follow none = absurd (omega (arith, none, fra
 none_outside (l ∷ ls) done openers fs follow none = absurd (omega (arith, none, frames-length (l ∷ ls) done openers fs follow))
 
 -- an operator after the finished pieces
+opened_stack : (done : List Piece) (openers : List ℕ) (bs : List Bracket) (c : ℕ) → brackets_of done ≡ Some bs → openers ≡ bracket_openers bs → is_opening c ≡ true → length openers < 200
+    → brackets_of (done ++ piece operator (c ∷ []) ∷ []) ≡ Some ((record { opener = c; place = byte_len (spelled done) }) ∷ bs)
+opened_stack done openers bs c stack are opens room =
+    stack_push done (piece operator (c ∷ [])) bs stack
+    ∙ opener_pushes bs (byte_len (spelled done)) (piece operator (c ∷ [])) opens (omega (arith, room, ap length are, length-map bs (λ (b : Bracket). b.opener)))
+
+closed_stack : (done : List Piece) (b : Bracket) (bs : List Bracket) (opener c : ℕ) → brackets_of done ≡ Some (b ∷ bs) → b.opener ≡ opener → is_closing c ≡ true → c == closing_of opener ≡ true
+    → brackets_of (done ++ piece operator (c ∷ []) ∷ []) ≡ Some bs
+closed_stack done b bs opener c stack same closing fits =
+    stack_push done (piece operator (c ∷ [])) (b ∷ bs) stack
+    ∙ closer_pops bs (byte_len (spelled done)) b (piece operator (c ∷ [])) closing (ap (λ (o : ℕ). c == closing_of o) same ∙ fits)
+
 pub bracket_opened : (outer : List Level) (done : List Piece) (openers : List ℕ) (fs : List Frame) (c place : ℕ) → FramesFollow outer done openers fs → is_opening c ≡ true → length openers < 200 → place ≡ byte_len (before literal outer ++ spelled done) → FramesFollow outer (done ++ piece operator (c ∷ []) ∷ []) (c ∷ openers) (frame.Bracket c place ∷ fs)
 bracket_opened [] done openers fs c place (bs, stack, openers_are, frames_are) opens room at =
-    let p : Piece = piece operator (c ∷ []) in
-    let b : Bracket = record { opener = c; place = byte_len (spelled done) } in
-    let deep : length bs < 200 = omega (arith, room, ap length openers_are, length-map bs (λ (b : Bracket). b.opener)) in
-    (b ∷ bs, stack_push done p bs stack ∙ opener_pushes bs (byte_len (spelled done)) p opens deep, ap (λ (os : List ℕ). c ∷ os) openers_are, cc (at, frames_are))
+    ((record { opener = c; place = byte_len (spelled done) }) ∷ bs, opened_stack done openers bs c stack openers_are opens room, ap (λ (os : List ℕ). c ∷ os) openers_are, cc (at, frames_are))
 bracket_opened (l ∷ ls) done openers fs c place (bs, field, others, stack, openers_are, frames_are, is) opens room at =
-    let p : Piece = piece operator (c ∷ []) in
-    let b : Bracket = record { opener = c; place = byte_len (spelled done) } in
-    let deep : length bs < 200 = omega (arith, room, ap length openers_are, length-map bs (λ (b : Bracket). b.opener)) in
     let first : place ≡ byte_len (before literal (l ∷ ls)) + byte_len (spelled done) = omega (arith, at, byte_len-append (before literal (l ∷ ls)) (spelled done)) in
-    (b ∷ bs, field, others, stack_push done p bs stack ∙ opener_pushes bs (byte_len (spelled done)) p opens deep, ap (λ (os : List ℕ). c ∷ os) openers_are, cc (first, frames_are), is)
+    ((record { opener = c; place = byte_len (spelled done) }) ∷ bs, field, others, opened_stack done openers bs c stack openers_are opens room, ap (λ (os : List ℕ). c ∷ os) openers_are, cc (first, frames_are), is)
 
 pub bracket_closed : (outer : List Level) (done : List Piece) (openers os : List ℕ) (fs others : List Frame) (opener at c : ℕ) → FramesFollow outer done openers fs → fs ≡ frame.Bracket opener at ∷ others → openers ≡ opener ∷ os → is_closing c ≡ true → c == closing_of opener ≡ true → FramesFollow outer (done ++ piece operator (c ∷ []) ∷ []) os others
 bracket_closed [] done openers os fs others opener at c ([], stack, openers_are, frames_are) top are closing fits = absurd (cc (are, openers_are))
 bracket_closed [] done openers os fs others opener at c ((b ∷ bs), stack, openers_are, frames_are) top are closing fits =
-    let p : Piece = piece operator (c ∷ []) in
-    let same : b.opener ≡ opener = cc (are, openers_are) in
-    let closes = stack_push done p (b ∷ bs) stack ∙ closer_pops bs (byte_len (spelled done)) b p closing (ap (λ (o : ℕ). c == closing_of o) same ∙ fits) in
-    (bs, closes, cc (are, openers_are), cc (top, frames_are))
+    (bs, closed_stack done b bs opener c stack (cc (are, openers_are)) closing fits, cc (are, openers_are), cc (top, frames_are))
 bracket_closed (l ∷ ls) done openers os fs others opener at c ([], field, rest, stack, openers_are, frames_are, is) top are closing fits = absurd (cc (are, openers_are))
 bracket_closed (l ∷ ls) done openers os fs others opener at c ((b ∷ bs), field, rest, stack, openers_are, frames_are, is) top are closing fits =
-    let p : Piece = piece operator (c ∷ []) in
-    let same : b.opener ≡ opener = cc (are, openers_are) in
-    let closes = stack_push done p (b ∷ bs) stack ∙ closer_pops bs (byte_len (spelled done)) b p closing (ap (λ (o : ℕ). c == closing_of o) same ∙ fits) in
-    (bs, field, rest, closes, cc (are, openers_are), cc (top, frames_are), is)
+    (bs, field, rest, closed_stack done b bs opener c stack (cc (are, openers_are)) closing fits, cc (are, openers_are), cc (top, frames_are), is)
 
 -- a piece that is no bracket
 pub neutral_alike : (done : List Piece) (class : Class) (text : List ℕ) → is_opener (piece class text) ≡ false → is_closer (piece class text) ≡ false → AreOpenAlike done (done ++ piece class text ∷ [])

@@ -1,38 +1,38 @@
 -- What one more character comes to, by what it does in the machine with fields: the open piece goes on, closes, or ends before another.
-use Rattle.std.proofs.Common.{◌≡◌, ℕ, ◌+◌, Bool, true, false, None, Some, List, [], ◌∷◌, ◌++◌, refl, sym, ap, ◌∙◌, subst, not, ◌||◌, ◌&&◌, ◌==◌, nat_lt, arith, append-nil, length}
-use Rattle.std.proofs.lemmas.Bool.{and_right, both_ways, false_from_ne_true}
-use Rattle.std.proofs.Math.Bool.{and-true}
-use Rattle.std.specs.Prelude.{if◌then◌else◌}
+use Rattle.std.proofs.Common.{◌≡◌, ℕ, ◌+◌, Bool, true, false, None, Some, List, [], ◌∷◌, ◌++◌, refl, sym, ap, ◌∙◌, subst, not, ◌||◌, ◌&&◌, ◌==◌, nat_lt, arith, append-nil, drop, ◌<◌, slice_index, inr}
+use Rattle.std.proofs.lemmas.Bool.{and_from, and_right, both_ways, false_from_ne_true, cond_both}
+use Rattle.std.specs.Prelude.{if◌then◌else◌, encode_utf8}
 use Rattle.std.specs.Char.{len_utf8}
-use Rattle.std.proofs.lemmas.Str.{len_utf8_ascii}
-use Rattle.py_lines.specs.Character.{is_line_feed}
-use Rattle.py_lines.specs.Piece.{Piece, spelled, Class, line_end}
-use Rattle.py_lines.specs.Balance.{is_opening}
+use Rattle.std.proofs.lemmas.Str.{len_utf8_ascii, len_utf8_bounds, encode_ascii}
+use Rattle.py_lines.specs.Character.{is_line_feed, is_break, is_return}
+use Rattle.py_lines.specs.Piece.{Piece, spelled, Class}
+use Rattle.py_lines.specs.Balance.{is_opening, is_closing}
 use Rattle.py_lines.specs.LogicalLine.{byte_len}
-use Rattle.py_lines.specs.FieldStrings.{literal}
-use Rattle.py_lines.specs.declared.mode.Mode.{Mode}
-use Rattle.py_lines.specs.declared.mode.Mode.TheVariants as modes
-use Rattle.py_lines.specs.declared.mode.Move.{Move}
-use Rattle.py_lines.specs.declared.mode.Move.TheVariants as moves
-use Rattle.py_lines.specs.declared.mode.Start.{Start}
-use Rattle.py_lines.specs.declared.mode.Start.TheVariants as starts
-use Rattle.py_lines.specs.declared.field_mode.FieldMode.{FieldMode}
-use Rattle.py_lines.specs.declared.field_mode.FieldMode.TheVariants as field_modes
-use Rattle.py_lines.specs.declared.scan.Scan.{Scan}
+use Rattle.py_lines.specs.FieldStrings.{literal, specification}
+use Rattle.py_lines.specs.declared.frames.Frame.{Frame}
+use Rattle.py_lines.specs.declared.mode.Mode.{Mode as OpenMode}
+use Rattle.py_lines.specs.declared.mode.Mode.TheVariants as opens
+use Rattle.py_lines.specs.declared.scan.LineFault.{LineFault}
+use Rattle.py_lines.specs.declared.scan.Progress.{Progress}
 use Rattle.py_lines.specs.declared.scan.Progress.TheVariants as progress
-use Rattle.py_lines.specs.Private.Machine.{start_of, move_of}
-use Rattle.py_lines.specs.Private.FieldMachine as spots
-use Rattle.py_lines.specs.Private.FieldMachine.{FieldMove, closes, Level, FieldScanned, field_fresh, field_move, field_moved, before, frames, has_room_at, roomy, room_step, plain, grows, breaks, field_state, field_class_of, field_closed, field_started, text_place}
+use Rattle.py_lines.specs.declared.scan.Scan.{Scan}
+use Rattle.py_lines.specs.Private.Machine.{Mode, Move, Move as moves, Start, Start as starts, start_of, move_of}
+use Rattle.py_lines.specs.Private.Mode as modes
+use Rattle.py_lines.specs.Private.FieldMachine.{FieldMode, FieldMove, closes, Level, FieldScanned, body, field_fresh, field_move, field_moved, before, frames, has_room_at, roomy, room_step, plain, grows, breaks, field_state, field_class_of, field_closed, field_started, text_place, empty, field_pieces}
 use Rattle.py_lines.specs.Private.ScanMachine.{string_move, fielded_move}
-use Rattle.py_lines.specs.Private.Scan.{Follows, FramesFollow, freed, passed, with_bytes, StepsTo, ComesTo, ends_line, is_line_ending, line_end_size, line_end_progress, is_returned_mode, mode_from, meets_field, HoldsCode}
-use Rattle.py_lines.proofs.Text.CharacterTests.{feed_is, operator_ascii}
+use Rattle.py_lines.specs.Private.Run.{BeginsWith}
+use Rattle.py_lines.specs.Private.Scan.{ComesTo, Follows, FramesFollow, GoesOver, HasNoList, HasQuote, HoldsCode, IsFieldFault, IsPlaced, IsWrongIn, Rests, TakesOne, ends_line, has_returned, is_line_ending, mode_from, GoAlike, IsFirstByte, is_ending}
+use Rattle.py_lines.proofs.Text.CharacterTests.{operator_ascii, each_of}
 use Rattle.py_lines.proofs.Pieces.PieceLists.{piece, spelled-push}
 use Rattle.py_lines.proofs.Machine.Starts as begun_so
-use Rattle.py_lines.proofs.Machine.Starts.{StartsSo}
+use Rattle.py_lines.proofs.Machine.Starts.{StartsSo, start-feed, start-return}
 use Rattle.py_lines.proofs.ScanMachine.Follows.{room_grows, room_closes, opens_no}
-use Rattle.py_lines.proofs.FieldScans.Bytes.{push_two, push_three}
-use Rattle.py_lines.proofs.FieldScans.Frames.{frames-length, frames_alike, neutral_alike}
-use Rattle.py_lines.proofs.FieldScans.Moves.{list_at, meets, said, starts_so}
+use Rattle.py_lines.proofs.FieldScans.Bytes.{byte_len-one, push_two, push_three}
+use Rattle.py_lines.proofs.FieldScans.Frames.{frames_alike}
+use Rattle.py_lines.proofs.FieldScans.Moves.{EndsBefore, ending_before, said}
+use Rattle.py_lines.proofs.FieldScans.Resting.{follows_open, rests_exact}
+use Rattle.py_lines.specs.Faults.{Cause, kind_of_cause, closes_wrong, opens_too_deep, begins_nothing}
+use Rattle.py_lines.specs.Private.FieldFaults.{cause_in, cause_place, here}
 
 -- a contradiction, which `cc` finds faster here than where much is known
 pub some_level : (l : Level) (ls : List Level) → l ∷ ls ≡ [] → ⊥
@@ -52,6 +52,10 @@ string_goes [] closes next open_still = absurd (open_still refl refl)
 string_goes [] v next open_still = refl
 string_goes (l ∷ ls) v next open_still = refl
 
+-- the machine goes on by a character that ends no line
+abbrev pub StepsOn : FieldScanned → ℕ → FieldScanned → Type 0
+StepsOn t c u = (room_step t c ≡ Some u) × (ends_line t c ≡ false)
+
 module _ (t : FieldScanned) (c : ℕ) (v : FieldMove) (is : field_move t.mode t.held c ≡ v) where
   -- such a string goes on, where so many brackets are open round it
   pub goes_through : (depth : ℕ) (next : FieldScanned) → has_room_at (depth + frames t) c v ≡ true → field_moved t c v ≡ Some next → (t.outer ≡ [] → v ≡ closes → ⊥) → fielded_move depth (Some t) c ≡ moves.Grows modes.Fielded
@@ -64,78 +68,54 @@ module _ (t : FieldScanned) (c : ℕ) (v : FieldMove) (is : field_move t.mode t.
   pub by_room : room_step t c ≡ roomy (has_room_at (frames t) c v) (field_moved t c v)
   by_room = ap (λ w. roomy (has_room_at (frames t) c w) (field_moved t c w)) is
 
-  by_line : ends_line t c ≡ (frames t == 0) && is_line_ending t.mode v c
+  pub by_line : ends_line t c ≡ (frames t == 0) && is_line_ending t.mode v c
   by_line = ap (λ w. (frames t == 0) && is_line_ending t.mode w c) is
 
   -- it is taken
-  pub steps : (new made : Scan) (next : FieldScanned) → new ≡ made → has_room_at (frames t) c v ≡ true → field_moved t c v ≡ Some next → Follows made next → StepsTo t c new
-  steps new made next same room comes follow = record {
-    next = next;
-    goes = by_room ∙ ap (λ b. roomy b (field_moved t c v)) room ∙ comes;
-    follows = subst (λ (scan : Scan). Follows scan next) (sym same) follow;
-  }
+  pub steps : (next : FieldScanned) → has_room_at (frames t) c v ≡ true → field_moved t c v ≡ Some next → room_step t c ≡ Some next
+  steps next room comes = by_room ∙ ap (λ b. roomy b (field_moved t c v)) room ∙ comes
 
   -- and the line goes on
   pub goes_on : is_line_ending t.mode v c ≡ false → ends_line t c ≡ false
   goes_on on = by_line ∙ and_right (frames t == 0) (is_line_ending t.mode v c) on
 
-  pub going : (old new : Scan) → StepsTo t c new → is_line_ending t.mode v c ≡ false → ComesTo t c old progress.Going new
-  going old new step on = (step, goes_on on)
-
-  -- or ends with it, if nothing is open round it
-  pub ends_so : (old new : Scan) (n len : ℕ) → StepsTo t c new → is_line_ending t.mode v c ≡ true → n ≡ frames t → len ≡ line_end_size t.mode → ComesTo t c old (line_end_progress (n == 0) len) new
-  ends_so old new n len step ending same size = go (n == 0) (by_line ∙ ap (λ b. (frames t == 0) && b) ending ∙ and-true (frames t == 0) ∙ ap (λ k. k == 0) (sym same))
-    where
-      go : (b : Bool) → ends_line t c ≡ b → ComesTo t c old (line_end_progress b len) new
-      go true ends = (step, ends, size)
-      go false ends = (step, ends)
-
   -- it finds no room
-  pub no_room : (old : Scan) → has_room_at (frames t) c v ≡ false → ComesTo t c old progress.Refused old
-  no_room old none = (by_room ∙ ap (λ b. roomy b (field_moved t c v)) none, refl)
+  pub no_room : has_room_at (frames t) c v ≡ false → room_step t c ≡ None
+  no_room none = by_room ∙ ap (λ b. roomy b (field_moved t c v)) none
 
   -- it may not stand there
-  pub no_step : (old : Scan) → field_moved t c v ≡ None → ComesTo t c old progress.Refused old
-  no_step old none = (by_room ∙ ap (roomy (has_room_at (frames t) c v)) none ∙ go (has_room_at (frames t) c v), refl)
+  pub no_step : field_moved t c v ≡ None → room_step t c ≡ None
+  no_step none = by_room ∙ ap (roomy (has_room_at (frames t) c v)) none ∙ go (has_room_at (frames t) c v)
     where
       go : (b : Bool) → roomy b None ≡ None
       go true = refl
       go false = refl
 
 -- only CR with LF after it, and LF alone, end a line
-pub no_line_end : (m : spots.FieldMode) (v : FieldMove) (c : ℕ) → (v ≡ closes → m ≡ plain modes.Return → ⊥) → (v ≡ breaks → is_line_feed c ≡ false) → is_line_ending m v c ≡ false
+pub no_line_end : (m : FieldMode) (v : FieldMove) (c : ℕ) → (v ≡ closes → m ≡ plain modes.Return → ⊥) → (v ≡ breaks → is_line_feed c ≡ false) → is_line_ending m v c ≡ false
 no_line_end (plain modes.Return) closes c shuts feeds = absurd (shuts refl refl)
 no_line_end m breaks c shuts feeds = feeds refl
 no_line_end m v c shuts feeds = refl
 
 -- what begins no line end is no LF
-pub feeds_no : (c : ℕ) (x : Start) → start_of c ≡ x → (x ≡ starts.LineEnd → ⊥) → is_line_feed c ≡ false
+feeds_no : (c : ℕ) (x : Start) → start_of c ≡ x → (x ≡ starts.LineEnd → ⊥) → is_line_feed c ≡ false
 feeds_no c x is other = false_from_ne_true _ (λ feed. other (sym is ∙ begun_so.start-feed c feed))
 
-pub no_line_before : (m : spots.FieldMode) (c : ℕ) (x : Start) → start_of c ≡ x → (x ≡ starts.LineEnd → ⊥) → is_line_ending m breaks c ≡ false
+pub no_line_before : (m : FieldMode) (c : ℕ) (x : Start) → start_of c ≡ x → (x ≡ starts.LineEnd → ⊥) → is_line_ending m breaks c ≡ false
 no_line_before m c x is other = no_line_end m breaks c (λ e. absurd (keeps_open breaks refl e)) (λ e. feeds_no c x is other)
 
-line_before : (m : spots.FieldMode) (c : ℕ) → is_line_feed c ≡ true → is_line_ending m breaks c ≡ true
+pub line_before : (m : FieldMode) (c : ℕ) → is_line_feed c ≡ true → is_line_ending m breaks c ≡ true
 line_before (plain modes.Return) c feed = feed
 line_before m c feed = feed
 
-one_alone : (m : spots.FieldMode) (held : List ℕ) (c : ℕ) → field_move m held c ≡ breaks → is_line_feed c ≡ true → 1 ≡ line_end_size m
-unfolding field_move move_of
-one_alone (plain modes.Return) held c is feed = absurd (keeps_open breaks refl (sym is ∙ rw feed))
-one_alone m held c is feed = refl
-
-returned_is : (m : FieldMode) → is_returned_mode m ≡ true → mode_from m ≡ plain modes.Return
-returned_is (field_modes.Code modes.Return) is = refl
-returned_is m is = absurd (both_ways _ refl is)
-
-not_returned : (m : FieldMode) → is_returned_mode m ≡ false → mode_from m ≡ plain modes.Return → ⊥
-not_returned (field_modes.Code modes.Return) is mode = both_ways _ is refl
-not_returned m is mode = absurd (cc mode)
+-- the scan with no piece open after where it stops
+abbrev pub freed : Scan → Scan
+freed old = record old { mode = opens.Free; start = old.stop }
 
 -- the innermost list goes on where the scan has come to
 pub follows_free : (made : Scan) (outer : List Level) (done : List Piece) (openers : List ℕ) → FramesFollow outer done openers made.frames → made.stop ≡ byte_len (before literal outer ++ spelled done) → Follows (freed made) (field_fresh outer done openers)
 follows_free made outer done openers follow at =
-    record { mode = refl; holds = refl; no_list = tt; waits = tt; start = at; frames = follow; stop = at ∙ ap (λ x. byte_len (before literal outer ++ x)) (sym (append-nil (spelled done))) }
+    record { mode = refl; holds = refl; no_list = tt; quote = tt; placed = tt; start = at; frames = follow; stop = at ∙ ap (λ x. byte_len (before literal outer ++ x)) (sym (append-nil (spelled done))) }
 
 -- the byte after one more piece, of one character
 pub piece_after : (stop : ℕ) (outer : List Level) (done : List Piece) (class : Class) (c : ℕ) → stop ≡ byte_len (before literal outer ++ spelled done) → stop + len_utf8 c ≡ byte_len (before literal outer ++ spelled (done ++ piece class (c ∷ []) ∷ []))
@@ -147,110 +127,258 @@ pub no_opening : (depth c : ℕ) → is_opening c ≡ false → has_room_at dept
 unfolding has_room_at
 no_opening depth c none = ap (λ b. not b || nat_lt depth 200) none
 
--- an operator is one byte, and so is LF
+-- an operator is one byte
 pub one_operator : (c : ℕ) → start_of c ≡ starts.Operator → len_utf8 c ≡ 1
 one_operator c is = len_utf8_ascii c (operator_ascii c (subst (StartsSo c) is (begun_so.starts_so c)))
 
-one_feed : (c : ℕ) → is_line_feed c ≡ true → len_utf8 c ≡ 1
-one_feed c is = len_utf8_ascii c (omega (arith, feed_is c is))
+-- Where the machine stands in code, or in the literal part of a string, these frames are open, and the open piece and its end are at
+-- these bytes.
+pub record StandsAt (t : FieldScanned) (fs : List Frame) (start stop : ℕ) : Type 0 where
+  pub place : text_place t.mode ≡ literal
+  pub frames : FramesFollow t.outer t.done t.openers fs
+  pub begins : start ≡ byte_len (before literal t.outer ++ spelled t.done)
+  pub ends : stop ≡ byte_len (before literal t.outer ++ (spelled t.done ++ t.held))
 
--- the code meets the character as the machine does
-pub moves_so : (old : Scan) (t : FieldScanned) (c : ℕ) (v : FieldMove) → Follows old t → v ≡ meets_field old.mode c → field_move t.mode t.held c ≡ v
-moves_so old t c v follow is = sym (is ∙ meets old.mode t.held c (subst (λ (m : spots.FieldMode). HoldsCode m t.held) (sym follow.mode) follow.holds) ∙ ap (λ (m : spots.FieldMode). field_move m t.held c) follow.mode)
+pub stands_at : (scan : Scan) (t : FieldScanned) → Follows scan t → text_place t.mode ≡ literal → StandsAt t scan.frames scan.start scan.stop
+stands_at scan t follow place = record {
+  place = place;
+  frames = follow.frames;
+  begins = follow.start ∙ ap (λ p. byte_len (before p t.outer ++ spelled t.done)) place;
+  ends = follow.stop ∙ ap (λ p. byte_len (before p t.outer ++ (spelled t.done ++ t.held))) place;
+}
 
--- the scan follows where the open piece grows
-pub grown_follows : (old : Scan) (t : FieldScanned) (c : ℕ) (code : FieldMode) (m : spots.FieldMode) → Follows old t → field_move t.mode t.held c ≡ grows m → mode_from code ≡ m → Follows (record old { mode = code; stop = old.stop + len_utf8 c }) (field_state t.outer t.done t.openers m (t.held ++ c ∷ []))
-grown_follows old t c code m follow is same =
-    let k = said t.mode t.held c (grows m) follow.holds follow.waits is in
-    record {
-      mode = same;
-      holds = k.holds;
-      no_list = list_at t.mode m t.done t.openers k.place follow.no_list;
-      waits = k.waits;
-      start = follow.start ∙ ap (λ p. byte_len (before p t.outer ++ spelled t.done)) (sym k.place);
-      frames = follow.frames;
-      stop = ap (λ (n : ℕ). n + len_utf8 c) follow.stop ∙ sym (push_three (before (text_place t.mode) t.outer) (spelled t.done) t.held c) ∙ ap (λ p. byte_len (before p t.outer ++ (spelled t.done ++ (t.held ++ c ∷ [])))) (sym k.place);
-    }
+-- the scan that follows there
+no_list_at : (m : FieldMode) (done : List Piece) (openers : List ℕ) → text_place m ≡ literal → HasNoList m done openers
+no_list_at (body h specification named at) done openers place = absurd (cc)
+no_list_at m done openers place = tt
 
--- the state with more of its text
-abbrev pub with_text : FieldScanned → List ℕ → FieldScanned
-with_text t run = field_state t.outer t.done t.openers t.mode (t.held ++ run)
+placed_at : (m : FieldMode) (fs : List Frame) → text_place m ≡ literal → IsPlaced m fs
+placed_at (body h specification named at) fs place = absurd (cc)
+placed_at m fs place = tt
 
--- which the open piece has by a character that grows it in its mode
-pub grown_on : (scan : Scan) (t : FieldScanned) (c : ℕ) → Follows scan t → field_move t.mode t.held c ≡ grows t.mode
-    → (room_step t c ≡ Some (with_text t (c ∷ []))) × Follows (with_bytes scan (len_utf8 c)) (with_text t (c ∷ []))
-grown_on scan t c follows move = (
-  ap (λ v. roomy (has_room_at (frames t) c v) (field_moved t c v)) move ∙ ap (λ b. roomy b (Some (with_text t (c ∷ [])))) (room_grows (frames t) c t.mode),
-  grown_follows scan t c scan.mode t.mode follows move follows.mode,
-)
+pub follows_at : (t : FieldScanned) (fs : List Frame) (start stop : ℕ) (code : OpenMode) → StandsAt t fs start stop → mode_from code ≡ t.mode → HoldsCode t.mode t.held → HasQuote code
+    → Follows (record { mode = code; start = start; frames = fs; stop = stop }) t
+follows_at t fs start stop code at mode holds quote = record {
+  mode = mode;
+  holds = holds;
+  quote = quote;
+  frames = at.frames;
+  no_list = no_list_at t.mode t.done t.openers at.place;
+  placed = placed_at (mode_from code) fs (ap text_place mode ∙ at.place);
+  start = at.begins ∙ ap (λ p. byte_len (before p t.outer ++ spelled t.done)) (sym at.place);
+  stop = at.ends ∙ ap (λ p. byte_len (before p t.outer ++ (spelled t.done ++ t.held))) (sym at.place);
+}
 
-module _ (old : Scan) (t : FieldScanned) (c : ℕ) (follow : Follows old t) where
+module _ (t : FieldScanned) (fs : List Frame) (start stop : ℕ) (at : StandsAt t fs start stop) (c : ℕ) where
   -- the open piece grows
-  pub grown : (code : FieldMode) (m : spots.FieldMode) → field_move t.mode t.held c ≡ grows m → mode_from code ≡ m → (len : ℕ) → len ≡ len_utf8 c → ComesTo t c old progress.Going (record old { mode = code; stop = old.stop + len })
-  grown code m is same len size =
-      let made : ℕ → Scan = λ n. record old { mode = code; stop = old.stop + n } in
-      going t c (grows m) is old (made len)
-      (steps t c (grows m) is (made len) (made (len_utf8 c)) (field_state t.outer t.done t.openers m (t.held ++ c ∷ [])) (ap made size) (room_grows (frames t) c m) refl (grown_follows old t c code m follow is same))
-      (no_line_end t.mode (grows m) c (λ e. absurd (cc)) (λ e. absurd (cc)))
+  pub stands_grown : (m : FieldMode) → field_move t.mode t.held c ≡ grows m → text_place m ≡ literal
+      → StepsOn t c (field_state t.outer t.done t.openers m (t.held ++ c ∷ [])) × StandsAt (field_state t.outer t.done t.openers m (t.held ++ c ∷ [])) fs start (stop + len_utf8 c)
+  stands_grown m is place = (
+    (
+      steps t c (grows m) is (field_state t.outer t.done t.openers m (t.held ++ c ∷ [])) (room_grows (frames t) c m) refl,
+      goes_on t c (grows m) is (no_line_end t.mode (grows m) c (λ e. absurd (cc)) (λ e. absurd (cc))),
+    ),
+    record {
+      place = place;
+      frames = at.frames;
+      begins = at.begins;
+      ends = ap (λ (n : ℕ). n + len_utf8 c) at.ends ∙ sym (push_three (before literal t.outer) (spelled t.done) t.held c);
+    },
+  )
 
   -- it closes
-  shut : field_move t.mode t.held c ≡ closes → (new : Scan) → new ≡ passed old (len_utf8 c) → StepsTo t c new
-  shut is new same =
-      let said_so = said t.mode t.held c closes follow.holds follow.waits is in
+  abbrev pub Shut : FieldScanned
+  Shut = field_fresh t.outer (t.done ++ piece (field_class_of t.mode) (t.held ++ c ∷ []) ∷ []) t.openers
+
+  pub stands_shut : HoldsCode t.mode t.held → field_move t.mode t.held c ≡ closes → (room_step t c ≡ Some Shut) × Follows (record { mode = opens.Free; start = stop + len_utf8 c; frames = fs; stop = stop + len_utf8 c }) Shut
+  stands_shut holds is =
+      let so = said t.mode t.held c closes holds is in
       let done : List Piece = t.done ++ piece (field_class_of t.mode) (t.held ++ c ∷ []) ∷ [] in
-      steps t c closes is new (passed old (len_utf8 c)) (field_fresh t.outer done t.openers) same (room_closes (frames t) c) refl
-      (follows_free (with_bytes old (len_utf8 c)) t.outer done t.openers (frames_alike t.outer t.done done t.openers old.frames (said_so.1 t.done) follow.frames)
-      (ap (λ (n : ℕ). n + len_utf8 c) (follow.stop ∙ ap (λ p. byte_len (before p t.outer ++ (spelled t.done ++ t.held))) said_so.0) ∙ sym (push_three (before literal t.outer) (spelled t.done) t.held c)
-      ∙ ap (λ x. byte_len (before literal t.outer ++ x)) (sym (spelled-push t.done (field_class_of t.mode) (t.held ++ c ∷ [])))))
+      let made : Scan = record { mode = opens.Free; start = start; frames = fs; stop = stop + len_utf8 c } in (
+        steps t c closes is Shut (room_closes (frames t) c) refl,
+        follows_free made t.outer done t.openers (frames_alike t.outer t.done done t.openers fs (so.1 t.done) at.frames)
+            (ap (λ (n : ℕ). n + len_utf8 c) at.ends ∙ sym (push_three (before literal t.outer) (spelled t.done) t.held c)
+            ∙ ap (λ x. byte_len (before literal t.outer ++ x)) (sym (spelled-push t.done (field_class_of t.mode) (t.held ++ c ∷ [])))),
+      )
 
-  pub closed_on : field_move t.mode t.held c ≡ closes → is_returned_mode old.mode ≡ false → (new : Scan) → new ≡ passed old (len_utf8 c) → ComesTo t c old progress.Going new
-  closed_on is other new same =
-      going t c closes is old new (shut is new same) (no_line_end t.mode closes c (λ e mode. not_returned old.mode other (follow.mode ∙ mode)) (λ e. absurd (cc)))
-
-  pub closed_line : field_move t.mode t.held c ≡ closes → is_returned_mode old.mode ≡ true → (new : Scan) → new ≡ passed old (len_utf8 c) → ComesTo t c old (line_end_progress (length old.frames == 0) 2) new
-  closed_line is returned new same =
-      let mode : t.mode ≡ plain modes.Return = sym follow.mode ∙ returned_is old.mode returned in
-      ends_so t c closes is old new (length old.frames) 2 (shut is new same) (ap (λ (m : spots.FieldMode). is_line_ending m closes c) mode) (frames-length t.outer t.done t.openers old.frames follow.frames) (sym (ap line_end_size mode))
-
-  -- the open piece ends before it
+  -- it ends before the character
   pub record Broken : Type 0 where
-    pub frames : FramesFollow t.outer (field_closed t.mode t.done t.held) t.openers old.frames
-    pub start : old.stop ≡ byte_len (before literal t.outer ++ spelled (field_closed t.mode t.done t.held))
+    pub frames : FramesFollow t.outer (field_closed t.mode t.done t.held) t.openers fs
+    pub after : stop ≡ byte_len (before literal t.outer ++ spelled (field_closed t.mode t.done t.held))
 
-  pub broken : field_move t.mode t.held c ≡ breaks → Broken
-  broken is =
-      let b = said t.mode t.held c breaks follow.holds follow.waits is in
+  pub broken : HoldsCode t.mode t.held → field_move t.mode t.held c ≡ breaks → Broken
+  broken holds is =
+      let b = said t.mode t.held c breaks holds is in
       record {
-        frames = frames_alike t.outer t.done (field_closed t.mode t.done t.held) t.openers old.frames (b.neutral t.done) follow.frames;
-        start = follow.stop ∙ ap (λ p. byte_len (before p t.outer ++ (spelled t.done ++ t.held))) b.place ∙ ap (λ x. byte_len (before literal t.outer ++ x)) (sym (b.spells t.done));
+        frames = frames_alike t.outer t.done (field_closed t.mode t.done t.held) t.openers fs (b.neutral t.done) at.frames;
+        after = at.ends ∙ ap (λ x. byte_len (before literal t.outer ++ x)) (sym (b.spells t.done));
       }
 
-  -- another piece begins with it
-  pub begun : field_move t.mode t.held c ≡ breaks → (m : Mode) → start_of c ≡ starts.Open m → (len : ℕ) → len ≡ len_utf8 c → ComesTo t c old progress.Going (record old { mode = field_modes.Code m; start = old.stop; stop = old.stop + len })
-  begun is m starts_with len size =
-      let made : ℕ → Scan = λ n. record old { mode = field_modes.Code m; start = old.stop; stop = old.stop + n } in
-      let b = broken is in
-      let s = starts_so c m starts_with in
-      let done : List Piece = field_closed t.mode t.done t.held in
-      going t c breaks is old (made len)
-      (steps t c breaks is (made len) (made (len_utf8 c)) (field_state t.outer done t.openers (plain m) (c ∷ [])) (ap made size)
-      (no_opening (frames t) c (opens_no c (starts.Open m) starts_with (λ other. absurd (cc))))
-      (ap (field_started t.outer done t.openers c) starts_with)
-      (record { mode = s.1; holds = s.0; no_list = tt; waits = tt; start = b.start; frames = b.frames; stop = ap (λ (n : ℕ). n + len_utf8 c) b.start ∙ sym (push_two (before literal t.outer) (spelled done) c) }))
-      (no_line_before t.mode c (starts.Open m) starts_with (λ other. absurd (cc)))
+  -- another begins with it
+  abbrev pub Opening : Mode → FieldScanned
+  Opening m = field_state t.outer (field_closed t.mode t.done t.held) t.openers (plain m) (c ∷ [])
 
-  -- it is a line end
-  pub ended_line : field_move t.mode t.held c ≡ breaks → start_of c ≡ starts.LineEnd → (new : Scan) → new ≡ passed old 1 → ComesTo t c old (line_end_progress (length old.frames == 0) 1) new
-  ended_line is starts_with new same =
-      let b = broken is in
-      let feed : is_line_feed c ≡ true = subst (StartsSo c) starts_with (begun_so.starts_so c) in
-      let closed : List Piece = field_closed t.mode t.done t.held in
-      let done : List Piece = closed ++ piece line_end (c ∷ []) ∷ [] in
-      ends_so t c breaks is old new (length old.frames) 1
-      (steps t c breaks is new (passed old 1) (field_fresh t.outer done t.openers) same
-      (no_opening (frames t) c (opens_no c starts.LineEnd starts_with (λ other. absurd (cc))))
-      (ap (field_started t.outer closed t.openers c) starts_with)
-      (follows_free (with_bytes old 1) t.outer done t.openers
-      (frames_alike t.outer closed done t.openers old.frames (neutral_alike closed line_end (c ∷ []) refl refl) b.frames)
-      (ap (λ (n : ℕ). old.stop + n) (sym (one_feed c feed)) ∙ piece_after old.stop t.outer closed line_end c b.start)))
-      (line_before t.mode c feed) (frames-length t.outer t.done t.openers old.frames follow.frames) (one_alone t.mode t.held c is feed)
+  pub stands_begun : HoldsCode t.mode t.held → field_move t.mode t.held c ≡ breaks → (m : Mode) → start_of c ≡ starts.Open m → StepsOn t c (Opening m) × StandsAt (Opening m) fs stop (stop + len_utf8 c)
+  stands_begun holds is m starts_with =
+      let b = broken holds is in (
+        (
+          steps t c breaks is (Opening m) (no_opening (frames t) c (opens_no c (starts.Open m) starts_with (λ other. absurd (cc))))
+              (ap (field_started t.outer (field_closed t.mode t.done t.held) t.openers c) starts_with),
+          goes_on t c breaks is (no_line_before t.mode c (starts.Open m) starts_with (λ other. absurd (cc))),
+        ),
+        record {
+          place = refl;
+          frames = b.frames;
+          begins = b.after;
+          ends = ap (λ (n : ℕ). n + len_utf8 c) b.after ∙ sym (push_two (before literal t.outer) (spelled (field_closed t.mode t.done t.held)) c);
+        },
+      )
+
+-- one character with which the bytes begin is taken
+pub over_one : (t u : FieldScanned) (c : ℕ) (bytes : List ℕ) (new : Scan) → BeginsWith bytes c → has_returned t ≡ false → StepsOn t c u → Rests new u (drop (len_utf8 c) bytes) → GoesOver t bytes (len_utf8 c) new
+over_one t u c bytes new first open_yet step rests = record {
+  some = omega (arith, len_utf8_bounds c);
+  run = c ∷ [];
+  spell = ap (λ x. x ++ drop (len_utf8 c) bytes) (append-nil (encode_utf8 c)) ∙ first.spell;
+  scalars = and_from _ _ first.scalar refl;
+  size = byte_len-one c;
+  to = u;
+  goes = (open_yet, u, step.0, step.1, refl);
+  one = tt;
+  rests = rests;
+}
+
+-- or it is refused
+pub wrong_at : (t : FieldScanned) (c : ℕ) (bytes : List ℕ) (line_fault : LineFault) → BeginsWith bytes c → has_returned t ≡ false → room_step t c ≡ None → IsFieldFault t c line_fault → IsWrongIn t bytes line_fault
+wrong_at t c bytes line_fault first open_yet none fault = record {
+  run = [];
+  c = c;
+  after = drop (len_utf8 c) bytes;
+  spell = first.spell;
+  scalars = refl;
+  scalar = first.scalar;
+  to = t;
+  goes = refl;
+  one = tt;
+  open_yet = ap (λ b. b && not (is_line_feed c)) open_yet;
+  none = none;
+  fault = fault;
+}
+
+-- what one byte comes to that ends no line
+pub one_comes : (t : FieldScanned) (c : ℕ) (bytes : List ℕ) (old new : Scan) (p : Progress) → BeginsWith bytes c → len_utf8 c ≡ 1 → Follows old t → TakesOne t c old p new → ComesTo t bytes old p new
+one_comes t c bytes old new (progress.Going len) first one follow (is, u, step, on, follows) =
+    subst (λ (n : ℕ). GoesOver t bytes n new) (one ∙ sym is) (over_one t u c bytes new first (follows_open old t follow) (step, on) (rests_exact new u (drop (len_utf8 c) bytes) follows))
+one_comes t c bytes old new (progress.Wrong line_fault) first one follow (none, fault, same) = (wrong_at t c bytes line_fault first (follows_open old t follow) none fault, same)
+one_comes t c bytes old new (progress.LineEnded len) first one follow none = absurd none
+one_comes t c bytes old new progress.Waits first one follow none = absurd none
+
+-- A piece that ends before the next byte counts as finished: the machine comes to the same from its state and from that after the piece.
+ending_cause : (m : FieldMode) (depth c : ℕ) → is_ending m ≡ true → cause_in depth m c ≡ cause_in depth (plain modes.Free) c
+ending_cause (plain modes.Start) depth c may = refl
+ending_cause (plain modes.Free) depth c may = refl
+ending_cause (plain modes.Space) depth c may = refl
+ending_cause (plain modes.Comment) depth c may = refl
+ending_cause (plain (modes.Empty q)) depth c may = refl
+ending_cause (plain modes.JoinReturn) depth c may = refl
+ending_cause (plain modes.Return) depth c may = refl
+ending_cause (empty host) depth c may = refl
+ending_cause m depth c may = absurd (both_ways _ refl may)
+
+-- LF ends a line before which a piece ends
+ending_breaks : (m : FieldMode) (c : ℕ) → is_line_ending m breaks c ≡ is_line_ending (plain modes.Free) breaks c
+ending_breaks (plain modes.Return) c = refl
+ending_breaks m c = refl
+
+-- a line end may stand wherever a piece ends
+abbrev pub IsTaken : Start → Type 0
+IsTaken (starts.Open m) = Unit {0}
+IsTaken starts.LineEnd = Unit {0}
+IsTaken other = ⊥
+
+pub break_starts : (c : ℕ) → is_break c ≡ true → IsTaken (start_of c) × (is_opening c ≡ false)
+unfolding is_break is_line_feed is_return
+break_starts c h =
+    each_of (λ x. IsTaken (start_of x) × (is_opening x ≡ false)) (10 ∷ 13 ∷ []) c (
+      (subst IsTaken (sym (start-feed 10 refl)) tt, opens_no 10 starts.LineEnd (start-feed 10 refl) (λ is. cc)),
+      ((subst IsTaken (sym (start-return 13 refl)) tt, opens_no 13 (starts.Open modes.Return) (start-return 13 refl) (λ is. cc)), tt),
+    ) h
+
+taken_some : (outer : List Level) (done : List Piece) (openers : List ℕ) (c : ℕ) (x : Start) → IsTaken x → field_started outer done openers c x ≡ None → ⊥
+taken_some outer done openers c (starts.Open m) taken none = cc
+taken_some outer done openers c starts.LineEnd taken none = cc
+taken_some outer done openers c starts.Operator taken none = taken
+taken_some outer done openers c starts.Nothing taken none = taken
+
+module _ (b : ℕ) (t : FieldScanned) (may : is_ending t.mode ≡ true) (holds : HoldsCode t.mode t.held) (open_yet : has_returned t ≡ false) (ends : (c : ℕ) → IsFirstByte b c → field_move t.mode t.held c ≡ breaks) where
+  abbrev U : FieldScanned
+  U = field_fresh t.outer (field_pieces t) t.openers
+
+  before_it : EndsBefore t.mode t.held
+  before_it = ending_before t.mode t.held may holds
+
+  here_same : here t ≡ here U
+  here_same =
+      ap (λ p. byte_len (before p t.outer ++ (spelled t.done ++ t.held))) before_it.place
+      ∙ ap (λ x. byte_len (before literal t.outer ++ x)) (sym (before_it.spells t.done) ∙ sym (append-nil (spelled (field_pieces t))))
+
+  free_breaks : (c : ℕ) → field_move U.mode U.held c ≡ breaks
+  unfolding field_move move_of
+  free_breaks c = refl
+
+  leads_to : (c : ℕ) → IsFirstByte b c → room_step t c ≡ roomy (has_room_at (frames t) c breaks) (field_started t.outer (field_pieces t) t.openers c (start_of c))
+  leads_to c first = ap (λ v. roomy (has_room_at (frames t) c v) (field_moved t c v)) (ends c first)
+
+  step_free : (c : ℕ) → room_step U c ≡ roomy (has_room_at (frames t) c breaks) (field_started t.outer (field_pieces t) t.openers c (start_of c))
+  step_free c = ap (λ v. roomy (has_room_at (frames t) c v) (field_moved U c v)) (free_breaks c)
+
+  -- no line end is refused
+  pub no_break : (c : ℕ) → IsFirstByte b c → room_step t c ≡ None → is_break c ≡ false
+  unfolding has_room_at
+  no_break c first none =
+      false_from_ne_true _ (λ break.
+      let starts_so = break_starts c break in
+      taken_some t.outer (field_pieces t) t.openers c (start_of c) starts_so.0 (sym (leads_to c first ∙ rw starts_so.1 refl) ∙ none))
+
+  -- the place of the fault
+  place_same : (c depth : ℕ) → is_break c ≡ false → cause_place U (cause_in depth U.mode c) ≡ cause_place t (cause_in depth U.mode c)
+  place_same c depth none =
+      rw none (cond_both (is_closing c) closes_wrong (if is_opening c then opens_too_deep else begins_nothing) (λ (x : Cause). cause_place U x ≡ cause_place t x) (λ h. sym here_same)
+      (λ h. cond_both (is_opening c) opens_too_deep begins_nothing (λ (x : Cause). cause_place U x ≡ cause_place t x) (λ k. sym here_same) (λ k. sym here_same)))
+
+  pub ends_alike : GoAlike b t U
+  ends_alike = record {
+    here_is = here_same;
+    open_yet = open_yet;
+    step = λ c first. leads_to c first ∙ sym (step_free c);
+    ending = λ c first.
+        ap (λ v. (frames t == 0) && is_line_ending t.mode v c) (ends c first) ∙ ap (λ x. (frames t == 0) && x) (ending_breaks t.mode c)
+        ∙ sym (ap (λ v. (frames t == 0) && is_line_ending U.mode v c) (free_breaks c));
+    fault = λ c first none f is.
+        let same : cause_in (frames t) U.mode c ≡ cause_in (frames t) t.mode c = sym (ending_cause t.mode (frames t) c may) in (
+          is.0 ∙ ap kind_of_cause same,
+          is.1 ∙ place_same c (frames t) (no_break c first none) ∙ ap (cause_place t) same,
+        );
+    free = λ free outside. record { outside = outside; pieces = refl; ends = ends; ending = may };
+    shut = λ is. inr refl;
+  }
+
+-- the scan where no piece is open
+abbrev pub free_at : List Frame → ℕ → Scan
+free_at fs stop = record { mode = opens.Free; start = stop; frames = fs; stop = stop }
+
+-- it stands as if before the next byte
+pub rests_ended : (t : FieldScanned) (fs : List Frame) (start stop b : ℕ) (rest : List ℕ) → StandsAt t fs start stop → is_ending t.mode ≡ true → HoldsCode t.mode t.held → has_returned t ≡ false
+    → ((c : ℕ) → IsFirstByte b c → field_move t.mode t.held c ≡ breaks) → Rests (free_at fs stop) t (b ∷ rest)
+rests_ended t fs start stop b rest at may holds open_yet ends = record {
+  as_if = field_fresh t.outer (field_pieces t) t.openers;
+  follows =
+      let e = ending_before t.mode t.held may holds in
+      follows_free (free_at fs stop) t.outer (field_pieces t) t.openers (frames_alike t.outer t.done (field_pieces t) t.openers fs (e.neutral t.done) at.frames)
+      (at.ends ∙ ap (λ x. byte_len (before literal t.outer ++ x)) (sym (e.spells t.done)));
+  stands = ends_alike b t may holds open_yet ends;
+}
+
+-- a character that begins with another byte than one of ASCII isn't that one
+pub not_first : (b c d : ℕ) → d < 128 → (b ≡ d → ⊥) → IsFirstByte b c → c ≡ d → ⊥
+not_first b c d low other first is = other (sym first.1 ∙ ap (λ x. slice_index (encode_utf8 x) 0) is ∙ ap (λ (x : List ℕ). slice_index x 0) (encode_ascii d low))

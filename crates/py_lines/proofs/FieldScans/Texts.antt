@@ -9,10 +9,10 @@ use Rattle.py_lines.specs.Character.{is_one_of, is_space, is_word_character, is_
 use Rattle.py_lines.specs.Piece.{Piece, spelled, operator, string}
 use Rattle.py_lines.specs.Balance.{is_opening, is_closing, closing_of}
 use Rattle.py_lines.specs.FieldStrings.{is_field_prefix, Host, Place, literal, specification}
-use Rattle.py_lines.specs.declared.mode.Mode.{Mode}
-use Rattle.py_lines.specs.declared.mode.Mode.TheVariants as modes
-use Rattle.py_lines.specs.declared.mode.Move.TheVariants as moves
-use Rattle.py_lines.specs.declared.mode.Start.TheVariants as starts
+use Rattle.py_lines.specs.Private.Machine.{Mode}
+use Rattle.py_lines.specs.Private.Mode as modes
+use Rattle.py_lines.specs.Private.Machine.{Move as moves}
+use Rattle.py_lines.specs.Private.Machine.{Start as starts}
 use Rattle.py_lines.specs.Private.Machine.{IsFull, closed, short_move, move_of, start_of, first_spelling, spelling_with, is_prefix_spelling}
 use Rattle.py_lines.specs.Private.FieldMachine.{At, FieldMode, between, after_brace, after_slash, plain, body, FieldMove, grows, closes, breaks, begins_code, ends_field, Level, FieldScanned, field_state, field_fresh, field_ended, field_pieces, begins_host, plain_move, between_move, body_move, field_move, field_moved, field_started, code_operator, openers_with, levels_open, frames, has_room_at}
 use Rattle.py_lines.specs.Private.Scan.{GoesThrough}
@@ -29,7 +29,7 @@ use Rattle.py_lines.proofs.FieldMachine.StringParts.{open_moves, other_escaped, 
 use Rattle.py_lines.proofs.FieldMachine.CodeRuns.{brace_ends, code_moves, colon_opens, end_moves, end_no_quote}
 use Rattle.py_lines.proofs.ScanMachine.Follows.{room_closes}
 use Rattle.py_lines.proofs.FieldScans.Frames.{AreOpenAlike, neutral_alike}
-use Rattle.py_lines.proofs.FieldScans.Openings.{no_colon}
+use Rattle.py_lines.proofs.FieldScans.Operators.{no_colon}
 use Rattle.py_lines.proofs.FieldScans.Taking.{no_opening, goes_through, keeps_open, some_level}
 use Rattle.py_lines.proofs.LineScan.StringSteps.{string_grows}
 use Rattle.py_lines.proofs.LineScan.AsciiRuns.{low_is, quote_ascii, quote-no_break, space_low, space-not-quote, word-no_break, word_byte_continues, word_byte_low, word_byte_starts, space-no_word}

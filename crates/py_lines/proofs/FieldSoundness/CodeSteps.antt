@@ -8,10 +8,10 @@ use Rattle.py_lines.specs.PieceGrammar.{is_bare, joined, InClassIn, MayPrecedeIn
 use Rattle.py_lines.specs.Balance.{is_opening, depth_through}
 use Rattle.py_lines.specs.Fields.{AreInside, IsSpecification, simple, specified, fielded, Fields}
 use Rattle.py_lines.specs.FieldStrings.{Host, Place, literal, specification, begins_open, field, is_field_prefix, with_fields}
-use Rattle.py_lines.specs.declared.mode.Mode.{Mode}
-use Rattle.py_lines.specs.declared.mode.Mode.TheVariants as modes
-use Rattle.py_lines.specs.declared.mode.Start.{Start}
-use Rattle.py_lines.specs.declared.mode.Start.TheVariants as starts
+use Rattle.py_lines.specs.Private.Machine.{Mode}
+use Rattle.py_lines.specs.Private.Mode as modes
+use Rattle.py_lines.specs.Private.Machine.{Start}
+use Rattle.py_lines.specs.Private.Machine.{Start as starts}
 use Rattle.py_lines.specs.Private.Machine.{class_of, start_of, Holds, closed, move_of, is_prefix_spelling}
 use Rattle.py_lines.specs.Private.FieldMachine.{before, between, plain, body, Level, FieldScanned, field_state, levels_open, field_ended, code_operator, after_operator, field_operator, field_started, openers_with, specification_ended, text_place, FieldMode, opened, FieldMove, field_fresh, host_of, begins_host, plain_move, field_moved}
 use Rattle.py_lines.specs.Private.ScanMachine.{BeginsPlain}
@@ -26,8 +26,8 @@ use Rattle.py_lines.proofs.FieldSoundness.Lists.{FieldSoundIf, not_specification
 use Rattle.py_lines.proofs.FieldMachine.StringParts.{field_unnamed}
 use Rattle.std.specs.List.{list_any}
 use Rattle.py_lines.specs.declared.mode.Spelling.{Spelling}
-use Rattle.py_lines.specs.declared.mode.Move.{Move}
-use Rattle.py_lines.specs.declared.mode.Move.TheVariants as moves
+use Rattle.py_lines.specs.Private.Machine.{Move}
+use Rattle.py_lines.specs.Private.Machine.{Move as moves}
 use Rattle.py_lines.proofs.Fields.Parts.{not_nothing}
 use Rattle.py_lines.proofs.Fields.Prefixes.{word_quotes}
 use Rattle.py_lines.proofs.FieldMachine.Runs.{HasRoomFor}

@@ -12,7 +12,7 @@ use Rattle.py_lines.specs.PieceGrammar.{joined, has_triple, InClassIn, AreReadIn
 use Rattle.py_lines.specs.Balance.{is_opener, depth_through}
 use Rattle.py_lines.specs.Fields.{HasNoColon, AreInside, IsField, Fields, fielded}
 use Rattle.py_lines.specs.FieldStrings.{is_field_prefix, Host, Place, literal, specification, quotes_of, may_be_escaped, names, begins_open, named_through, AreParts, with_fields}
-use Rattle.py_lines.specs.declared.mode.Mode.TheVariants as modes
+use Rattle.py_lines.specs.Private.Mode as modes
 use Rattle.py_lines.specs.Private.Machine.{IsFull, Holds, class_of}
 use Rattle.py_lines.specs.Private.FieldMachine.{text_place, before, At, between, after_one, after_two, after_slash, after_return, after_name, after_brace, FieldMode, plain, opened, empty, body, Level, FieldScanned, levels_open, frames}
 use Rattle.py_lines.specs.Private.ScanMachine.{BeginsPlain}

@@ -6,7 +6,7 @@ use Rattle.py_lines.specs.PieceGrammar.{InClassIn, MayPrecedeIn, AreReadIn}
 use Rattle.py_lines.specs.Balance.{is_opener, is_closer, depth_after, depth_through}
 use Rattle.py_lines.specs.Fields.{is_colon, HasNoColon, Fields, fielded}
 use Rattle.py_lines.specs.FieldStrings.{Place, literal, specification, begins_open, with_fields}
-use Rattle.py_lines.specs.declared.mode.Mode.TheVariants as modes
+use Rattle.py_lines.specs.Private.Mode as modes
 use Rattle.py_lines.specs.Private.FieldMachine.{text_place, before, FieldMode, plain, Level, FieldScanned, field_state, field_fresh, levels_open}
 use Rattle.py_lines.proofs.Pieces.PieceLists.{piece, spelled-push, AreReadIn-push, MayFollow, follows_any}
 use Rattle.py_lines.proofs.Fields.Nesting.{class_map}

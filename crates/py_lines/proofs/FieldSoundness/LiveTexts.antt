@@ -7,7 +7,7 @@ use Rattle.py_lines.specs.Character.{is_quote, is_line_feed, is_return, is_break
 use Rattle.py_lines.specs.Piece.{operator, Piece, spelled, comment, line_end}
 use Rattle.py_lines.specs.Balance.{is_opening, is_closing, closing_of}
 use Rattle.py_lines.specs.FieldStrings.{Host, Place, literal, specification}
-use Rattle.py_lines.specs.declared.mode.Mode.TheVariants as modes
+use Rattle.py_lines.specs.Private.Mode as modes
 use Rattle.py_lines.specs.Private.Machine.{move_of, Holds, is_final}
 use Rattle.py_lines.specs.Private.FieldMachine.{At, between, after_one, after_two, after_slash, after_brace, FieldMode, plain, body, grows, closes, breaks, Level, FieldScanned, field_state, field_fresh, between_move, escape_move, body_move, field_move, after_operator, field_operator, field_ended, field_started, field_moved, field_closed, may_end, frames, IsFieldFinal, opened, empty, field_text_start, begins_host, plain_move, field_step, field_steps_from, field_pieces, have_room, has_room}
 use Rattle.py_lines.proofs.Text.CharacterTests.{not_quote}
@@ -29,7 +29,7 @@ use Rattle.py_lines.proofs.FieldSoundness.WholeTexts.{two_hundred, rooms_at, fin
 use Rattle.py_lines.proofs.FieldMachine.StringRuns.{second_quote}
 use Rattle.std.proofs.Math.Bool.{and_assoc}
 use Rattle.py_lines.specs.Faults.{IsLive}
-use Rattle.py_lines.specs.declared.mode.Mode.{Mode}
+use Rattle.py_lines.specs.Private.Machine.{Mode}
 
 -- a mode in which the text may end, or a closing bracket follow
 pub record IsReadyField (m : FieldMode) (held : List ℕ) : Type 0 where

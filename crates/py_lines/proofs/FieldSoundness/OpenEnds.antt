@@ -17,8 +17,8 @@ use Rattle.py_lines.proofs.FieldSoundness.OpenLists.{Opens, opens-closes, opens-
 use Rattle.py_lines.proofs.FieldSoundness.Holds.{Limit, PartsAt, HoldsParts, HoldsList, HoldsLevel, HoldsLevels, HoldsAt, IsFieldSound}
 use Rattle.py_lines.proofs.FieldSoundness.CodeSteps.{single_at}
 use Rattle.py_lines.specs.Character.{is_backslash, is_brace}
-use Rattle.py_lines.specs.declared.mode.Mode.{Mode}
-use Rattle.py_lines.specs.declared.mode.Mode.TheVariants as modes
+use Rattle.py_lines.specs.Private.Machine.{Mode}
+use Rattle.py_lines.specs.Private.Mode as modes
 use Rattle.py_lines.specs.Private.Machine.{class_of, in_short, in_long}
 use Rattle.py_lines.proofs.Pieces.TripleQuotes.{triple-other}
 use Rattle.py_lines.proofs.Machine.OpenStrings.{short_held, long_held}

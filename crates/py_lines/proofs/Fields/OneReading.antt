@@ -12,9 +12,9 @@ use Rattle.py_lines.specs.Reading.{IsBalancedReading}
 use Rattle.py_lines.specs.Lexed.{IsLexedWhole}
 use Rattle.py_lines.specs.Fields.{ReadsText, Fields, fielded}
 use Rattle.py_lines.specs.FieldStrings.{Host, literal, quotes_of, with_fields}
-use Rattle.py_lines.specs.declared.mode.Mode.TheVariants as modes
-use Rattle.py_lines.specs.declared.mode.Start.{Start}
-use Rattle.py_lines.specs.declared.mode.Start.TheVariants as starts
+use Rattle.py_lines.specs.Private.Mode as modes
+use Rattle.py_lines.specs.Private.Machine.{Start}
+use Rattle.py_lines.specs.Private.Machine.{Start as starts}
 use Rattle.py_lines.specs.Private.Machine.{start_of}
 use Rattle.py_lines.specs.Private.FieldMachine.{FieldMode, plain, FieldMove, grows, closes, breaks, begins_code, opens_field, ends_field, refused, Level, FieldScanned, field_state, field_text_start, field_closed, openers_with, after_operator, code_operator, field_operator, field_started, opened_level, specification_ended, field_move, field_moved, field_step, field_steps_from, field_pieces}
 use Rattle.py_lines.proofs.Pieces.PieceLists.{piece, spelled-append, AreReadIn-second}

@@ -13,9 +13,9 @@ use Rattle.py_lines.specs.PieceGrammar.{IsLineEnd, feed, return_feed, return}
 use Rattle.py_lines.specs.Fields.{InClass, AreReadBefore}
 use Rattle.py_lines.specs.Settled.{EndsForGood, IsSettledPrefix}
 use Rattle.py_lines.specs.Lexed.{IsLexedToFault}
-use Rattle.py_lines.specs.declared.mode.Mode.{Mode}
-use Rattle.py_lines.specs.declared.mode.Mode.TheVariants as modes
-use Rattle.py_lines.specs.declared.mode.Move.{Move}
+use Rattle.py_lines.specs.Private.Machine.{Mode}
+use Rattle.py_lines.specs.Private.Mode as modes
+use Rattle.py_lines.specs.Private.Machine.{Move}
 use Rattle.py_lines.specs.declared.fault.FaultKind.TheVariants as faults
 use Rattle.py_lines.specs.declared.fault.Fault.{Fault}
 use Rattle.py_lines.specs.Private.LineScan.{EndsNoLine}
@@ -159,7 +159,7 @@ pub data EndsNoneYet (others : List Piece) (tail : List ℕ) : Type 0 where
   by_return : (local : List Piece) (text : List ℕ) → others ≡ local ++ piece line_end text ∷ [] → EndsNoLine 0 local → text ≡ 13 ∷ [] → tail ≡ [] → EndsNoneYet others tail
 
 -- a piece of a list of one
-one_of : (p w : Piece) (k ws : List Piece) → p ∷ [] ≡ k ++ w ∷ ws → (w ≡ p) × (ws ≡ [])
+pub one_of : (p w : Piece) (k ws : List Piece) → p ∷ [] ≡ k ++ w ∷ ws → (w ≡ p) × (ws ≡ [])
 one_of p w [] ws same = (cc, cc)
 one_of p w (q ∷ k) ws same = absurd (omega (arith, ap length same, length-append k (w ∷ ws)))
 

@@ -1,5 +1,5 @@
 -- Runs of bytes of ASCII, and what they begin.
-use Rattle.std.proofs.Common.{◌≡◌, ℕ, zero, suc, ◌<◌, ◌≤◌, Bool, true, false, List, [], ◌∷◌, ◌++◌, length, take, slice_index, refl, leb, ap, ◌∙◌, ◌||◌, ◌&&◌, ◌==◌, sym, arith}
+use Rattle.std.proofs.Common.{◌≡◌, ℕ, zero, suc, ◌<◌, ◌≤◌, Bool, true, false, List, [], ◌∷◌, ◌++◌, length, take, slice_index, refl, leb, ap, ◌∙◌, ◌||◌, ◌&&◌, ◌==◌, sym, arith, Fits, w8}
 use Rattle.std.specs.Prelude.{encode_utf8_all, codes, nat_lt, nat_le}
 use Rattle.std.specs.Str.{all_scalars}
 use Rattle.std.specs.List.{list_all}
@@ -28,6 +28,9 @@ break_low c h = leb-false 128 c (none_of (λ d. leb 128 d) (codes "\n\r") c refl
 pub quote_ascii : (q : ℕ) → is_quote q ≡ true → q < 128
 unfolding is_quote
 quote_ascii q h = leb-false 128 q (none_of (λ d. leb 128 d) (codes "'\"") q refl h)
+
+pub quote_fits : (q : ℕ) → is_quote q ≡ true → Fits w8 q
+quote_fits q h = let low = quote_ascii q h in omega arith
 
 -- a byte of words continues a word
 pub word_byte_low : (c : ℕ) → is_ascii_word c ≡ true → c < 128

@@ -1,21 +1,22 @@
--- What a character begins, by the class of its byte.
-use Rattle.std.proofs.Common.{◌≡◌, ℕ, ◌<◌, ◌≤◌, Bool, true, false, List, [], ◌∷◌, ◌++◌, refl, ap, sym, ◌∙◌, ◌==◌, arith, if◌then◌else◌}
+-- What a character begins, by the class of its first byte.
+use Rattle.std.proofs.Common.{◌≡◌, ◌⊎◌, ℕ, ◌<◌, ◌≤◌, true, false, List, [], ◌∷◌, ◌++◌, slice_index, refl, ap, sym, subst, ◌∙◌, ◌==◌, arith, if◌then◌else◌, ⊎_elim}
 use Rattle.std.specs.Prelude.{codes, nat_le, nat_lt}
 use Rattle.std.specs.List.{list_any}
-use Rattle.std.specs.Char.{is_ascii}
-use Rattle.std.proofs.lemmas.Bool.{and_parts, ltb-true, not-true, or_parts}
+use Rattle.std.proofs.lemmas.Bool.{and_parts, cases_lt, le-leb, leb-true, ltb-true, not-true, or_parts}
 use Rattle.std.proofs.lemmas.Bool.Decides.{nat_tests}
+use Rattle.std.proofs.lemmas.Str.{byte_from_char, char_from_byte, len_utf8_bounds}
 use Rattle.unicode_ident.specs.Ident.{is_xid_start}
 use Rattle.py_lines.specs.Character.{is_backslash, is_b, is_break, is_digit, is_f, is_hash, is_line_feed, is_one_of, is_operator, is_quote, is_r, is_return, is_space, is_t, is_u, is_word_start}
 use Rattle.py_lines.specs.declared.class.Class.{Class}
 use Rattle.py_lines.specs.declared.class.Class.TheVariants as class
 use Rattle.py_lines.specs.Private.Machine.{Mode, Spelling, Start, first_spelling, start_of}
 use Rattle.py_lines.specs.Private.Marks.{begins_nothing, is_of_class, is_plain}
-use Rattle.py_lines.specs.Private.Run.{is_ascii_word}
+use Rattle.py_lines.specs.Private.Run.{BeginsWith, is_ascii_word}
 use Rattle.py_lines.proofs.FieldMachine.PieceRuns.{opening_operator}
-use Rattle.py_lines.proofs.LineScan.AsciiRuns.{word_byte_starts}
+use Rattle.py_lines.proofs.LineScan.AsciiRuns.{quote_ascii, space_low, word_byte_low, word_byte_starts}
 use Rattle.py_lines.proofs.Machine.LiveTexts.{closing-operator}
-use Rattle.py_lines.proofs.Text.CharacterTests.{excluded, none_of}
+use Rattle.py_lines.proofs.Text.CharacterTests.{excluded, feed_is, none_of, operator_ascii, return_is, the_one}
+use Rattle.py_lines.proofs.Text.FirstCharacters.{first_size}
 use Rattle.py_lines.proofs.Machine.Starts.{start-word, start-space, start-operator, start-feed, start-return, start-quote, start-hash, start-slash}
 
 -- what one of this class begins
@@ -72,15 +73,14 @@ high_word : (c : ℕ) → 128 ≤ c → is_word_start c ≡ is_xid_start c
 unfolding is_word_start is_digit
 high_word c high = grind (arith, nat_tests)
 
-pub high_start : (c : ℕ) (ascii letter : Bool) → ascii ≡ is_ascii c → ascii ≡ false → letter ≡ is_xid_start c
-    → start_of c ≡ (if letter then Start.Open (Mode.Word Spelling.Name) else Start.Nothing)
+high_start : (c : ℕ) → 128 ≤ c → start_of c ≡ (if is_xid_start c then Start.Open (Mode.Word Spelling.Name) else Start.Nothing)
 unfolding start_of is_space is_operator is_line_feed is_return is_quote is_hash is_backslash
-high_start c ascii letter told high is =
-    let beyond : 128 ≤ c = grind (arith, nat_tests) in
+high_start c high =
     let none : (ds : List ℕ) → list_any (nat_le 128) ds ≡ false → is_one_of ds c ≡ false
-    = λ ds low. excluded (nat_le 128) (is_one_of ds) c (none_of (nat_le 128) ds c low) (grind (arith, nat_tests)) in
-    rw (high_word c beyond, high_spelling c beyond, sym is)
-    (rw (
+    = λ ds low. excluded (nat_le 128) (is_one_of ds) c (none_of (nat_le 128) ds c low) (le-leb 128 c high) in
+    rw (
+      high_word c high,
+      high_spelling c high,
       none (codes " \t" ++ 0x0C ∷ []) refl,
       none (codes "+-*/%@&|^~<>=!()[]{},:.;") refl,
       none (codes "\n") refl,
@@ -88,10 +88,67 @@ high_start c ascii letter told high is =
       none (codes "'\"") refl,
       none (codes "#") refl,
       none (codes "\\") refl,
-    ) refl)
+    ) refl
+
+-- bytes of one class are bytes of wider characters, those of the others ASCII
+abbrev InRange : Class → ℕ → Type 0
+InRange class.Wide b = 128 ≤ b
+InRange k b = b < 128
+
+in_range : (k : Class) (b : ℕ) → is_of_class k b ≡ true → InRange k b
+unfolding is_hash is_backslash
+in_range class.Word b h = word_byte_low b h
+in_range class.Space b h = space_low b h
+in_range class.Operator b h = operator_ascii b (and_parts (is_operator b) _ h).0
+in_range class.Opening b h = operator_ascii b (opening_operator b h)
+in_range class.Closing b h = operator_ascii b (closing-operator b h)
+in_range class.Quote b h = quote_ascii b h
+in_range class.LineFeed b h = omega (arith, feed_is b h)
+in_range class.Return b h = omega (arith, return_is b h)
+in_range class.Hash b h = omega (arith, the_one 35 b h)
+in_range class.Backslash b h = omega (arith, the_one 92 b h)
+in_range class.Wide b h = leb-true 128 b h
+in_range class.Other b h = nothing_low b h
+
+-- what one of this class begins, in the code's words
+abbrev pub BeginsBy : Class → ℕ → Type 0
+BeginsBy class.Operator c = is_operator c ≡ true
+BeginsBy class.Opening c = is_operator c ≡ true
+BeginsBy class.Closing c = is_operator c ≡ true
+BeginsBy class.Quote c = is_quote c ≡ true
+BeginsBy class.LineFeed c = is_break c ≡ true
+BeginsBy class.Return c = is_break c ≡ true
+BeginsBy class.Backslash c = is_backslash c ≡ true
+BeginsBy class.Wide c = start_of c ≡ (if is_xid_start c then Start.Open (Mode.Word Spelling.Name) else Start.Nothing)
+BeginsBy k c = start_of c ≡ start_by k c
+
+begins_by : (k : Class) (c : ℕ) → is_of_class k c ≡ true → BeginsBy k c
+unfolding is_break
+begins_by class.Operator c h = (and_parts (is_operator c) _ h).0
+begins_by class.Opening c h = opening_operator c h
+begins_by class.Closing c h = closing-operator c h
+begins_by class.Quote c h = h
+begins_by class.LineFeed c h = subst (λ x. is_break x ≡ true) (sym (feed_is c h)) refl
+begins_by class.Return c h = subst (λ x. is_break x ≡ true) (sym (return_is c h)) refl
+begins_by class.Backslash c h = h
+begins_by class.Wide c h = high_start c (leb-true 128 c h)
+begins_by k c h = starts_by k c (in_range k c h) h
+
+-- what bytes begin with is of the class of the first of them
+first_by : (k : Class) (bytes : List ℕ) (c : ℕ) → BeginsWith bytes c → is_of_class k (slice_index bytes 0) ≡ true → is_of_class k c ≡ true
+first_by class.Wide bytes c first h =
+    ⊎_elim
+    (λ low. absurd (omega (arith, low, leb-true 128 _ h, byte_from_char bytes _ c (sym first.spell) low)))
+    (λ high. le-leb 128 c high) (cases_lt c 128)
+first_by k bytes c first h =
+    ap (is_of_class k) (char_from_byte bytes _ c (sym first.spell) (in_range k (slice_index bytes 0) h) (omega (arith, first_size first, len_utf8_bounds c))) ∙ h
 
 -- as the code compares them
-pub starts_as : (k j : Class) (c : ℕ) (ascii : Bool) → ascii ≡ is_ascii c → ascii ≡ true → is_of_class j c ≡ true → j ≡ k
-    → start_by k c ≡ start_of c
-starts_as k j c ascii told low of is =
-    sym (starts_by k c (grind (arith, nat_tests)) (ap (λ (i : Class). is_of_class i c) (sym is) ∙ of))
+pub begins_as : (k j : Class) (bytes : List ℕ) (c : ℕ) → BeginsWith bytes c → is_of_class j (slice_index bytes 0) ≡ true → j ≡ k → BeginsBy k c
+begins_as k j bytes c first of is = begins_by k c (first_by k bytes c first (ap (λ (i : Class). is_of_class i (slice_index bytes 0)) (sym is) ∙ of))
+
+pub operator_as : (j : Class) (bytes : List ℕ) (c : ℕ) → BeginsWith bytes c → is_of_class j (slice_index bytes 0) ≡ true
+    → (j ≡ class.Operator) ⊎ ((j ≡ class.Opening) ⊎ (j ≡ class.Closing)) → is_operator c ≡ true
+operator_as j bytes c first of is =
+    let at = λ (k : Class). begins_as k j bytes c first of in
+    ⊎_elim (at class.Operator) (λ brackets. ⊎_elim (at class.Opening) (at class.Closing) brackets) is

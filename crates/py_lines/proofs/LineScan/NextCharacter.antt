@@ -8,15 +8,13 @@ use Rattle.py_lines.specs.Piece.{line_end, Piece}
 use Rattle.py_lines.specs.Balance.{depth_through}
 use Rattle.py_lines.specs.FieldStrings.{Host, literal}
 use Rattle.py_lines.specs.LogicalLine.{is_line_end_class, byte_len}
-use Rattle.py_lines.specs.declared.mode.Mode.{Mode}
-use Rattle.py_lines.specs.declared.mode.Mode.TheVariants as modes
-use Rattle.py_lines.specs.declared.mode.Move.{Move}
-use Rattle.py_lines.specs.declared.mode.Move.TheVariants as moves
+use Rattle.py_lines.specs.Private.Machine.{Mode}
+use Rattle.py_lines.specs.Private.Mode as modes
+use Rattle.py_lines.specs.Private.Machine.{Move}
+use Rattle.py_lines.specs.Private.Machine.{Move as moves}
 use Rattle.py_lines.specs.Private.FieldMachine.{between, opened, empty, body, grows, field_state, field_move, field_moved, field_step, body_move}
 use Rattle.py_lines.specs.Private.Machine.{class_of, closed, move_of, Bracket, brackets_of}
 use Rattle.py_lines.specs.Private.ScanMachine.{meet_of}
-use Rattle.py_lines.specs.declared.field_mode.FieldMode.TheVariants as field_modes
-use Rattle.py_lines.specs.Private.Scan.{is_returned_mode}
 use Rattle.py_lines.specs.Private.LineScan.{EndsNoLine, none_open}
 use Rattle.py_lines.proofs.Pieces.PieceLists.{piece}
 use Rattle.py_lines.proofs.Text.CharacterTests.{feed_is, return_is}
@@ -28,7 +26,8 @@ use Rattle.py_lines.proofs.FieldMachine.StringRuns.{moved_between}
 
 -- whether the open piece is the CR of a line end
 abbrev pub is_return_mode : Mode → Bool
-is_return_mode m = is_returned_mode (field_modes.Code m)
+is_return_mode modes.Return = true
+is_return_mode other = false
 
 -- the depth says whether a bracket is open
 pub depth_none : (ps : List Piece) (st : List Bracket) → brackets_of ps ≡ Some st → depth_through 0 ps == 0 ≡ none_open st

@@ -1,8 +1,8 @@
 -- A string with fields by itself: what is read of it is told by the machine with fields.
 use Rattle.std.proofs.Common.{◌≡◌, ℕ, ◌+◌, Option, None, Some, List, [], ◌∷◌, ◌++◌, refl, sym, ap, ◌∙◌, append_assoc, append-nil}
 use Rattle.std.specs.Prelude.{if◌then◌else◌}
-use Rattle.py_lines.specs.declared.mode.Mode.TheVariants as modes
-use Rattle.py_lines.specs.declared.mode.Move.TheVariants as moves
+use Rattle.py_lines.specs.Private.Mode as modes
+use Rattle.py_lines.specs.Private.Machine.{Move as moves}
 use Rattle.py_lines.specs.Private.Scan.{GoesThrough}
 use Rattle.py_lines.specs.Private.FieldMachine.{FieldMode, Level, FieldScanned, grows, field_state, field_move, field_moved, frames, has_room_at, field_text_start, field_step, field_steps_from}
 use Rattle.py_lines.specs.Private.ScanMachine.{string_state, string_move, fielded_move}

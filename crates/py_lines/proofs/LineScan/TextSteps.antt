@@ -7,11 +7,10 @@ use Rattle.py_lines.specs.Fields.{InClass, AreReadBefore}
 use Rattle.py_lines.specs.Reading.{EndsLine}
 use Rattle.py_lines.specs.Faults.{IsLive}
 use Rattle.py_lines.specs.LogicalLine.{byte_len}
-use Rattle.py_lines.specs.declared.mode.Mode.{Mode}
-use Rattle.py_lines.specs.declared.mode.Mode.TheVariants as modes
+use Rattle.py_lines.specs.Private.Machine.{Mode}
+use Rattle.py_lines.specs.Private.Mode as modes
 use Rattle.py_lines.specs.Private.Machine.{Scanned, fresh, text_start, class_of, closed, started, start_of, Bracket, brackets_of}
 use Rattle.py_lines.specs.Private.ScanMachine.{IsScanSound, StringsFit, scan_step, scan_steps, move_at}
-use Rattle.py_lines.specs.declared.scan.Scan.{Scan}
 use Rattle.py_lines.specs.Private.LineScan.{line_start, stack_if, IsUnderWay}
 use Rattle.py_lines.specs.Private.LineState.{first_mode}
 use Rattle.py_lines.proofs.Pieces.PieceLists.{piece, MayFollow, AreReadBefore-second, spelled-append}
@@ -74,7 +73,7 @@ ended_mode m done held body last is class =
     absurd (cc)
 
 -- the machine, where the scan of a line has come
-pub way_goes : {m : Mode} {scan : Scan} {read : List ℕ} → (way : IsUnderWay m scan read) → GoesTo (line_start m) read way.state way.brackets
+pub way_goes : {m : Mode} {read : List ℕ} → (way : IsUnderWay m read) → GoesTo (line_start m) read way.state way.brackets
 way_goes way = record { run = way.steps; stack = way.stacked }
 
 -- how it stands after pieces that end a line: as it stands in the line, if something of it was read

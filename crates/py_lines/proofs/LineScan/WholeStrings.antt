@@ -8,8 +8,8 @@ use Rattle.py_lines.specs.Balance.{depth_through}
 use Rattle.py_lines.specs.FieldStrings.{is_field_prefix, Host, literal}
 use Rattle.py_lines.specs.declared.host.StringWithFields.{StringWithFields}
 use Rattle.py_lines.specs.declared.mode.Spelling.{Spelling}
-use Rattle.py_lines.specs.declared.mode.Mode.TheVariants as modes
-use Rattle.py_lines.specs.declared.mode.Move.TheVariants as moves
+use Rattle.py_lines.specs.Private.Mode as modes
+use Rattle.py_lines.specs.Private.Machine.{Move as moves}
 use Rattle.py_lines.specs.Private.Machine.{fresh, moved, Holds, first_spelling, spelling_on}
 use Rattle.py_lines.specs.Private.FieldMachine as spots
 use Rattle.py_lines.specs.Private.FieldMachine.{between, body, closes, FieldScanned, field_state, field_move, field_moved, body_move, between_move, host_of, frames, has_room_at}
@@ -18,14 +18,20 @@ use Rattle.py_lines.specs.Private.FieldText.{InText}
 use Rattle.py_lines.specs.Private.ScanMachine.{fielded_move, host_in, is_field_spelling, is_raw_spelling, meet_of, opened_move, quote_move, scan_step, scan_steps, string_move, string_state, move_at}
 use Rattle.py_lines.proofs.Pieces.PieceLists.{piece}
 use Rattle.py_lines.proofs.Text.CharacterTests.{quote-not-word}
-use Rattle.py_lines.proofs.Machine.PieceSteps.{scanned, steps_by-append, grown_by}
+use Rattle.py_lines.proofs.Machine.PieceSteps.{all_held, grown_by, longer, scanned, steps_by-append}
 use Rattle.py_lines.proofs.Fields.Prefixes.{field_letters}
 use Rattle.py_lines.proofs.ScanMachine.Follows.{word_alone, host_moves}
 use Rattle.py_lines.proofs.ScanMachine.Rooms.{alone_grows}
 use Rattle.py_lines.proofs.Machine.Spellings.{word_tells}
-use Rattle.py_lines.proofs.LineScan.Runs.{string_run}
 use Rattle.py_lines.proofs.LineScan.NextCharacter.{opened_as_body}
 use Rattle.py_lines.proofs.LineScan.StringSteps.{string_more, string_through}
+
+-- a string with fields that goes on over a run
+pub string_run : (done : List Piece) (held run : List ℕ) (t u : FieldScanned) → string_state held ≡ Some t → GoesThrough (depth_through 0 done) t run u → scan_steps (Some (scanned done modes.Fielded held)) run ≡ Some (scanned done modes.Fielded (held ++ run))
+string_run done held [] t u is goes = all_held done modes.Fielded held
+string_run done held (c ∷ cs) t u is (low, none, move, next, step, others) =
+    grown_by move_at done modes.Fielded modes.Fielded held c cs (ap (λ o. fielded_move (depth_through 0 done) o c) is ∙ move)
+    ∙ string_run done (held ++ c ∷ []) cs next u (string_more held c t is ∙ step) others ∙ longer done modes.Fielded held c cs
 
 -- its first quote
 pub quote_opens : (s : Spelling) (q : ℕ) → is_field_spelling s ≡ true → is_quote q ≡ true → meet_of (modes.Word s) q ≡ moves.Grows (modes.FieldOpened (record { quote = q; is_long = false; is_raw = is_raw_spelling s }))

@@ -13,9 +13,9 @@ use Rattle.py_lines.specs.Piece.{Class, mark, space, word, string, operator, com
 use Rattle.py_lines.specs.PieceGrammar.{joined, is_prefix, IsPrefix, IsNoneOr, feed, return_feed, return}
 use Rattle.py_lines.specs.FieldStrings.{is_field_prefix, quotes_of}
 use Rattle.py_lines.specs.Fields.{fielded, InClass, AreReadBefore}
-use Rattle.py_lines.specs.declared.mode.Mode.TheVariants as modes
-use Rattle.py_lines.specs.declared.mode.Start.{Start}
-use Rattle.py_lines.specs.declared.mode.Start.TheVariants as starts
+use Rattle.py_lines.specs.Private.Mode as modes
+use Rattle.py_lines.specs.Private.Machine.{Start}
+use Rattle.py_lines.specs.Private.Machine.{Start as starts}
 use Rattle.py_lines.specs.declared.class.Class.{Class as ByteClass}
 use Rattle.py_lines.specs.declared.class.Class.TheVariants as class
 use Rattle.py_lines.specs.Private.Machine.{start_of}

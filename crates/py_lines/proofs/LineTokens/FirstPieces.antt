@@ -1,9 +1,11 @@
 -- The piece that bytes begin with, where it is no string, as its line takes it: how long it is, and what tells a word from a prefix.
-use Rattle.std.proofs.Common.{◌≡◌, ℕ, zero, suc, ◌≤◌, Bool, true, false, List, [], ◌∷◌, ◌++◌, length, refl, ap, ◌∙◌, arith, zero-add, ⊎_elim, ◌+◌, ◌<◌, ◌⊎◌, inl, inr, ◌&&◌, drop, slice_index, sym, subst, take, append_assoc}
+use Rattle.std.proofs.Common.{◌≡◌, ℕ, zero, suc, ◌≤◌, Bool, true, false, Option, None, Some, List, [], ◌∷◌, ◌++◌, length, refl, ap, ◌∙◌, arith, zero-add, ⊎_elim, ◌+◌, ◌<◌, ◌⊎◌, inl, inr, ◌&&◌, drop, slice_index, sym, subst, take, append_assoc}
 use Rattle.std.specs.Prelude.{encode_utf8_all, not, codes, nat_le}
 use Rattle.std.specs.List.{list_all, list_any}
 use Rattle.std.specs.Char.{is_ascii_digit}
+use Rattle.std.specs.Option.{unwrap_or}
 use Rattle.std.proofs.lemmas.Bool.{and_from, and_parts, both_ways, cases_lt, false_from_ne_true, or_parts, or_cases}
+use Rattle.std.proofs.lemmas.List.{length-take-le, take-append-drop}
 use Rattle.std.proofs.Math.Utf8.{encode}
 use Rattle.std.proofs.lemmas.Bool.Decides.{nat_tests}
 use Rattle.std.proofs.lemmas.Str.{encodes-append}
@@ -20,6 +22,7 @@ use Rattle.py_lines.specs.declared.class.Class.TheVariants as class
 use Rattle.py_lines.specs.declared.token.TokKind.{TokKind}
 use Rattle.py_lines.specs.Private.Run.{IsRunOf, is_comment_byte, is_ascii_word, is_wide_word, word_spelling}
 use Rattle.py_lines.specs.Private.LineTokens.{BeginWithPiece, IsTakenFor, line_end_len, role_of, token_piece, ends_prefix, word_kind}
+use Rattle.py_lines.specs.Private.Outline.{HasOuterEnd, IsOuterEnd}
 use Rattle.py_lines.specs.Private.ScanMachine.{begins_string}
 use Rattle.py_lines.proofs.Text.CharacterTests.{feed_is, operator_ascii, none_of}
 use Rattle.py_lines.proofs.Text.HighBytes.{IsEvenAbove, encoded_begins, encoded_passes, low_even}
@@ -30,6 +33,7 @@ use Rattle.py_lines.proofs.Lexings.LineEnds.{line_text}
 use Rattle.py_lines.proofs.FieldScans.TextLengths.{rest_is, rest_of}
 use Rattle.py_lines.proofs.LogicalLines.NextLine.{begins-prefix}
 use Rattle.py_lines.proofs.LineScan.AsciiRuns.{break_low, space_low, quote_ascii, word_byte_continues, word_byte_starts, operator-no_break}
+use Rattle.py_lines.proofs.SimpleLines.Passing.{outer_end_holds}
 use Rattle.py_lines.proofs.LineTokens.FirstCharacters.{hash_is, slash_is, spelled_bytes, IsQuoted, class_told, first_of, prefix_is_word, quoted, word_ends}
 
 -- what passes one test passes another, where each number does
@@ -93,6 +97,32 @@ one_end end rest after (return_feed is) uncut = rw is (refl, refl)
 one_end end rest after (return is) uncut =
     let same = encoded_begins is_line_feed (low_even is_line_feed (λ c h. omega (arith, feed_is c h))) rest in
     rw is (after_return (encode_utf8_all rest) (same ∙ begins-prefix is_line_feed rest after (rw is at uncut)), refl)
+
+-- the line end outside strings that bytes begin with is as long, and CR at their end is one too
+pub outer_len : (bytes : List ℕ) (found : Option ℕ) → HasOuterEnd bytes found → begins is_break bytes ≡ true
+    → unwrap_or found 1 ≡ line_end_len bytes
+unfolding is_return is_line_feed
+outer_len bytes None alone breaks = rw (alone breaks) refl
+outer_len bytes (Some len) ends breaks = by ends.is
+  where
+    after : List ℕ
+    after = drop len bytes
+
+    whole : (text : List ℕ) → take len bytes ≡ text → line_end_len (text ++ after) ≡ length text → len ≡ line_end_len bytes
+    whole text is same =
+        sym (length-take-le len bytes ends.within) ∙ ap length is ∙ sym same
+        ∙ ap line_end_len (ap (λ t. t ++ after) (sym is) ∙ take-append-drop len bytes)
+
+    by : IsOuterEnd (take len bytes) after → len ≡ line_end_len bytes
+    by (inl (true, is)) = whole (13 ∷ 10 ∷ []) is refl
+    by (inl (false, is)) = whole (10 ∷ []) is (after_feed after)
+    by (inr (is, other)) = whole (13 ∷ []) is (after_return after (outer_end_holds (13 ∷ []) after (inr (refl, other))).1)
+
+end_breaks : (end after : List ℕ) → IsLineEnd end → begins is_break (encode_utf8_all end ++ after) ≡ true
+unfolding is_break encode
+end_breaks end after (feed is) = rw is refl
+end_breaks end after (return_feed is) = rw is refl
+end_breaks end after (return is) = rw is refl
 
 ends_later : (slash : ℕ) (end : List ℕ) → IsLineEnd end → ends is_return (slash ∷ end) ≡ ends is_return end
 ends_later slash end is = let (c, cs, shape) = line_text end is in rw shape
@@ -184,20 +214,35 @@ module _ {bytes : List ℕ} {p : Piece} (b : BeginWithPiece bytes p) where
       let e = one_end p.text rest b.text.after (in_class line_end is) (precedes line_end is) in
       taken line_end _ is refl (ap line_end_len (spelled_bytes bytes p b) ∙ e.0) (sym e.1)
 
+  pub line_end_breaks : p.class ≡ line_end → begins is_break bytes ≡ true
+  line_end_breaks is = ap (begins is_break) (spelled_bytes bytes p b) ∙ end_breaks p.text (encode_utf8_all rest) (in_class line_end is)
+
+  -- a join, and the line end in it
+  record Joined : Type 0 where
+    end : List ℕ
+    text : p.text ≡ 92 ∷ end
+    is : IsLineEnd end
+    later : rest_of bytes 1 ≡ encode_utf8_all end ++ encode_utf8_all rest
+
+  joined : p.class ≡ join → Joined
+  joined is =
+      let shape = in_class join is in
+      let text : p.text ≡ 92 ∷ shape.1 = shape.2 ∙ ap (λ (c : ℕ). c ∷ shape.1) (slash_is shape.0 shape.3) in
+      record { end = shape.1; text = text; is = shape.4; later = rest_is bytes 1 ∙ ap (drop 1) (after_first 92 shape.1 text (omega arith)) }
+
+  pub join_breaks : p.class ≡ join → begins is_break (rest_of bytes 1) ≡ true
+  join_breaks is = let j = joined is in ap (begins is_break) j.later ∙ end_breaks j.end (encode_utf8_all rest) j.is
+
   pub join_taken : p.class ≡ join → IsTakenFor p (record { role = roles.Join; len = 1 + line_end_len (rest_of bytes 1); line_ends = 1 })
   unfolding is_line_feed is_return
   join_taken is =
-      let shape = in_class join is in
-      let end : List ℕ = shape.1 in
-      let slash = slash_is shape.0 shape.3 in
-      let text : p.text ≡ 92 ∷ end = shape.2 ∙ ap (λ (c : ℕ). c ∷ end) slash in
-      let uncut : ends is_return end && begins is_line_feed (rest ++ b.text.after) ≡ false
-      = ap (λ t. t && begins is_line_feed (rest ++ b.text.after)) (sym (ends_later 92 end shape.4) ∙ ap (ends is_return) (sym text))
+      let j = joined is in
+      let uncut : ends is_return j.end && begins is_line_feed (rest ++ b.text.after) ≡ false
+      = ap (λ t. t && begins is_line_feed (rest ++ b.text.after)) (sym (ends_later 92 j.end j.is) ∙ ap (ends is_return) (sym j.text))
       ∙ precedes join is in
-      let e = one_end end rest b.text.after shape.4 uncut in
-      taken join _ is refl
-      (longer 92 end _ text (omega arith) (ap line_end_len (rest_is bytes 1 ∙ ap (drop 1) (after_first 92 end text (omega arith))) ∙ e.0))
-      (sym (ap line_ends text ∙ zero-add (line_ends end) ∙ e.1))
+      let e = one_end j.end rest b.text.after j.is uncut in
+      taken join _ is refl (longer 92 j.end _ j.text (omega arith) (ap line_end_len j.later ∙ e.0))
+      (sym (ap line_ends j.text ∙ zero-add (line_ends j.end) ∙ e.1))
 
 -- the characters of a word are bytes of words, or not ASCII
 wide_even : IsEvenAbove is_wide_word

@@ -9,7 +9,7 @@ use Rattle.py_lines.specs.Balance.{is_closing, closing_of, is_opener, is_closer}
 use Rattle.py_lines.specs.LogicalLine.{byte_len}
 use Rattle.py_lines.specs.Private.Machine.{Mode, Move, Start, Holds, class_of, closed, move_of, start_of, is_final, is_prefix_spelling, Bracket, brackets_of}
 use Rattle.py_lines.proofs.Text.CharacterTests.{each_of, none_of, not_quote, excluded, feed-not-others}
-use Rattle.py_lines.specs.declared.mode.Mode.{Mode}
+use Rattle.py_lines.specs.Private.Machine.{Mode}
 use Rattle.py_lines.proofs.Pieces.PieceLists.{piece}
 use Rattle.py_lines.proofs.Machine.Starts.{start-feed}
 use Rattle.py_lines.proofs.Machine.PieceSteps.{closes}

@@ -1,16 +1,16 @@
 -- What the reader answers: its state after a line, and where a text ends, or is refused, its last line or the fault that stands there.
-use Rattle.std.proofs.Common.{◌≡◌, ℕ, ◌+◌, ◌-◌, ◌<◌, ◌≤◌, ◌⊎◌, inr, true, None, Some, List, [], ◌∷◌, ◌++◌, length, take, drop, refl, sym, ap, ◌∙◌, subst, append_assoc, append-nil, arith, length-append, length-drop, length-take, Bool, false}
-use Rattle.std.specs.Prelude.{encode_utf8_all, IsUtf8, if◌then◌else◌, encode_utf8}
+use Rattle.std.proofs.Common.{◌≡◌, ℕ, ◌+◌, ◌-◌, ◌<◌, ◌≤◌, ◌⊎◌, inl, inr, true, None, Some, List, [], ◌∷◌, ◌++◌, length, take, drop, refl, sym, ap, ◌∙◌, subst, append_assoc, append-nil, arith, length-append, length-drop, length-take, Bool, false, ◌==◌}
+use Rattle.std.specs.Prelude.{encode_utf8_all, IsUtf8, if◌then◌else◌, encode_utf8, Result, Ok, Err}
 use Rattle.std.specs.Str.{all_scalars, IsCharBoundary, StartsWithNoChar}
 use Rattle.std.specs.Borrow.{Bor}
-use Rattle.std.specs.Char.{IsScalar}
-use Rattle.std.proofs.lemmas.List.{append_cancel_left, drop-append-le, take-append-drop, take_all, drop_all, nil_from_length}
-use Rattle.std.proofs.lemmas.Str.{length-le-encodes, encodes-append, IsUtf8-drop, IsUtf8-had, IsCharBoundary-from_rest, IsCharBoundary-at_seam, encodes_same}
-use Rattle.std.proofs.Math.Seq.{take-append_seam}
-use Rattle.std.proofs.lemmas.Bool.{both_ways, and_from, eq-eqb, and_parts, false_from_ne_true}
-use Rattle.py_lines.specs.Piece.{Class, line_end, Piece, spelled}
+use Rattle.std.proofs.lemmas.List.{append_cancel_left, drop-append-le, drop-drop, take-append-drop, take_all, nil_from_length}
+use Rattle.std.proofs.lemmas.Str.{length-le-encodes, encodes-append, IsUtf8-drop, IsUtf8-had, IsCharBoundary-from_rest, IsCharBoundary-at_seam, encodes_same, encode_ascii, encode_same}
+use Rattle.std.proofs.Math.Seq.{take-append_seam, drop-append_seam}
+use Rattle.std.proofs.lemmas.Bool.{both_ways, and_from, eq-eqb, false_from_ne_true, eqb-true}
+use Rattle.py_lines.specs.Character.{is_line_feed}
+use Rattle.py_lines.specs.Piece.{Class, line_end, Piece, begins, spelled}
 use Rattle.py_lines.specs.Fields.{InClass, AreReadBefore, IsShallow, fielded}
-use Rattle.py_lines.specs.Reading.{Decodes, EndsLine}
+use Rattle.py_lines.specs.Reading as reading
 use Rattle.py_lines.specs.LogicalLine.{LogicalLine, cut, byte_len, line_ends, line_of, end_len_of, is_line_end_class}
 use Rattle.py_lines.specs.Reader.{HasGiven, Continues, standing_at, Fails}
 use Rattle.py_lines.specs.Reader.View.{reader_of}
@@ -22,47 +22,150 @@ use Rattle.py_lines.specs.Settled.{EndsForGood}
 use Rattle.py_lines.specs.ScannerState.{GoesOnWith}
 use Rattle.py_lines.specs.Lexed.{IsLexed}
 use Rattle.py_lines.specs.declared.line_state.LineState.{LineState}
-use Rattle.py_lines.specs.declared.mode.Mode.{Mode}
+use Rattle.py_lines.specs.Private.Machine.{Mode, Scanned, brackets_of, is_final}
 use Rattle.py_lines.specs.declared.scan.Scan.{Scan}
 use Rattle.py_lines.specs.declared.scan.Stop.{Stop}
 use Rattle.py_lines.specs.declared.scan.Stop.TheVariants as stops
 use Rattle.py_lines.specs.declared.source.Source.{Source}
 use Rattle.py_lines.specs.declared.fault.FaultKind.TheVariants.{BadUtf8}
+use Rattle.py_lines.specs.declared.fault.Fault.{Fault}
 use Rattle.py_lines.specs.declared.fault.LexError.{LexError}
-use Rattle.py_lines.specs.declared.mode.Mode.TheVariants as modes
-use Rattle.py_lines.specs.declared.field_mode.FieldMode.TheVariants as field_modes
+use Rattle.py_lines.specs.Private.Mode as modes
 use Rattle.py_lines.specs.declared.scan.LineFault.{LineFault}
 use Rattle.py_lines.specs.declared.fault.FaultKind.{FaultKind}
-use Rattle.py_lines.specs.Private.Machine.{Scanned, brackets_of, closed, is_final}
 use Rattle.py_lines.specs.Private.ScanMachine.{scan_steps, StringsFit, IsScanSound}
-use Rattle.py_lines.specs.Private.LineScan.{IsAtLineEnd, line_start, IsUnderWay, EndsNoLine, none_open}
-use Rattle.py_lines.specs.Private.Scan.{EndsField, RefusesField, is_returned_mode}
+use Rattle.py_lines.specs.Private.LineScan.{IsAtLineEnd, IsLeft, line_start, IsUnderWay, EndsNoLine, none_open}
+use Rattle.py_lines.specs.Private.Scan.{EndsTextSo, HasPending, IsFieldEnd, has_returned, EndsAs, Follows, Goes, GoesOverAll, StandsAs}
 use Rattle.py_lines.specs.Private.LineState.{first_mode, IsFaultAfter}
-use Rattle.py_lines.specs.Private.FieldFaults.{here}
-use Rattle.py_lines.specs.Private.LineTokens.{AreLineText}
-use Rattle.py_lines.specs.Private.Source.{line_of_source, scanned_text, GivesTokens, HasScanned, FailsAfter}
-use Rattle.py_lines.proofs.Lexings.Existence.{first_at}
+use Rattle.py_lines.specs.Private.FieldFaults.{here, unfinished_at}
+use Rattle.py_lines.specs.Private.LineTokens.{AreLineText, IsLineText}
+use Rattle.py_lines.specs.Private.Source.{line_of_source, scanned_text, GivesTokens, HasScanned, EndsLine, FailsAfter}
+use Rattle.py_lines.proofs.Text.Incomplete.{text_none}
 use Rattle.py_lines.proofs.Text.Utf8Prefixes.{prefix_chars, all_scalars-parts, one_decoding}
-use Rattle.py_lines.proofs.Pieces.PieceLists.{spelled-append, AreReadIn-append, AreReadBefore-second, piece}
+use Rattle.py_lines.proofs.Pieces.PieceLists.{spelled-append, AreReadIn-append, AreReadBefore-second}
 use Rattle.py_lines.proofs.LogicalLines.TokenPlaces.{each_after}
 use Rattle.py_lines.proofs.LogicalLines.Cuts.{byte_len-append, one_line, line_depth, one_part}
 use Rattle.py_lines.proofs.LineScan.LineCount.{line_ends-bytes}
-use Rattle.py_lines.proofs.LineScan.LineSteps.{way_stop}
+use Rattle.py_lines.proofs.LineScan.LineSteps.{follows_whole, returned, way_here, goes_on, rests_end}
 use Rattle.py_lines.proofs.LineScan.TextSteps.{follows_base, begun_sound}
 use Rattle.py_lines.proofs.Lexings.FirstLines.{base_lines, ends_for_good, given_begin, piece_some}
 use Rattle.py_lines.proofs.Feeds.Known.{IsKnown, is_known}
 use Rattle.py_lines.proofs.Pieces.OpenBrackets.{balanced_depth, depth_through-append, stands}
 use Rattle.py_lines.proofs.Pieces.ShallowPieces.{IsShallow-append, fits_reading}
-use Rattle.py_lines.proofs.LineScan.PieceEnd.{no_class_bracket, closed_text}
-use Rattle.py_lines.proofs.Readers.LineFaults.{Within, unfinished_within, refused_within}
-use Rattle.py_lines.proofs.Machine.PieceSteps.{scanned, pieces_at}
+use Rattle.py_lines.proofs.LineScan.PieceEnd.{no_class_bracket}
+use Rattle.py_lines.proofs.Readers.LineFaults.{Within, finished, unfinished_within, refused_within}
+use Rattle.py_lines.proofs.Machine.PieceSteps.{pieces_at}
 use Rattle.py_lines.proofs.Machine.LiveTexts.{stack_closed}
-use Rattle.py_lines.proofs.ScanMachine.Follows.{some_is}
 use Rattle.py_lines.proofs.ScanMachine.Soundness.{StandsSound, stands_sound, end_sound}
-use Rattle.py_lines.proofs.LineScan.NextCharacter.{closed_one_line, one_return}
+use Rattle.py_lines.proofs.LineScan.NextCharacter.{closed_one_line}
 use Rattle.py_lines.proofs.Feeds.DecidedSoFar.{way_open, by_character}
 use Rattle.py_lines.proofs.Feeds.Ended.{ended_bytes, ended_unfinished}
 use Rattle.py_lines.proofs.Feeds.Known as of
+use Rattle.py_lines.proofs.Lexings.Existence.{first_at}
+use Rattle.py_lines.specs.Reading.{Decodes}
+use Rattle.py_lines.specs.Private.FieldMachine.{FieldScanned}
+use Rattle.py_lines.proofs.FieldScans.Resting.{stands_open}
+
+-- What the scan says of the end of a text, which keeps count of a state that is as good as the machine's, holds of the machine.
+
+-- What the end of a text comes to, where the machine has gone over all of its characters, and these bytes follow, which begin none: the
+-- text ends with the line end CR, or its last line has none, or this is wrong.
+abbrev pub ComesToEnd : FieldScanned → List ℕ → Result ℕ LineFault → Scan → Type 0
+ComesToEnd t rest (Ok len) new =
+    (new.stop ≡ here t)
+    × (((len ≡ 1) × (has_returned t ≡ true)) ⊎ ((len ≡ 0) × (rest ≡ []) × (has_returned t ≡ false) × (unfinished_at t ≡ None)))
+ComesToEnd t rest (Err line_fault) new =
+    (has_returned t ≡ false)
+    × (((0 < length rest) × (line_fault.kind ≡ BadUtf8) × (line_fault.place ≡ here t)) ⊎ ((rest ≡ []) × IsFieldEnd t (Some line_fault)))
+
+-- the character with which bytes begin is the byte, where that is ASCII
+first_is : (bytes rest : List ℕ) (c d : ℕ) → d < 128 → begins (λ x. x == d) bytes ≡ true → bytes ≡ encode_utf8 c ++ rest → c ≡ d
+first_is [] rest c d low first spell = absurd (both_ways _ refl first)
+first_is (b ∷ bs) rest c d low first spell =
+    let is = eqb-true b d first in
+    (encode_same c d rest bs (sym spell ∙ ap (λ x. x ∷ bs) is ∙ ap (λ x. x ++ bs) (sym (encode_ascii d low)))).0
+
+-- bytes that begin no character don't begin with CR
+none_first : (rest : List ℕ) → StartsWithNoChar rest → begins (λ c. c == 13) rest ≡ true → ⊥
+none_first [] none first = both_ways _ refl first
+none_first (b ∷ bs) none first = none 13 bs refl (ap (λ x. x ∷ bs) (eqb-true b 13 first) ∙ ap (λ x. x ++ bs) (sym (encode_ascii 13 (omega arith))))
+
+-- where CR was gone over, which ends the line, nothing else was
+record IsReturnAlone (run : List ℕ) (end : FieldScanned) : Type 0 where
+  size : byte_len run ≡ 1
+  returned : has_returned end ≡ true
+
+return_alone : (u end to : FieldScanned) (run rest bytes : List ℕ) → StartsWithNoChar rest → begins (λ c. c == 13) bytes ≡ true → encode_utf8_all run ++ rest ≡ bytes → Goes u run end → Goes u (13 ∷ []) to → has_returned to ≡ true → IsReturnAlone run end
+return_alone u end to [] rest bytes none first spell goes return returned = absurd (none_first rest none (subst (λ x. begins (λ c. c == 13) x ≡ true) (sym spell) first))
+return_alone u end to (c ∷ cs) rest bytes none first spell goes return returned =
+    let is : c ≡ 13 = first_is bytes (encode_utf8_all cs ++ rest) c 13 (omega arith) first (sym spell ∙ append_assoc (encode_utf8 c) (encode_utf8_all cs) rest) in
+    by cs is (goes_on u end to (13 ∷ []) cs (subst (λ d. Goes u (d ∷ cs) end) is goes) return)
+  where
+    by : (ds : List ℕ) → c ≡ 13 → Goes to ds end → IsReturnAlone (c ∷ ds) end
+    by [] is there = record {
+      size = ap (λ (x : ℕ). byte_len (x ∷ [])) is ∙ ap (λ x. length (x ++ [])) (encode_ascii 13 (omega arith));
+      returned = ap has_returned (sym there) ∙ returned;
+    }
+    by (d ∷ ds) is more = absurd (both_ways _ more.0 returned)
+
+-- the state that the scan keeps count of goes over what is left to one that stands as the machine does: these bytes follow
+module _ (scan : Scan) (u t : FieldScanned) (left more : List ℕ) (follows : Follows scan u) (all : GoesOverAll u left) (stands : StandsAs all.rest t all.to) (alone : has_returned all.to ≡ true → all.rest ≡ [])
+    (none : StartsWithNoChar (all.rest ++ more)) (size : here t ≡ scan.stop + byte_len all.run) where
+  spell : encode_utf8_all all.run ++ (all.rest ++ more) ≡ left ++ more
+  spell = sym (append_assoc (encode_utf8_all all.run) all.rest more) ∙ ap (λ x. x ++ more) all.spell
+
+  abbrev over : GoesOverAll u (left ++ more)
+  over = record { run = all.run; rest = all.rest ++ more; spell = spell; scalars = all.scalars; none = none; to = all.to; goes = all.goes; one = all.one }
+
+  stands_there : all.rest ≡ [] → t ≡ all.to
+  stands_there is = subst (λ rest. StandsAs rest t all.to) is stands
+
+  none_after : all.rest ++ more ≡ [] → t ≡ all.to
+  none_after is = stands_there (nil_from_length all.rest (omega (arith, ap length is, length-append all.rest more)))
+
+  by_end : (result : Result ℕ LineFault) (new : Scan) → EndsAs u (left ++ more) over scan result new → ComesToEnd t (all.rest ++ more) result new
+  by_end (Ok len) new (inl e) =
+      let last = return_alone u all.to e.to all.run (all.rest ++ more) (left ++ more) none e.first spell all.goes e.goes e.returned in
+      (ap (λ (s : Scan). s.stop) e.stop ∙ omega (arith, size, last.size), inl (e.size, ap has_returned (stands_there (alone last.returned)) ∙ last.returned))
+  by_end (Ok len) new (inr e) =
+      let is = none_after e.whole in
+      let bytes : length (left ++ more) ≡ byte_len all.run = ap length (sym spell) ∙ ap (λ x. length (encode_utf8_all all.run ++ x)) e.whole ∙ ap length (append-nil (encode_utf8_all all.run)) in
+      (ap (λ (s : Scan). s.stop) e.stop ∙ omega (arith, size, bytes), inr (e.size, e.whole, ap has_returned is ∙ e.open_yet, ap unfinished_at is ∙ e.none))
+  by_end (Err line_fault) new (kept, open_yet, inl bad) =
+      (stands_open all.rest t all.to open_yet stands, inl (bad.0, bad.1, bad.2 ∙ sym size))
+  by_end (Err line_fault) new (kept, open_yet, inr (is, end)) =
+      (stands_open all.rest t all.to open_yet stands, inr (is, subst (λ x. IsFieldEnd x (Some line_fault)) (sym (none_after is)) end))
+
+  pub comes_to_end : (result : Result ℕ LineFault) (new : Scan) → EndsTextSo scan (left ++ more) result new → ComesToEnd t (all.rest ++ more) result new
+  comes_to_end result new ends = by_end result new (ends u follows over)
+
+-- the scan of a line has left the last characters of a text, and then these bytes follow
+module _ {m : Mode} {whole : List ℕ} {scan : Scan} {read rest : List ℕ} (left : IsLeft m whole scan read rest) (start : IsScanSound (line_start m) []) where
+  pub left_stop : scan.stop ≡ byte_len left.reached.read
+  left_stop = rests_end left.reached.way start left.reached.rests
+
+  -- what it has left stands where it stops
+  pub left_text : drop scan.stop whole ≡ left.left
+  left_text = ap (λ (n : ℕ). drop n whole) left_stop ∙ ap (drop (byte_len left.reached.read)) (sym left.reached.spell) ∙ drop-append_seam (encode_utf8_all left.reached.read) left.left
+
+  pub left_ends : encode_utf8_all read ++ rest ≡ whole → (more : List ℕ) → StartsWithNoChar (rest ++ more) → (result : Result ℕ LineFault) (new : Scan) → EndsTextSo scan (left.left ++ more) result new → ComesToEnd left.way.field (rest ++ more) result new
+  left_ends spell more none result new ends =
+      let size : here left.way.field ≡ scan.stop + byte_len left.all.run = omega (
+        arith,
+        way_here left.way start,
+        left_stop,
+        ap length left.rest_is,
+        ap length (left.reached.spell ∙ sym spell),
+        ap length left.all.spell,
+        length-append (encode_utf8_all read) rest,
+        length-append (encode_utf8_all left.reached.read) left.left,
+        length-append (encode_utf8_all left.all.run) left.all.rest,
+      ) in
+      subst (λ r. ComesToEnd left.way.field (r ++ more) result new) left.rest_is
+      (comes_to_end scan left.reached.rests.as_if left.way.field left.left more left.reached.rests.follows left.all
+      (subst (λ r. StandsAs r left.way.field left.all.to) (sym left.rest_is) left.stands)
+      (λ returned. left.rest_is ∙ left.alone returned)
+      (subst (λ r. StartsWithNoChar (r ++ more)) (sym left.rest_is) none) size result new ends)
 
 -- the pieces of a line that was read whole
 pub record IsReadLine (m : Scanned) (read : List ℕ) (u : List Piece) : Type 0 where
@@ -92,6 +195,15 @@ line_text m scan read end_len u scalars line = record {
   strings = line.line.strings;
 }
 
+-- so much of the next line was gone over, with this of the text's characters after it
+pub record HasRead (s : Source) : Type 0 where
+  pub more : s.state.place < length s.bytes.now
+  pub no_fault : s.state.fault ≡ None
+  pub read : List ℕ
+  pub rest : List ℕ
+  pub scalars : all_scalars read ≡ true
+  pub spell : encode_utf8_all read ++ rest ≡ drop s.state.place s.characters.now
+
 -- the text after the place of the reader: its characters, and then bytes that begin none
 pub text_from : (s : Source) → drop s.state.place s.characters.now ++ drop (length s.characters.now) s.bytes.now ≡ drop s.state.place s.bytes.now
 text_from s =
@@ -99,44 +211,49 @@ text_from s =
     sym (drop-append-le s.state.place s.characters.now tail s.within) ∙ ap (drop s.state.place) (ap (λ t. t ++ tail) s.prefix ∙ take-append-drop (length s.characters.now) s.bytes.now)
 
 -- what follows a place in the scanned line is text, and the place is a boundary
-pub prefix_spells : (s : Source) (stop : Stop) (has : HasScanned s stop) (offset : ℕ) (w : Within has.scans.read offset) → encode_utf8_all w.prefix ++ (encode_utf8_all w.later ++ has.scans.rest) ≡ drop s.state.place s.characters.now
-prefix_spells s stop has offset w = sym (append_assoc (encode_utf8_all w.prefix) (encode_utf8_all w.later) has.scans.rest) ∙ ap (λ t. t ++ has.scans.rest) (sym (encodes-append w.prefix w.later) ∙ ap encode_utf8_all w.split) ∙ has.scans.spell
+pub prefix_spells : (s : Source) (has : HasRead s) (offset : ℕ) (w : Within has.read offset) → encode_utf8_all w.prefix ++ (encode_utf8_all w.later ++ has.rest) ≡ drop s.state.place s.characters.now
+prefix_spells s has offset w = sym (append_assoc (encode_utf8_all w.prefix) (encode_utf8_all w.later) has.rest) ∙ ap (λ t. t ++ has.rest) (sym (encodes-append w.prefix w.later) ∙ ap encode_utf8_all w.split) ∙ has.spell
 
-pub rest_text : (s : Source) (stop : Stop) (has : HasScanned s stop) (offset : ℕ) (w : Within has.scans.read offset) → IsUtf8 (encode_utf8_all w.later ++ has.scans.rest)
-rest_text s stop has offset w =
-    let utf8 = IsUtf8-drop s.characters.now s.state.place (IsUtf8-had _ s.text) s.boundary in
-    let next = prefix_chars w.prefix utf8.0 (encode_utf8_all w.later ++ has.scans.rest) (utf8.1.1 ∙ sym (prefix_spells s stop has offset w)) in
-    (next.0, ((all_scalars-parts w.prefix next.0 (ap all_scalars (sym next.1) ∙ utf8.1.0)).1, next.2))
+-- characters of a text leave a text
+text_rest : (text prefix rest : List ℕ) → IsUtf8 text → encode_utf8_all prefix ++ rest ≡ text → IsUtf8 rest
+text_rest text prefix rest utf8 spell =
+    let next = prefix_chars prefix utf8.0 rest (utf8.1.1 ∙ sym spell) in
+    (next.0, ((all_scalars-parts prefix next.0 (ap all_scalars (sym next.1) ∙ utf8.1.0)).1, next.2))
 
-pub place_boundary : (s : Source) (stop : Stop) (has : HasScanned s stop) (offset : ℕ) → Within has.scans.read offset → IsCharBoundary s.characters.now (s.state.place + offset)
-place_boundary s stop has offset w =
-    subst (λ (n : ℕ). IsCharBoundary s.characters.now (s.state.place + n)) (sym w.size) (IsCharBoundary-from_rest s.characters.now s.state.place (byte_len w.prefix) s.within (IsCharBoundary-at_seam (drop s.state.place s.characters.now) (encode_utf8_all w.prefix) (encode_utf8_all w.later ++ has.scans.rest) (sym (prefix_spells s stop has offset w)) (rest_text s stop has offset w)))
+line_text_from : (s : Source) → IsUtf8 (drop s.state.place s.characters.now)
+line_text_from s = IsUtf8-drop s.characters.now s.state.place (IsUtf8-had _ s.text) s.boundary
+
+pub rest_text : (s : Source) (has : HasRead s) (offset : ℕ) (w : Within has.read offset) → IsUtf8 (encode_utf8_all w.later ++ has.rest)
+rest_text s has offset w = text_rest (drop s.state.place s.characters.now) w.prefix (encode_utf8_all w.later ++ has.rest) (line_text_from s) (prefix_spells s has offset w)
+
+pub place_boundary : (s : Source) (has : HasRead s) (offset : ℕ) → Within has.read offset → IsCharBoundary s.characters.now (s.state.place + offset)
+place_boundary s has offset w =
+    subst (λ (n : ℕ). IsCharBoundary s.characters.now (s.state.place + n)) (sym w.size) (IsCharBoundary-from_rest s.characters.now s.state.place (byte_len w.prefix) s.within (IsCharBoundary-at_seam (drop s.state.place s.characters.now) (encode_utf8_all w.prefix) (encode_utf8_all w.later ++ has.rest) (sym (prefix_spells s has offset w)) (rest_text s has offset w)))
 
 pub all_within : (read : List ℕ) (n : ℕ) → n ≡ byte_len read → Within read n
 all_within read n size = record { prefix = read; later = []; split = append-nil read; size = size }
 
 -- the characters after the scanned line
-pub rest_characters : (s : Source) (stop : Stop) (has : HasScanned s stop) → IsUtf8 has.scans.rest
-unfolding all_within
-rest_characters s stop has = rest_text s stop has (byte_len has.scans.read) (all_within has.scans.read (byte_len has.scans.read) refl)
+pub rest_characters : (s : Source) (has : HasRead s) → IsUtf8 has.rest
+rest_characters s has = text_rest (drop s.state.place s.characters.now) has.read has.rest (line_text_from s) has.spell
 
 -- the text that was scanned
-pub scanned_is : (s : Source) (stop : Stop) (has : HasScanned s stop) → s.state.scan.stop ≡ byte_len has.scans.read → scanned_text s ≡ encode_utf8_all has.scans.read
-scanned_is s stop has size = ap (λ (n : ℕ). take n (drop s.state.place s.characters.now)) size ∙ ap (take (byte_len has.scans.read)) (sym has.scans.spell) ∙ take-append_seam (encode_utf8_all has.scans.read) has.scans.rest
+pub scanned_is : (s : Source) (has : HasRead s) → s.state.scan.stop ≡ byte_len has.read → scanned_text s ≡ encode_utf8_all has.read
+scanned_is s has size = ap (λ (n : ℕ). take n (drop s.state.place s.characters.now)) size ∙ ap (take (byte_len has.read)) (sym has.spell) ∙ take-append_seam (encode_utf8_all has.read) has.rest
 
-pub is_line_text : (s : Source) (stop : Stop) (has : HasScanned s stop) (end_len : ℕ) (u : List Piece) → IsScannedLine (line_start (first_mode s.state.place)) s.state.scan has.scans.read end_len u → AreLineText (scanned_text s) u
-is_line_text s stop has end_len u line = subst (λ t. AreLineText t u) (sym (scanned_is s stop has line.stop)) (line_text (line_start (first_mode s.state.place)) s.state.scan has.scans.read end_len u has.scans.scalars line)
+pub is_line_text : (s : Source) (has : HasRead s) (end_len : ℕ) (u : List Piece) → IsScannedLine (line_start (first_mode s.state.place)) s.state.scan has.read end_len u → AreLineText (scanned_text s) u
+is_line_text s has end_len u line = subst (λ t. AreLineText t u) (sym (scanned_is s has line.stop)) (line_text (line_start (first_mode s.state.place)) s.state.scan has.read end_len u has.scalars line)
 
 -- the logical line that was scanned
-given_line : (old new : Source) (stop : Stop) (has : HasScanned old stop) (end_len : ℕ) (u : List Piece) → IsScannedLine (line_start (first_mode old.state.place)) old.state.scan has.scans.read end_len u → GivesTokens old end_len new → line_of_source new ≡ line_of old.state.place old.state.line u
-given_line old new stop has end_len u line gives =
+given_line : (old new : Source) (has : HasRead old) (end_len : ℕ) (u : List Piece) → IsScannedLine (line_start (first_mode old.state.place)) old.state.scan has.read end_len u → GivesTokens old end_len new → line_of_source new ≡ line_of old.state.place old.state.line u
+given_line old new has end_len u line gives =
     let start = gives.start in
     let number = gives.line in
     let size : new.state.place - new.start ≡ old.state.scan.stop = omega (arith, ap (λ (s : LineState). s.place) gives.state, start) in
     let text : take (new.state.place - new.start) (drop new.start new.characters.now) ≡ encode_utf8_all (spelled u)
     = ap (λ (n : ℕ). take n (drop new.start new.characters.now)) size ∙ ap (λ (n : ℕ). take old.state.scan.stop (drop n new.characters.now)) start ∙ ap (λ (b : Bor (List ℕ)). take old.state.scan.stop (drop old.state.place b.now)) gives.characters
-    ∙ scanned_is old stop has line.stop ∙ ap encode_utf8_all (sym line.line.spell) in
-    let are = gives.tokens u (is_line_text old stop has end_len u line) in
+    ∙ scanned_is old has line.stop ∙ ap encode_utf8_all (sym line.line.spell) in
+    let are = gives.tokens u (is_line_text old has end_len u line) in
     let kind = are.kind in
     let tokens = are.tokens in
     let indent = are.indent in
@@ -169,12 +286,12 @@ module _ {text : List ℕ} {place line : ℕ} {lines : List LogicalLine} {read r
   pub shallow_after : IsShallow 0 (k.base ++ u)
   shallow_after = IsShallow-append 0 k.base u k.shallow (subst (λ (d : ℕ). IsShallow d u) (sym level) (fits_reading u own.stacked own.strings).1)
 
-  pub ends_after : (body : List Piece) (last : Piece) → u ≡ body ++ last ∷ [] → last.class ≡ line_end → depth_through 0 body ≡ 0 → EndsLine (k.base ++ u)
+  pub ends_after : (body : List Piece) (last : Piece) → u ≡ body ++ last ∷ [] → last.class ≡ line_end → depth_through 0 body ≡ 0 → reading.EndsLine (k.base ++ u)
   ends_after body last is class deep =
       inr (k.base ++ body, last, ap (λ l. k.base ++ l) is ∙ sym (append_assoc k.base body (last ∷ [])), class, depth_through-append 0 k.base body ∙ ap (λ (d : ℕ). depth_through d body) level ∙ deep)
 
   -- the lines given, and one more
-  one_more : IsEnded u (k.more ++ k.tail ≡ []) → AreFirstLines text (place + byte_len read) (line + line_ends read) (lines ++ line_of place line u ∷ [])
+  pub one_more : IsEnded u (k.more ++ k.tail ≡ []) → AreFirstLines text (place + byte_len read) (line + line_ends read) (lines ++ line_of place line u ∷ [])
   one_more ended = record {
     characters = spelled k.base ++ (read ++ k.more);
     tail = k.tail;
@@ -195,53 +312,54 @@ module _ {text : List ℕ} {place line : ℕ} {lines : List LogicalLine} {read r
       ends (IsEnded.by_line body last is class deep) = ends_for_good (k.base ++ u) (k.more ++ k.tail) (ends_after body last is class deep)
       ends (IsEnded.by_text none) = inr none
 
-module _ (old : Source) (stop : Stop) (has : HasScanned old stop) where
-  -- the bytes that begin no character, and what comes after the characters that were read
-  abbrev pub tail : List ℕ
-  tail = drop (length old.characters.now) old.bytes.now
+-- the bytes that begin no character
+abbrev pub tail : Source → List ℕ
+tail s = drop (length s.characters.now) s.bytes.now
 
+module _ (old : Source) (has : HasRead old) where
+  -- what comes after the characters that were read
   abbrev pub left : List ℕ
-  left = has.scans.rest ++ tail
+  left = has.rest ++ tail old
 
-  pub all_spell : encode_utf8_all has.scans.read ++ left ≡ drop old.state.place old.bytes.now
-  all_spell = sym (append_assoc (encode_utf8_all has.scans.read) has.scans.rest tail) ∙ ap (λ t. t ++ tail) has.scans.spell ∙ text_from old
+  pub all_spell : encode_utf8_all has.read ++ left ≡ drop old.state.place old.bytes.now
+  all_spell = sym (append_assoc (encode_utf8_all has.read) has.rest (tail old)) ∙ ap (λ t. t ++ tail old) has.spell ∙ text_from old
 
   pub goes : GoesOnWith old.bytes.now old.state.place (drop old.state.place old.bytes.now)
   goes = take_all (length (drop old.state.place old.bytes.now)) (drop old.state.place old.bytes.now) (omega arith)
 
   -- all of the text is known
-  pub known : (lines : List LogicalLine) → HasGiven (reader_of old) lines → IsKnown old.bytes.now old.state.place old.state.line lines has.scans.read left
-  known lines given = is_known old.bytes.now old.state.place old.state.line lines has.scans.read left given.first has.scans.scalars (subst (GoesOnWith old.bytes.now old.state.place) (sym all_spell) goes)
+  pub known : (lines : List LogicalLine) → HasGiven (reader_of old) lines → IsKnown old.bytes.now old.state.place old.state.line lines has.read left
+  known lines given = is_known old.bytes.now old.state.place old.state.line lines has.read left given.first has.scalars (subst (GoesOnWith old.bytes.now old.state.place) (sym all_spell) goes)
       (omega (arith, ap length all_spell, length-drop old.state.place old.bytes.now, has.more))
 
-  pub whole : length old.bytes.now ≡ old.state.place + length (encode_utf8_all has.scans.read ++ left)
+  pub whole : length old.bytes.now ≡ old.state.place + length (encode_utf8_all has.read ++ left)
   whole = omega (arith, ap length all_spell, length-drop old.state.place old.bytes.now, has.more)
 
   -- what comes after the line is decoded as the scan has it
-  rest_is : (lines : List LogicalLine) (given : HasGiven (reader_of old) lines) → (encode_utf8_all (known lines given).more ≡ has.scans.rest) × ((known lines given).tail ≡ tail)
+  rest_is : (lines : List LogicalLine) (given : HasGiven (reader_of old) lines) → (encode_utf8_all (known lines given).more ≡ has.rest) × ((known lines given).tail ≡ tail old)
   rest_is lines given =
       let k = known lines given in
-      let next = rest_characters old stop has in
-      let scalars = (all_scalars-parts has.scans.read k.more (all_scalars-parts (spelled k.base) (has.scans.read ++ k.more) k.decodes.are).1).1 in
-      let front = encode_utf8_all (spelled k.base ++ has.scans.read) in
+      let next = rest_characters old has in
+      let scalars = (all_scalars-parts has.read k.more (all_scalars-parts (spelled k.base) (has.read ++ k.more) k.decodes.are).1).1 in
+      let front = encode_utf8_all (spelled k.base ++ has.read) in
       let text : front ++ (encode_utf8_all k.more ++ k.tail) ≡ front ++ left =
-      sym (append_assoc front (encode_utf8_all k.more) k.tail) ∙ ap (λ t. t ++ k.tail) (sym (encodes-append (spelled k.base ++ has.scans.read) k.more) ∙ ap encode_utf8_all (append_assoc (spelled k.base) has.scans.read k.more)) ∙ k.decodes.spell
+      sym (append_assoc front (encode_utf8_all k.more) k.tail) ∙ ap (λ t. t ++ k.tail) (sym (encodes-append (spelled k.base ++ has.read) k.more) ∙ ap encode_utf8_all (append_assoc (spelled k.base) has.read k.more)) ∙ k.decodes.spell
       ∙ sym (take_all _ old.bytes.now (omega (arith, whole))) ∙ k.known in
-      let same = one_decoding k.more next.0 k.tail tail scalars next.1.0 k.decodes.bad old.bad (append_cancel_left front _ _ text ∙ ap (λ t. t ++ tail) (sym next.1.1)) in
+      let same = one_decoding k.more next.0 k.tail (tail old) scalars next.1.0 k.decodes.bad old.bad (append_cancel_left front _ _ text ∙ ap (λ t. t ++ tail old) (sym next.1.1)) in
       (ap encode_utf8_all same.0 ∙ next.1.1, same.1)
 
   -- one more line was given
-  pub continues : (new : Source) (end_len : ℕ) (u : List Piece) → IsScannedLine (line_start (first_mode old.state.place)) old.state.scan has.scans.read end_len u → GivesTokens old end_len new
-      → ((after : List ℕ) → encode_utf8_all after ≡ has.scans.rest → AreReadBefore u after × IsEnded u (after ++ tail ≡ []))
+  pub continues : (new : Source) (end_len : ℕ) (u : List Piece) → IsScannedLine (line_start (first_mode old.state.place)) old.state.scan has.read end_len u → GivesTokens old end_len new
+      → ((after : List ℕ) → encode_utf8_all after ≡ has.rest → AreReadBefore u after × IsEnded u (after ++ tail old ≡ []))
       → Continues (reader_of old) (line_of_source new) (reader_of new) × EachLiesIn (line_of_source new).text new.state.tokens.tokens.items
   continues new end_len u line gives follows =
-      let read = has.scans.read in
+      let read = has.read in
       let next = line_of old.state.place old.state.line u in
-      let is = given_line old new stop has end_len u line gives in
+      let is = given_line old new has end_len u line gives in
       let text : new.bytes.now ≡ old.bytes.now = ap (λ (b : Bor (List ℕ)). b.now) gives.bytes in
       let here : new.state.place ≡ old.state.place + byte_len read = ap (λ (s : LineState). s.place) gives.state ∙ ap (λ (n : ℕ). old.state.place + n) line.stop in
       let no_fault : new.state.fault ≡ None = ap (λ (s : LineState). s.fault) gives.state ∙ has.no_fault in
-      let reached : new.state.line ≡ old.state.line + line_ends read = gives.after u (is_line_text old stop has end_len u line) ∙ ap (λ t. old.state.line + line_ends t) line.line.spell in
+      let reached : new.state.line ≡ old.state.line + line_ends read = gives.after u (is_line_text old has end_len u line) ∙ ap (λ t. old.state.line + line_ends t) line.line.spell in
       let size : byte_len (spelled u) ≡ byte_len read = ap byte_len line.line.spell in
       let given : (lines : List LogicalLine) → HasGiven (reader_of old) lines → HasGiven (reader_of new) (lines ++ next ∷ []) = λ lines had.
       let k = known lines had in
@@ -259,7 +377,7 @@ module _ (old : Source) (stop : Stop) (has : HasScanned old stop) where
         no_fault = no_fault;
       } in (
         subst (λ (l : LogicalLine). Continues (reader_of old) l (reader_of new)) (sym is) goes_on,
-        lie_in_line new old.state.place old.state.line u is (ap all_scalars line.line.spell ∙ has.scans.scalars),
+        lie_in_line new old.state.place old.state.line u is (ap all_scalars line.line.spell ∙ has.scalars),
       )
 
 -- the bytes of the line end after pieces
@@ -291,17 +409,6 @@ line_at_end m scan read rest len at after is =
       fit = at.fit after is;
     }
 
-pub line_ended : (old : Source) (len : ℕ) (has : HasScanned old (stops.LineEnd len)) → IsScannedLine (line_start (first_mode old.state.place)) old.state.scan has.scans.read len (has.scans.stops.body ++ has.scans.stops.last ∷ [])
-line_ended old len has =
-    let next = rest_characters old (stops.LineEnd len) has in
-    line_at_end (first_mode old.state.place) old.state.scan has.scans.read has.scans.rest len has.scans.stops next.0 next.1.1
-
--- a line that its line end closed
-pub continues_line : (old new : Source) (len : ℕ) (has : HasScanned old (stops.LineEnd len)) → GivesTokens old len new → Continues (reader_of old) (line_of_source new) (reader_of new) × EachLiesIn (line_of_source new).text new.state.tokens.tokens.items
-continues_line old new len has gives =
-    let at = has.scans.stops in
-    continues old (stops.LineEnd len) has new len (at.body ++ at.last ∷ []) (line_ended old len has) gives (λ after is. (at.fit after is, IsEnded.by_line at.body at.last refl at.are.class at.are.level))
-
 -- a reader at the text's start has given no line
 pub start_given : (s : Source) → s.state.place ≡ 0 → s.state.line ≡ 1 → s.state.fault ≡ None → HasGiven (reader_of s) []
 start_given s place line fault =
@@ -329,45 +436,6 @@ given_stands s place line lines given =
       few_lines = omega (arith, given.first.here, given.first.number, line_ends-bytes (spelled given.first.pieces));
     }
 
--- the reader failed
-pub fails : (old new : Source) (kind : FaultKind) (offset : ℕ) (error : LexError) (at : FailsAfter old kind offset error new) → old.state.fault ≡ None → old.state.place < length old.bytes.now → ((lines : List LogicalLine) → HasGiven (reader_of old) lines → IsLexed old.bytes.now lines (Some at.keeps.fault)) → Fails (reader_of old) at.keeps.fault (reader_of new)
-fails old new kind offset error at no_fault left all = record {
-  all = all;
-  again = λ first known. absurd (let clash = sym no_fault ∙ known in cc);
-  more = λ none. left;
-  text = ap (λ (b : Bor (List ℕ)). b.now) at.bytes;
-  place = ap (λ (s : LineState). s.place) at.keeps.same;
-  line = ap (λ (s : LineState). s.line) at.keeps.same;
-  kept = ap (λ (s : LineState). s.fault) at.keeps.same;
-}
-
-module _ (old : Source) (stop : Stop) (has : HasScanned old stop) where
-  -- the fault as the reader keeps it
-  pub fault_in : (new : Source) (kind : FaultKind) (offset : ℕ) (error : LexError) (at : FailsAfter old kind offset error new) (w : Within has.scans.read offset) → IsFaultAfter old.state kind offset (encode_utf8_all w.prefix) at.keeps.fault
-  fault_in new kind offset error at w =
-      let later = encode_utf8_all w.later ++ has.scans.rest in
-      let taken : take offset (drop old.state.place old.characters.now) ≡ encode_utf8_all w.prefix
-      = ap (take offset) (sym (prefix_spells old stop has offset w)) ∙ ap (λ (n : ℕ). take n (encode_utf8_all w.prefix ++ later)) w.size ∙ take-append_seam (encode_utf8_all w.prefix) later in
-      subst (λ b. IsFaultAfter old.state kind offset b at.keeps.fault) taken at.keeps.at
-
--- the next character was refused
-pub refused_place_within : (old : Source) (c : ℕ) (has : HasScanned old (stops.Refused c)) (line_fault : LineFault) → RefusesField old.state.scan c line_fault → Within has.scans.read line_fault.place
-refused_place_within old c has line_fault is = refused_within old.state.place old.state.scan has.scans.read has.scans.stops.0 c has.scans.stops.3 line_fault is
-
-pub fails_at_character : (old new : Source) (c : ℕ) (line_fault : LineFault) (error : LexError) (has : HasScanned old (stops.Refused c)) (at : FailsAfter old line_fault.kind line_fault.place error new) → RefusesField old.state.scan c line_fault → Fails (reader_of old) at.keeps.fault (reader_of new)
-fails_at_character old new c line_fault error has at is_line_fault =
-    let stop : Stop = stops.Refused c in
-    let read = has.scans.read in
-    let more = has.scans.stops.1 in
-    let w = refused_place_within old c has line_fault is_line_fault in
-    let next = rest_characters old stop has in
-    let follows : next.0 ≡ c ∷ more = encodes_same next.0 (c ∷ more) (next.1.1 ∙ has.scans.stops.2) in
-    let scalar : IsScalar c = (and_parts _ _ (ap all_scalars (sym follows) ∙ next.1.0)).0 in
-    let spell : left old stop has ≡ encode_utf8 c ++ (encode_utf8_all more ++ tail old stop has) = ap (λ t. t ++ tail old stop has) has.scans.stops.2 ∙ append_assoc (encode_utf8 c) (encode_utf8_all more) (tail old stop has) in
-    fails old new line_fault.kind line_fault.place error at has.no_fault has.more (λ lines given.
-    (by_character old.bytes.now old.state lines (drop old.state.place old.bytes.now) read (left old stop has) given.first (goes old stop has) has.scans.scalars (all_spell old stop has) has.scans.stops.0
-    c (encode_utf8_all more ++ tail old stop has) scalar spell has.scans.stops.3 has.scans.stops.4 line_fault is_line_fault at.keeps.fault w (fault_in old stop has new line_fault.kind line_fault.place error at w)).lexed)
-
 -- a line whose last brackets are closed ends with no line end, if it has none
 end_len-none : (d : ℕ) (ps : List Piece) → EndsNoLine d ps → depth_through d ps ≡ 0 → end_len_of ps ≡ 0
 end_len-none d [] none deep = refl
@@ -379,101 +447,252 @@ one_or : (ps : List Piece) → EndsNoLine 0 ps → (ps ≡ [] → ⊥) → cut 0
 one_or [] none some = absurd (some refl)
 one_or (p ∷ ps) none some = one_part 0 p ps none
 
--- where the machine stands soundly in a line, the scan has stopped after what was read
-close_stop : {m : Mode} {scan : Scan} {read : List ℕ} (way : IsUnderWay m scan read) → StandsSound m read way.state way.brackets → scan.stop ≡ byte_len read
-close_stop way sound = way.follows.stop ∙ ap here (some_is way.field sound.state (sym way.field_steps ∙ sound.steps)) ∙ ap byte_len sound.field.spell
-
--- the text's last line: its pieces, with the open one, are one line
-line_at_close : (m : Mode) (scan : Scan) (read : List ℕ) (way : IsUnderWay m scan read) → StandsSound m read way.state way.brackets → is_final way.state.mode ≡ true → way.brackets ≡ [] → 0 < byte_len read → (end_len : ℕ) → cut 0 (pieces_at way.state) ≡ pieces_at way.state ∷ [] → end_len ≡ end_len_of (pieces_at way.state) → IsScannedLine (line_start m) scan read end_len (pieces_at way.state)
-line_at_close m scan read way sound final empty some end_len whole ends =
+-- the text's last line, which no line end closes: its pieces, with the open one, are one line
+pub line_at_text_end : (m : Mode) (scan : Scan) (read : List ℕ) (way : IsUnderWay m read) → StandsSound m read way.state way.brackets → is_final way.state.mode ≡ true → (way.state.mode ≡ modes.Return → none_open way.brackets ≡ false) → way.brackets ≡ [] → 0 < byte_len read → scan.stop ≡ byte_len read → IsScannedLine (line_start m) scan read 0 (pieces_at way.state)
+line_at_text_end m scan read way sound final open_yet empty some stop =
     let s = way.state in
     let ended = end_sound m read s way.brackets sound final in
+    let none = closed_one_line s.mode s.done s.held way.brackets way.stacked way.one_line open_yet in
+    let stacked : brackets_of (pieces_at s) ≡ Some [] = stack_closed s.mode s.done s.held way.brackets way.stacked ∙ ap (λ l. Some l) empty in
     record {
       line = record {
         to = s;
         steps = way.steps;
         spell = ended.spell;
-        whole = whole;
-        stacked = stack_closed s.mode s.done s.held way.brackets way.stacked ∙ ap (λ l. Some l) empty;
+        whole = one_or (pieces_at s) none (λ e. omega (arith, some, ap byte_len (sym ended.spell ∙ ap spelled e)));
+        stacked = stacked;
         strings = ended.strings;
         some = some;
       };
-      stop = close_stop way sound;
-      ends = ends;
+      stop = stop;
+      ends = sym (end_len-none 0 (pieces_at s) none (stands (pieces_at s) [] stacked).depth);
       after = [];
       fit = ended.fit;
     }
 
--- no line end closes it
-pub line_at_text_end : (m : Mode) (scan : Scan) (read : List ℕ) (way : IsUnderWay m scan read) → StandsSound m read way.state way.brackets → is_final way.state.mode ≡ true → (way.state.mode ≡ modes.Return → none_open way.brackets ≡ false) → way.brackets ≡ [] → 0 < byte_len read → IsScannedLine (line_start m) scan read 0 (pieces_at way.state)
-line_at_text_end m scan read way sound final open_yet empty some =
-    let s = way.state in
-    let spell : spelled (pieces_at s) ≡ read = closed_text s.mode s.done s.held sound.scan.holds ∙ sound.scan.spell in
-    let none = closed_one_line s.mode s.done s.held way.brackets way.stacked way.one_line open_yet in
-    let stacked : brackets_of (pieces_at s) ≡ Some [] = stack_closed s.mode s.done s.held way.brackets way.stacked ∙ ap (λ l. Some l) empty in
-    line_at_close m scan read way sound final empty some 0 (one_or (pieces_at s) none (λ e. omega (arith, some, ap byte_len (sym spell ∙ ap spelled e)))) (sym (end_len-none 0 (pieces_at s) none (stands (pieces_at s) [] stacked).depth))
+-- the reader's next line was gone over whole: these are its pieces, and so many bytes are its line end
+pub record IsNext (s : Source) (end_len : ℕ) : Type 0 where
+  pub has : HasRead s
+  pub pieces : List Piece
+  pub line : IsScannedLine (line_start (first_mode s.state.place)) s.state.scan has.read end_len pieces
+  pub follows : (after : List ℕ) → encode_utf8_all after ≡ has.rest → AreReadBefore pieces after × IsEnded pieces (after ++ tail s ≡ [])
 
--- CR closes it
-return_pieces : (mode : Mode) (done : List Piece) (held read : List ℕ) → IsScanSound (scanned done mode held) read → is_returned_mode (field_modes.Code mode) ≡ true → EndsNoLine 0 done → depth_through 0 done ≡ 0 → (cut 0 (closed mode done held) ≡ closed mode done held ∷ []) × (1 ≡ end_len_of (closed mode done held))
-return_pieces modes.Return done held read sound is none deep = (one_line 0 done (piece line_end held) none refl deep, one_return sound.holds.0.0 sound.holds.0.2 ∙ ap byte_len (sym sound.holds.0.1) ∙ sym (end_len-push done (piece line_end held) refl))
-return_pieces mode done held read sound is none deep = absurd (both_ways _ refl is)
+-- or this is wrong in it
+pub record IsFaulty (s : Source) (line_fault : LineFault) : Type 0 where
+  pub has : HasRead s
+  pub within : Within has.read line_fault.place
+  pub lexed : (lines : List LogicalLine) → HasGiven (reader_of s) lines → (fault : Fault) → IsFaultAfter s.state line_fault.kind line_fault.place (encode_utf8_all within.prefix) fault → IsLexed s.bytes.now lines (Some fault)
 
-pub returned_final : (m : Mode) → is_returned_mode (field_modes.Code m) ≡ true → is_final m ≡ true
-returned_final modes.Return returned = refl
-returned_final m returned = absurd (both_ways _ refl returned)
+abbrev pub HasEnded : Source → Result ℕ LineFault → Type 0
+HasEnded s (Ok end_len) = IsNext s end_len
+HasEnded s (Err line_fault) = IsFaulty s line_fault
 
-pub line_at_return : (m : Mode) (scan : Scan) (read : List ℕ) (way : IsUnderWay m scan read) → StandsSound m read way.state way.brackets → is_returned_mode (field_modes.Code way.state.mode) ≡ true → way.brackets ≡ [] → 0 < byte_len read → IsScannedLine (line_start m) scan read 1 (pieces_at way.state)
-line_at_return m scan read way sound returned empty some =
-    let s = way.state in
-    let both = return_pieces s.mode s.done s.held read sound.scan returned way.one_line (stands s.done [] (way.stacked ∙ ap (λ l. Some l) empty)).depth in
-    line_at_close m scan read way sound (returned_final s.mode returned) empty some 1 both.0 both.1
+-- the reader fails with what is wrong
+pub fails : (old new : Source) (line_fault : LineFault) (error : LexError) (at : FailsAfter old line_fault error new) → IsFaulty old line_fault → Fails (reader_of old) at.keeps.fault (reader_of new)
+fails old new line_fault error at wrong =
+    let has = wrong.has in
+    let w = wrong.within in
+    let later = encode_utf8_all w.later ++ has.rest in
+    let taken : take line_fault.place (drop old.state.place old.characters.now) ≡ encode_utf8_all w.prefix
+    = ap (take line_fault.place) (sym (prefix_spells old has line_fault.place w)) ∙ ap (λ (n : ℕ). take n (encode_utf8_all w.prefix ++ later)) w.size ∙ take-append_seam (encode_utf8_all w.prefix) later in
+    record {
+      all = λ lines given. wrong.lexed lines given at.keeps.fault (subst (λ b. IsFaultAfter old.state line_fault.kind line_fault.place b at.keeps.fault) taken at.keeps.at);
+      again = λ first known. absurd (let clash = sym has.no_fault ∙ known in cc);
+      more = λ none. has.more;
+      text = ap (λ (b : Bor (List ℕ)). b.now) at.bytes;
+      place = ap (λ (s : LineState). s.place) at.keeps.same;
+      line = ap (λ (s : LineState). s.line) at.keeps.same;
+      kept = ap (λ (s : LineState). s.fault) at.keeps.same;
+    }
 
-module _ (old : Source) (has : HasScanned old stops.TextEnd) where
-  pub stop_size : old.state.scan.stop ≡ byte_len has.scans.read
-  stop_size = way_stop has.scans.stops.0 (begun_sound old.state.place)
+-- a line that its line end closed
+next_at : (s : Source) (has : HasRead s) (end_len : ℕ) (after : List ℕ) → encode_utf8_all after ≡ has.rest → IsAtLineEnd (first_mode s.state.place) s.state.scan has.read has.rest end_len → IsNext s end_len
+next_at s has end_len after is at = record {
+  has = has;
+  pieces = at.body ++ at.last ∷ [];
+  line = line_at_end (first_mode s.state.place) s.state.scan has.read has.rest end_len at after is;
+  follows = λ others same. (at.fit others same, IsEnded.by_line at.body at.last refl at.are.class at.are.level);
+}
 
-  some_text : length old.bytes.now ≤ length old.characters.now → 0 < byte_len has.scans.read
-  some_text full = omega (arith, ap length has.scans.spell, length-append (encode_utf8_all has.scans.read) has.scans.rest, ap length has.scans.stops.1, length-drop old.state.place old.characters.now, has.more, full)
+-- what the scan has gone over
+abbrev has_read : (old : Source) (stop : Stop) → HasScanned old stop → HasRead old
+has_read old stop h = record { more = h.more; no_fault = h.no_fault; read = h.scans.read; rest = h.scans.rest; scalars = h.scans.scalars; spell = h.scans.spell }
 
-  left_size : length (left old stops.TextEnd has) ≡ length old.bytes.now - length old.characters.now
-  left_size = length-append has.scans.rest (tail old stops.TextEnd has) ∙ omega (arith, ap length has.scans.stops.1, length-drop (length old.characters.now) old.bytes.now)
+whole_line : (old : Source) (len : ℕ) → HasScanned old (stops.LineEnd len) → IsNext old len
+whole_line old len h =
+    let has = has_read old (stops.LineEnd len) h in
+    let next = rest_characters old has in
+    let apart = follows_whole h.scans.read h.scans.rest next.0 [] [] h.scans.stops.1 (ap (λ t. t ++ []) next.1.1) in
+    next_at old has len next.0 next.1.1 (subst (λ t. IsAtLineEnd (first_mode old.state.place) old.state.scan h.scans.read t len) next.1.1 (h.scans.stops.0 next.0 apart))
 
-  -- bytes that begin no character
-  pub fails_at_bytes : (new : Source) (error : LexError) (at : FailsAfter old BadUtf8 old.state.scan.stop error new) → length old.characters.now < length old.bytes.now → Fails (reader_of old) at.keeps.fault (reader_of new)
-  fails_at_bytes new error at more = fails old new BadUtf8 old.state.scan.stop error at has.no_fault has.more (λ lines given.
-      let read = has.scans.read in
-      let w : Within read old.state.scan.stop = record { prefix = read; later = []; split = append-nil read; size = stop_size } in
-      let bad : StartsWithNoChar (left old stops.TextEnd has) = subst (λ r. StartsWithNoChar (r ++ tail old stops.TextEnd has)) (sym has.scans.stops.1) old.bad in
-      ended_bytes old.bytes.now old.state lines read (left old stops.TextEnd has) (known old stops.TextEnd has lines given) (whole old stops.TextEnd has) has.scans.stops.0 has.scans.stops.2 (omega (arith, left_size, more))
-      at.keeps.fault (fault_in old stops.TextEnd has new BadUtf8 old.state.scan.stop error at w) bad)
+-- a character that is refused
+refused_line : (old : Source) (line_fault : LineFault) → HasScanned old (stops.Wrong line_fault) → IsFaulty old line_fault
+refused_line old line_fault h =
+    let has = has_read old (stops.Wrong line_fault) h in
+    let read = h.scans.read in
+    let is = h.scans.stops in
+    let w = refused_within old.state.place read is.way is.c is.none line_fault is.fault in
+    let spell : left old has ≡ encode_utf8 is.c ++ (is.after ++ tail old) = ap (λ t. t ++ tail old) is.spell ∙ append_assoc (encode_utf8 is.c) is.after (tail old) in
+    record {
+      has = has;
+      within = w;
+      lexed = λ lines given fault at.
+          (by_character old.bytes.now old.state lines (drop old.state.place old.bytes.now) read (left old has) given.first (goes old has) h.scans.scalars (all_spell old has) is.way
+          is.c (is.after ++ tail old) is.scalar spell is.none is.open_yet line_fault is.fault fault w at).lexed;
+    }
 
-  pub end_within : length old.bytes.now ≤ length old.characters.now → (line_fault : LineFault) → EndsField old.state.scan (Some line_fault) → Within has.scans.read line_fault.place
-  end_within full line_fault is = unfinished_within old.state.place old.state.scan has.scans.read has.scans.stops.0 (some_text full) line_fault is
+-- where the scan has stopped before bytes that don't tell
+module _ (old : Source) (h : HasScanned old stops.TextEnd) where
+  abbrev left_of : IsLeft (first_mode old.state.place) (drop old.state.place old.characters.now) old.state.scan h.scans.read h.scans.rest
+  left_of = h.scans.stops
 
-  -- the text's end where it may not end
-  pub fails_at_end : (new : Source) (line_fault : LineFault) (error : LexError) (at : FailsAfter old line_fault.kind line_fault.place error new) → EndsField old.state.scan (Some line_fault) → length old.bytes.now ≤ length old.characters.now → Fails (reader_of old) at.keeps.fault (reader_of new)
-  fails_at_end new line_fault error at is_line_fault full = fails old new line_fault.kind line_fault.place error at has.no_fault has.more (λ lines given.
-      let w = end_within full line_fault is_line_fault in
-      let none = nil_from_length (left old stops.TextEnd has) (omega (arith, left_size, full)) in
-      ended_unfinished old.bytes.now old.state lines has.scans.read (left old stops.TextEnd has) (known old stops.TextEnd has lines given) (whole old stops.TextEnd has) has.scans.stops.0 has.scans.stops.2 none (some_text full)
-      line_fault is_line_fault at.keeps.fault w (fault_in old stops.TextEnd has new line_fault.kind line_fault.place error at w))
+  stop_in : old.state.scan.stop ≤ length (drop old.state.place old.characters.now)
+  stop_in = omega (arith, left_stop left_of (begun_sound old.state.place), ap length left_of.reached.spell, length-append (encode_utf8_all left_of.reached.read) left_of.left)
 
-  -- the last line
-  way_sound : StandsSound (first_mode old.state.place) has.scans.read has.scans.stops.0.state has.scans.stops.0.brackets
-  way_sound =
-      let way = has.scans.stops.0 in
-      stands_sound (first_mode old.state.place) has.scans.read way.state way.brackets (begun_sound old.state.place) (record { run = way.steps; stack = way.stacked })
+  pub stop_within : old.state.place + old.state.scan.stop ≤ length old.characters.now
+  stop_within = omega (arith, stop_in, length-drop old.state.place old.characters.now, old.within)
 
-  pub last_line : is_final has.scans.stops.0.state.mode ≡ true → has.scans.stops.0.brackets ≡ [] → length old.bytes.now ≤ length old.characters.now → IsScannedLine (line_start (first_mode old.state.place)) old.state.scan has.scans.read 0 (pieces_at has.scans.stops.0.state)
-  last_line final empty full = line_at_text_end (first_mode old.state.place) old.state.scan has.scans.read has.scans.stops.0 way_sound final
-      (way_open has.scans.stops.0 (begun_sound old.state.place) has.scans.stops.2) empty (some_text full)
+  -- what is left of the text
+  pub left_bytes : drop (old.state.place + old.state.scan.stop) old.bytes.now ≡ left_of.left ++ tail old
+  left_bytes =
+      sym (drop-drop old.state.scan.stop old.state.place old.bytes.now) ∙ ap (drop old.state.scan.stop) (sym (text_from old))
+      ∙ drop-append-le old.state.scan.stop (drop old.state.place old.characters.now) (tail old) stop_in ∙ ap (λ t. t ++ tail old) (left_text left_of (begun_sound old.state.place))
 
-  pub continues_text : (new : Source) → is_final has.scans.stops.0.state.mode ≡ true → has.scans.stops.0.brackets ≡ [] → length old.bytes.now ≤ length old.characters.now → GivesTokens old 0 new → Continues (reader_of old) (line_of_source new) (reader_of new) × EachLiesIn (line_of_source new).text new.state.tokens.tokens.items
-  continues_text new final empty full gives =
-      let s = has.scans.stops.0.state in
-      continues old stops.TextEnd has new 0 (pieces_at s) (last_line final empty full) gives
-      (λ after is.
-      let none = encodes_same after [] (is ∙ has.scans.stops.1) in (
-        subst (AreReadBefore (pieces_at s)) (sym none) (end_sound (first_mode old.state.place) has.scans.read s has.scans.stops.0.brackets way_sound final).fit,
-        IsEnded.by_text (λ i. none i ++ drop_all (length old.characters.now) old.bytes.now full i),
-      ))
+  pub left_pending : HasPending old.state.scan.mode (drop (old.state.place + old.state.scan.stop) old.bytes.now)
+  left_pending =
+      let p = left_of.pending in
+      let utf8 = text_rest (drop old.state.place old.characters.now) left_of.reached.read left_of.left (line_text_from old) left_of.reached.spell in
+      let none = text_none p.rest (text_rest left_of.left p.run p.rest utf8 p.spell) p.none in
+      subst (HasPending old.state.scan.mode) (sym left_bytes) (record {
+        run = p.run;
+        rest = p.rest ++ tail old;
+        spell = sym (append_assoc (encode_utf8_all p.run) p.rest (tail old)) ∙ ap (λ t. t ++ tail old) p.spell;
+        none = subst (λ t. StartsWithNoChar (t ++ tail old)) (sym none) old.bad;
+        is = p.is;
+      })
+
+-- the text's end, where the scan stops so then
+module _ (old : Source) (h : HasScanned old stops.TextEnd) (scan : Scan) where
+  abbrev s : Source
+  s = record old { state = record old.state { scan = scan } }
+
+  abbrev has : HasRead s
+  has = record { more = h.more; no_fault = h.no_fault; read = h.scans.read; rest = h.scans.rest; scalars = h.scans.scalars; spell = h.scans.spell }
+
+  abbrev way : IsUnderWay (first_mode old.state.place) has.read
+  way = h.scans.stops.way
+
+  start : IsScanSound (line_start (first_mode old.state.place)) []
+  start = begun_sound old.state.place
+
+  sound : StandsSound (first_mode old.state.place) has.read way.state way.brackets
+  sound = stands_sound (first_mode old.state.place) has.read way.state way.brackets start (record { run = way.steps; stack = way.stacked })
+
+  -- after the characters nothing comes, or bytes that begin none
+  none_left : has.rest ≡ []
+  none_left = text_none has.rest (rest_characters s has) h.scans.stops.none
+
+  left_bad : StartsWithNoChar (has.rest ++ tail old)
+  left_bad = subst (λ t. StartsWithNoChar (t ++ tail old)) (sym none_left) old.bad
+
+  -- with the line end CR
+  next_returned : scan.stop ≡ here way.field → has_returned way.field ≡ true → IsNext s 1
+  next_returned stop is = next_at s has 1 [] (sym none_left) (returned way start stop is (λ after same. ap (begins is_line_feed) (encodes_same after [] (same ∙ none_left))))
+
+  some_read : has.rest ++ tail old ≡ [] → 0 < byte_len has.read
+  some_read none = omega (arith, ap length has.spell, length-append (encode_utf8_all has.read) has.rest, ap length none, length-append has.rest (tail old), length-drop old.state.place old.characters.now, length-drop (length old.characters.now) old.bytes.now, has.more)
+
+  -- or with none
+  next_bare : scan.stop ≡ here way.field → has.rest ++ tail old ≡ [] → has_returned way.field ≡ false → unfinished_at way.field ≡ None → IsNext s 0
+  next_bare stop none open_yet ends =
+      let (final, empty) = finished way start ends in
+      record {
+        has = has;
+        pieces = pieces_at way.state;
+        line = line_at_text_end (first_mode old.state.place) scan has.read way sound final (way_open way start open_yet) empty (some_read none) (stop ∙ way_here way start);
+        follows = λ after is.
+            let nothing = encodes_same after [] (is ∙ none_left) in (
+              subst (AreReadBefore (pieces_at way.state)) (sym nothing) (end_sound (first_mode old.state.place) has.read way.state way.brackets sound final).fit,
+              IsEnded.by_text (ap (λ t. t ++ tail old) (nothing ∙ sym none_left) ∙ none),
+            );
+      }
+
+  -- with bytes that begin no character
+  bad_bytes : (line_fault : LineFault) → has_returned way.field ≡ false → 0 < length (has.rest ++ tail old) → line_fault.kind ≡ BadUtf8 → line_fault.place ≡ here way.field → IsFaulty s line_fault
+  bad_bytes line_fault open_yet some kind place =
+      let size : line_fault.place ≡ byte_len has.read = place ∙ way_here way start in
+      record {
+        has = has;
+        within = record { prefix = has.read; later = []; split = append-nil has.read; size = size };
+        lexed = λ lines given fault at.
+            ended_bytes s.bytes.now s.state lines has.read (left s has) (known s has lines given) (whole s has) way open_yet some fault
+            (subst (λ (k : FaultKind). IsFaultAfter s.state k (byte_len has.read) (encode_utf8_all has.read) fault) kind
+            (subst (λ (n : ℕ). IsFaultAfter s.state line_fault.kind n (encode_utf8_all has.read) fault) size at)) left_bad;
+      }
+
+  -- or where it may not end
+  open_end : (line_fault : LineFault) → has_returned way.field ≡ false → has.rest ++ tail old ≡ [] → IsFieldEnd way.field (Some line_fault) → IsFaulty s line_fault
+  open_end line_fault open_yet none is =
+      let w = unfinished_within old.state.place has.read way (some_read none) line_fault is in
+      record {
+        has = has;
+        within = w;
+        lexed = λ lines given fault at.
+            ended_unfinished s.bytes.now s.state lines has.read (left s has) (known s has lines given) (whole s has) way open_yet none (some_read none) line_fault is fault w at;
+      }
+
+  text_ended : (result : Result ℕ LineFault) → EndsTextSo old.state.scan (drop (old.state.place + old.state.scan.stop) old.bytes.now) result scan → HasEnded s result
+  text_ended result ends = by result (left_ends h.scans.stops start h.scans.spell (tail old) left_bad result scan (subst (λ bytes. EndsTextSo old.state.scan bytes result scan) (left_bytes old h) ends))
+    where
+      by : (r : Result ℕ LineFault) → ComesToEnd way.field (has.rest ++ tail old) r scan → HasEnded s r
+      by (Ok len) (stop, inl (one, is)) = subst (λ (n : ℕ). IsNext s n) (sym one) (next_returned stop is)
+      by (Ok len) (stop, inr (zero, none, open_yet, ends)) = subst (λ (n : ℕ). IsNext s n) (sym zero) (next_bare stop none open_yet ends)
+      by (Err line_fault) (open_yet, inl (some, kind, place)) = bad_bytes line_fault open_yet some kind place
+      by (Err line_fault) (open_yet, inr (none, is)) = open_end line_fault open_yet none is
+
+-- the same text, where the scan stops the same, has the same next line
+module _ (s new : Source) (bytes : s.bytes ≡ new.bytes) (characters : s.characters ≡ new.characters) (state : s.state ≡ new.state) where
+  abbrev read_same : HasRead s → HasRead new
+  read_same has = record {
+    more = rw (sym bytes, sym state) has.more;
+    no_fault = rw (sym state) has.no_fault;
+    read = has.read;
+    rest = has.rest;
+    scalars = has.scalars;
+    spell = rw (sym characters, sym state) has.spell;
+  }
+
+  ended_same : (result : Result ℕ LineFault) → HasEnded s result → HasEnded new result
+  ended_same (Ok end_len) is = record {
+    has = read_same is.has;
+    pieces = is.pieces;
+    line = rw (sym state) is.line;
+    follows = rw (sym bytes, sym characters) is.follows;
+  }
+  ended_same (Err line_fault) is = record {
+    has = read_same is.has;
+    within = is.within;
+    lexed = rw (sym bytes, sym state) is.lexed;
+  }
+
+-- what the end of the line's scan comes to
+pub has_ended : (old new : Source) (stop : Stop) (result : Result ℕ LineFault) → HasScanned old stop → EndsLine old stop result new → HasEnded new result
+has_ended old new (stops.LineEnd len) result h (is, same) = subst (λ r. HasEnded new r) (sym is) (subst (λ s. IsNext s len) (sym same) (whole_line old len h))
+has_ended old new (stops.Wrong line_fault) result h (is, same) = subst (λ r. HasEnded new r) (sym is) (subst (λ s. IsFaulty s line_fault) (sym same) (refused_line old line_fault h))
+has_ended old new stops.TextEnd result h (same, ends) =
+    ended_same (record old { state = record old.state { scan = new.state.scan } }) new (sym same.bytes) (sym same.characters) (sym same.state) result (text_ended old h new.state.scan result ends)
+
+-- so the reader may read the tokens of that line, and gives it
+module _ {s : Source} {end_len : ℕ} (next : IsNext s end_len) where
+  pub next_boundary : IsCharBoundary s.characters.now (s.state.place + s.state.scan.stop)
+  next_boundary = place_boundary s next.has s.state.scan.stop (all_within next.has.read s.state.scan.stop next.line.stop)
+
+  pub next_text : IsLineText (scanned_text s)
+  next_text = (next.pieces, is_line_text s next.has end_len next.pieces next.line)
+
+  pub next_given : (new : Source) → GivesTokens s end_len new → Continues (reader_of s) (line_of_source new) (reader_of new) × EachLiesIn (line_of_source new).text new.state.tokens.tokens.items
+  next_given new gives = continues s next.has new end_len next.pieces next.line gives next.follows
+
+-- or its fault stands in the text
+pub fault_boundary : {s : Source} {line_fault : LineFault} → IsFaulty s line_fault → IsCharBoundary s.characters.now (s.state.place + line_fault.place)
+fault_boundary {s} {line_fault} wrong = place_boundary s wrong.has line_fault.place wrong.within

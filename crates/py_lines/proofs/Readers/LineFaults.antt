@@ -15,14 +15,13 @@ use Rattle.py_lines.specs.FieldStrings.{Place, literal, specification}
 use Rattle.py_lines.specs.PieceGrammar.{feed}
 use Rattle.py_lines.specs.Fields.{AreReadBefore}
 use Rattle.py_lines.specs.declared.fault.FaultKind.{FaultKind}
-use Rattle.py_lines.specs.declared.mode.Mode.{Mode}
-use Rattle.py_lines.specs.declared.mode.Mode.TheVariants as modes
+use Rattle.py_lines.specs.Private.Machine.{Mode}
+use Rattle.py_lines.specs.Private.Mode as modes
 use Rattle.py_lines.specs.declared.scan.LineFault.{LineFault}
-use Rattle.py_lines.specs.declared.scan.Scan.{Scan}
 use Rattle.py_lines.specs.Private.Machine.{Scanned, in_short, in_long, is_after_backslash, is_final, Bracket, brackets_of, brackets_after}
 use Rattle.py_lines.specs.Private.FieldMachine.{FieldMode, plain, opened, empty, body, Level, FieldScanned, field_state, field_step, field_steps_from, has_room, roomy, frames, levels_open, before, text_place, after_open_backslash, may_end}
 use Rattle.py_lines.specs.Private.FieldFaults.{is_waiting, quotes_specification, cause_in, cause_place, here, piece_start, field_start, unfinished_code, unfinished_literal, unfinished_in, unfinished_at}
-use Rattle.py_lines.specs.Private.Scan.{EndsField, IsUnfinishedAt, RefusesField, bracket_openers}
+use Rattle.py_lines.specs.Private.Scan.{IsFieldEnd, IsFieldFault, IsUnfinishedAt, bracket_openers}
 use Rattle.py_lines.specs.Private.ScanMachine.{host_in, scan_step, string_state, line_begun, IsScanSound, StringsFit}
 use Rattle.py_lines.specs.Private.LineScan.{IsUnderWay, stack_if, line_start}
 use Rattle.py_lines.specs.Private.LineState.{first_mode}
@@ -41,7 +40,7 @@ use Rattle.py_lines.proofs.ScanMachine.Soundness.{StandsSound, comes_along}
 use Rattle.py_lines.proofs.Text.Splits.{Either, either}
 use Rattle.py_lines.proofs.Pieces.PieceLists.{piece, spelled-append}
 use Rattle.py_lines.proofs.Machine.EarlierPieces.{after_pieces, shift, shift_if, stack-after}
-use Rattle.py_lines.proofs.LineScan.LineSteps.{way_field, way_here, way_placed, way_refused, way_tied}
+use Rattle.py_lines.proofs.LineScan.LineSteps.{way_field, way_here, way_tied}
 use Rattle.py_lines.proofs.LineScan.TextSteps.{begun_sound, Base, IsBetweenLines, StandsAfter, way_goes, Joined, joined, refused_at}
 
 -- pieces before the others of the outermost list
@@ -257,9 +256,9 @@ pub record Within (read : List ℕ) (offset : ℕ) : Type 0 where
   pub size : offset ≡ byte_len prefix
 
 -- a line under way, after pieces that end a line
-module _ (n : ℕ) (base : List Piece) (level : brackets_of base ≡ Some []) (strings : StringsFit 0 base) (is : Base n base) (scan : Scan) where
+module _ (n : ℕ) (base : List Piece) (level : brackets_of base ≡ Some []) (strings : StringsFit 0 base) (is : Base n base) where
   -- the next character is refused
-  module _ (read : List ℕ) (way : IsUnderWay (first_mode n) scan read) (c : ℕ) (after : List ℕ) (fit : AreReadBefore base (read ++ c ∷ after)) (refuses : stack_if (scan_step way.state c) ≡ None) (line_fault : LineFault) (is_line_fault : RefusesField scan c line_fault) where
+  module _ (read : List ℕ) (way : IsUnderWay (first_mode n) read) (c : ℕ) (after : List ℕ) (fit : AreReadBefore base (read ++ c ∷ after)) (refuses : stack_if (scan_step way.state c) ≡ None) (line_fault : LineFault) (is_line_fault : IsFieldFault way.field c line_fault) where
     j : Joined base read way.state way.brackets (c ∷ after)
     j = joined n base (c ∷ after) level strings read way.state way.brackets fit is (way_goes way)
 
@@ -295,15 +294,14 @@ module _ (n : ℕ) (base : List Piece) (level : brackets_of base ≡ Some []) (s
     refused_fault =
         let text = (spelled base ++ read) ++ c ∷ after in
         let cause = cause_in (frames way.field) way.field.mode c in
-        let own = is_line_fault (way_placed way (begun_sound n)) way.field way.follows (way_refused way (begun_sound n) c refuses) in
         let same = alike read refl j.stands in
-        subst (λ (kind : FaultKind). IsCharacterFault kind text (byte_len (spelled base) + line_fault.place)) (sym own.0)
-        (subst (IsCharacterFault (kind_of_cause cause) text) (same.place ∙ ap (λ m. byte_len (spelled base) + m) (sym own.1))
+        subst (λ (kind : FaultKind). IsCharacterFault kind text (byte_len (spelled base) + line_fault.place)) (sym is_line_fault.0)
+        (subst (IsCharacterFault (kind_of_cause cause) text) (same.place ∙ ap (λ m. byte_len (spelled base) + m) (sym is_line_fault.1))
         (subst (λ x. IsCharacterFault (kind_of_cause x) text (cause_place along.state x)) same.cause
         (cause_fits along.state (spelled base ++ read) c after along.steps along.room stuck)))
 
   -- the text ends there, where something is open
-  pub unfinished_fault : (read : List ℕ) (way : IsUnderWay (first_mode n) scan read) → AreReadBefore base (read ++ []) → 0 < byte_len read → (line_fault : LineFault) → EndsField scan (Some line_fault) → IsEndFault line_fault.kind (spelled base ++ read) [] (byte_len (spelled base) + line_fault.place)
+  pub unfinished_fault : (read : List ℕ) (way : IsUnderWay (first_mode n) read) → AreReadBefore base (read ++ []) → 0 < byte_len read → (line_fault : LineFault) → IsFieldEnd way.field (Some line_fault) → IsEndFault line_fault.kind (spelled base ++ read) [] (byte_len (spelled base) + line_fault.place)
   unfinished_fault [] way fit some line_fault is_line_fault = absurd (omega (arith, some))
   unfinished_fault (d ∷ ds) way fit some line_fault is_line_fault =
       let read = d ∷ ds in
@@ -311,7 +309,7 @@ module _ (n : ℕ) (base : List Piece) (level : brackets_of base ≡ Some []) (s
       let j = joined n base [] level strings read way.state way.brackets fit is (way_goes way) in
       let along = comes_along (spelled base ++ read) j.state j.st j.steps in
       let same = state_is base j.state way.state j.st way.brackets along.state u j.stands.0 j.stands.1 along.tied (way_tied way (begun_sound n)) in
-      let (what, open_yet, kind, place) = is_line_fault (way_placed way (begun_sound n)) u way.follows in
+      let (what, open_yet, kind, place) = is_line_fault in
       let found = unfinished_fits (spelled base ++ read) along.state along.steps along.room what (ap unfinished_at (sym same) ∙ open_same base u.outer u.openers u.mode ∙ open_yet) in
       let at = there_after base read u (way_field way (begun_sound n)) (omega (arith, way_here way (begun_sound n), some)) level what line_fault.place place found.0 (subst (λ t. StandsThere t what found.0) (sym same) found.2) in
       subst (λ (x : FaultKind). IsEndFault x (spelled base ++ read) [] (byte_len (spelled base) + line_fault.place)) (sym kind) (subst (IsEndFault (kind_of_unfinished what) (spelled base ++ read) []) at found.1)
@@ -361,10 +359,10 @@ may_end_so m done st depth held u is own none =
     (ends.2, no_openers st ends.1)
 
 -- a text that may end there
-pub finished : {m : Mode} {scan : Scan} {read : List ℕ} (way : IsUnderWay m scan read) → IsScanSound (line_start m) [] → EndsField scan None → (is_final way.state.mode ≡ true) × (way.brackets ≡ [])
+pub finished : {m : Mode} {read : List ℕ} (way : IsUnderWay m read) → IsScanSound (line_start m) [] → unfinished_at way.field ≡ None → (is_final way.state.mode ≡ true) × (way.brackets ≡ [])
 finished way start is =
     let tied = way_tied way start in
-    may_end_so way.state.mode way.state.done way.brackets (depth_through 0 way.state.done) way.state.held way.field tied.flat_is tied.own (is (way_placed way start) way.field way.follows)
+    may_end_so way.state.mode way.state.done way.brackets (depth_through 0 way.state.done) way.state.held way.field tied.flat_is tied.own is
 
 -- a fault at a character stands before it
 before_character : (read : List ℕ) (c : ℕ) (kind : FaultKind) (offset : ℕ) → IsCharacterFault kind (read ++ c ∷ []) offset → PrefixTo read offset
@@ -404,14 +402,14 @@ lines_before (suc n) =
     record { base = end ∷ []; level = refl; strings = ((λ h. cc), tt); is = Base.lined [] end refl refl (λ rest. tt) refl; fit = λ rest. (feed refl, refl, refl, tt) }
 
 -- the fault of a character that is refused stands in the line, and so does that of the text's end
-pub refused_within : (n : ℕ) (scan : Scan) (read : List ℕ) (way : IsUnderWay (first_mode n) scan read) (c : ℕ) → stack_if (scan_step way.state c) ≡ None → (line_fault : LineFault) → RefusesField scan c line_fault → Within read line_fault.place
-refused_within n scan read way c refuses line_fault is_line_fault =
+pub refused_within : (n : ℕ) (read : List ℕ) (way : IsUnderWay (first_mode n) read) (c : ℕ) → stack_if (scan_step way.state c) ≡ None → (line_fault : LineFault) → IsFieldFault way.field c line_fault → Within read line_fault.place
+refused_within n read way c refuses line_fault is_line_fault =
     let b = lines_before n in
     within_line (spelled b.base) read line_fault.place
-    (before_character (spelled b.base ++ read) c line_fault.kind (byte_len (spelled b.base) + line_fault.place) (refused_fault n b.base b.level b.strings b.is scan read way c [] (b.fit (read ++ c ∷ [])) refuses line_fault is_line_fault))
+    (before_character (spelled b.base ++ read) c line_fault.kind (byte_len (spelled b.base) + line_fault.place) (refused_fault n b.base b.level b.strings b.is read way c [] (b.fit (read ++ c ∷ [])) refuses line_fault is_line_fault))
 
-pub unfinished_within : (n : ℕ) (scan : Scan) (read : List ℕ) (way : IsUnderWay (first_mode n) scan read) → 0 < byte_len read → (line_fault : LineFault) → EndsField scan (Some line_fault) → Within read line_fault.place
-unfinished_within n scan read way some line_fault is_line_fault =
+pub unfinished_within : (n : ℕ) (read : List ℕ) (way : IsUnderWay (first_mode n) read) → 0 < byte_len read → (line_fault : LineFault) → IsFieldEnd way.field (Some line_fault) → Within read line_fault.place
+unfinished_within n read way some line_fault is_line_fault =
     let b = lines_before n in
     within_line (spelled b.base) read line_fault.place
-    (field_fault_prefix line_fault.kind (spelled b.base ++ read) [] (byte_len (spelled b.base) + line_fault.place) (at_end (unfinished_fault n b.base b.level b.strings b.is scan read way (b.fit (read ++ [])) some line_fault is_line_fault)))
+    (field_fault_prefix line_fault.kind (spelled b.base ++ read) [] (byte_len (spelled b.base) + line_fault.place) (at_end (unfinished_fault n b.base b.level b.strings b.is read way (b.fit (read ++ [])) some line_fault is_line_fault)))

@@ -12,7 +12,8 @@ use Rattle.py_lines.specs.declared.host.StringWithFields.{StringWithFields}
 use Rattle.py_lines.specs.Private.Machine.{Spelling, Mode, Move, Start, Scanned, fresh, class_of, closed, started, moved, move_of, start_of, Holds, spelling_with, Bracket, brackets_after, brackets_of}
 use Rattle.py_lines.specs.Private.FieldMachine.{between, after_slash, after_brace, FieldMode, plain, opened, empty, body, FieldMove, grows, closes, breaks, refused, FieldScanned, field_state, field_fresh, field_text_start, begins_host, host_of, long_host, plain_move, field_move, field_moved, field_step, field_started, field_pieces, openers_with, after_operator, frames, has_room, has_room_at, between_move, body_move, roomy}
 use Rattle.py_lines.specs.Private.ScanMachine.{is_field_spelling, is_raw_spelling, begins_string, host_in, quote_move, opened_move, meet_of, string_state, have_room_in, move_at, scan_step, IsInString}
-use Rattle.py_lines.specs.Private.Scan.{code_mode, code_moved, bracket_openers}
+use Rattle.py_lines.specs.Private.Scan.{bracket_openers}
+use Rattle.py_lines.specs.Private.ScanMachine.{code_mode, code_moved}
 use Rattle.py_lines.proofs.Pieces.PieceLists.{piece}
 use Rattle.py_lines.proofs.Pieces.OpenBrackets.{stack_push}
 use Rattle.py_lines.proofs.Machine.PieceSteps.{scanned, pieces_at, is_word_mode}

@@ -31,7 +31,7 @@ use Rattle.py_lines.proofs.FieldSoundness.LiveTexts.{live_goes, goes_live, steps
 use Rattle.py_lines.proofs.ScanMachine.Advance.{kept, kept_if, GoesTo, RunsTo}
 
 -- the scanning machine, where the machine with fields goes on from a state that belongs to its own
-pub record GoesAlong (from : Scanned) (cs : List ℕ) (t : FieldScanned) : Type 0 where
+record GoesAlong (from : Scanned) (cs : List ℕ) (t : FieldScanned) : Type 0 where
   pub state : Scanned
   pub brackets : List Bracket
   pub goes : GoesTo from cs state brackets
@@ -46,7 +46,7 @@ scan_takes (Some n) f alike = by (brackets_of n.done) alike
     by None tie = absurd tie
     by (Some st) (first, tied) = (n, first, refl, tied)
 
-pub goes_along : (cs : List ℕ) (s : Scanned) (st : List Bracket) (t u : FieldScanned) → IsTied t s st → field_steps_from (Some t) cs ≡ Some u → have_room (Some t) cs ≡ true → GoesAlong s cs u
+goes_along : (cs : List ℕ) (s : Scanned) (st : List Bracket) (t u : FieldScanned) → IsTied t s st → field_steps_from (Some t) cs ≡ Some u → have_room (Some t) cs ≡ true → GoesAlong s cs u
 goes_along [] s st t u tied steps room = record { state = s; brackets = st; goes = record { run = refl; stack = tied.stack }; tied = subst (λ (x : FieldScanned). IsTied x s st) (some_is t u steps) tied }
 goes_along (c ∷ cs) s st t u tied steps room =
     let parts = and_parts (has_room t c) (have_room (field_step t c) cs) room in

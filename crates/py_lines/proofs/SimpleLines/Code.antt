@@ -10,17 +10,18 @@ use Rattle.py_lines.specs.Piece.{operator, line_end, Piece, ends}
 use Rattle.py_lines.specs.Balance.{depth_through, is_opening, is_closing}
 use Rattle.py_lines.specs.LogicalLine.{byte_len, is_line_end_class}
 use Rattle.py_lines.specs.declared.mode.Spelling.{Spelling}
-use Rattle.py_lines.specs.declared.mode.Mode.{Mode}
-use Rattle.py_lines.specs.declared.mode.Mode.TheVariants as modes
-use Rattle.py_lines.specs.declared.mode.Move.TheVariants as moves
-use Rattle.py_lines.specs.declared.mode.Start.{Start}
-use Rattle.py_lines.specs.declared.mode.Start.TheVariants as starts
+use Rattle.py_lines.specs.Private.Machine.{Mode}
+use Rattle.py_lines.specs.Private.Mode as modes
+use Rattle.py_lines.specs.Private.Machine.{Move as moves}
+use Rattle.py_lines.specs.Private.Machine.{Start}
+use Rattle.py_lines.specs.Private.Machine.{Start as starts}
 use Rattle.py_lines.specs.Private.Machine.{Scanned, fresh, moved, started, start_of, first_spelling, spelling_with, Bracket, brackets_after, brackets_of, move_of}
 use Rattle.py_lines.specs.Private.ScanMachine.{meet_of, move_at, move_in, scan_step, scan_steps}
 use Rattle.py_lines.specs.Private.LineScan.{EndsNoLine, EndsWhole, line_start, none_open}
 use Rattle.py_lines.specs.Private.Run.{is_ascii_word}
+use Rattle.py_lines.specs.Private.Scan.{IsFirstByte}
 use Rattle.py_lines.specs.Private.FieldText.{is_apart_mode, is_code_mode}
-use Rattle.py_lines.specs.Private.Outline.{IsEndedBy, BeginOther, BeforePiece, HasCome, GoesOnAfter, IsFreeAfter, EndsBefore, StandsBefore, StandsClosed, IsInPieceAfter, IsLine, IsOuterEnd, IsTail, line_end_of, tail_of, tail_on, tail_with}
+use Rattle.py_lines.specs.Private.Outline.{IsEndedBy, BeginOther, BeforePiece, HasCome, GoesOnAfter, IsFreeAfter, EndsBefore, StandsBefore, StandsFree, IsInPieceAfter, IsLine, IsOuterEnd, IsTail, line_end_of, tail_of, tail_on, tail_with}
 use Rattle.py_lines.proofs.Pieces.PieceLists.{piece}
 use Rattle.py_lines.proofs.Machine.Starts.{start-word, start-space, start-operator, start-feed, start-return}
 use Rattle.py_lines.proofs.Machine.PieceSteps.{scanned, pieces_at, steps_by-append}
@@ -32,10 +33,11 @@ use Rattle.py_lines.proofs.LineScan.NextCharacter.{closed_one_line, depth_none, 
 use Rattle.py_lines.proofs.LineScan.PieceEnd.{closed_text}
 use Rattle.py_lines.proofs.LineScan.AsciiRuns.{ascii_scalar, break_low, space_low, space-no_word, space-not-quote, word_byte_continues, word_byte_low, word_starts}
 use Rattle.py_lines.proofs.LineScan.TextSteps.{begun_sound}
-use Rattle.py_lines.proofs.SimpleLines.Tails.{apart_tail, come_sound, free_closed, free_goes_on, no_tail, no_tail_with, stands, tail_on-append, tail_push}
+use Rattle.py_lines.proofs.SimpleLines.Tails.{apart_tail, come_sound, free_goes_on, free_there, no_tail, no_tail_with, stands, tail_on-append, tail_push}
 use Rattle.py_lines.proofs.Lexings.LineEnds.{feed_unreturned, return_returns}
 use Rattle.py_lines.proofs.LineTokens.Spellings.{high_bytes}
-use Rattle.py_lines.proofs.Text.CharacterTests.{Each, excluded, feed_is, none_of, operator_ascii}
+use Rattle.py_lines.proofs.Text.CharacterTests.{Each, excluded, none_of, operator_ascii}
+use Rattle.py_lines.proofs.Text.FirstBytes.{first_low, first_other, first_self}
 use Rattle.py_lines.proofs.Text.Utf8Prefixes.{all_scalars-append, scalars_more}
 use Rattle.py_lines.proofs.Text.Utf8Shapes.{one}
 
@@ -131,14 +133,16 @@ module _ (initial : Mode) (read : List ℕ) (st : List Bracket) (c : ℕ) (on : 
   pub closed_line : EndsNoLine 0 pieces
   closed_line = closed_one_line on.state.mode on.state.done on.state.held st on.come.stacked on.come.one_line on.inside
 
-  pub begins_as : (cs : List ℕ) (start : Start) → start_of c ≡ start → scan_steps (Some (line_start initial)) (read ++ c ∷ cs) ≡ scan_steps (started pieces c start) cs
-  begins_as cs start is = steps_by-append move_at (Some (line_start initial)) read (c ∷ cs) ∙ ap (λ o. scan_steps o (c ∷ cs)) on.come.steps ∙ scan_begun on.state c cs [] start on.breaks is
+  pub begins_as : (cs : List ℕ) (start : Start) → start_of c ≡ start → c < 128 → scan_steps (Some (line_start initial)) (read ++ c ∷ cs) ≡ scan_steps (started pieces c start) cs
+  begins_as cs start is low =
+      steps_by-append move_at (Some (line_start initial)) read (c ∷ cs) ∙ ap (λ o. scan_steps o (c ∷ cs)) on.come.steps
+      ∙ scan_begun on.state c cs [] start (on.breaks c (first_self c low)) is
 
   -- it stays open
   pub opens : (m : Mode) → start_of c ≡ starts.Open m → c < 128 → HasCome initial (read ++ c ∷ []) st (scanned pieces m (c ∷ []))
   opens m is low = record {
     start = on.come.start;
-    steps = begins_as [] (starts.Open m) is;
+    steps = begins_as [] (starts.Open m) is low;
     stacked = closed_stack;
     one_line = closed_line;
     scalars = scalars_more read c on.come.scalars (ascii_scalar c low);
@@ -165,7 +169,7 @@ module _ (initial : Mode) (read : List ℕ) (st : List Bracket) (c : ℕ) (on : 
       let p = piece operator (c ∷ []) in
       let sound = come_sound initial read st on.state on.come in
       let place = ap byte_len (closed_text on.state.mode on.state.done on.state.held sound.holds ∙ sound.spell) in
-      closes_with (c ∷ []) p (begins_as [] starts.Operator (start-operator c is))
+      closes_with (c ∷ []) p (begins_as [] starts.Operator (start-operator c is) (operator_ascii c is))
       (stack_push pieces p st closed_stack ∙ ap (λ (k : ℕ). brackets_after st k p) place ∙ may)
       refl (and_from _ _ (ascii_scalar c (operator_ascii c is)) refl)
 
@@ -178,8 +182,8 @@ return_opens initial read st on = opens initial read st 13 on modes.Return (star
 pub line_end_steps : (returned : Bool) (initial : Mode) (read : List ℕ) (st : List Bracket) (on : EndsBefore (line_end_first returned) initial read st)
     → scan_steps (Some (line_start initial)) (read ++ line_end_of returned) ≡ Some (fresh (pieces initial read st (line_end_first returned) on ++ piece line_end (line_end_of returned) ∷ []))
 unfolding meet_of move_of is_line_feed
-line_end_steps false initial read st on = begins_as initial read st 10 on [] starts.LineEnd (start-feed 10 refl)
-line_end_steps true initial read st on = begins_as initial read st 13 on (10 ∷ []) (starts.Open modes.Return) (start-return 13 return_returns)
+line_end_steps false initial read st on = begins_as initial read st 10 on [] starts.LineEnd (start-feed 10 refl) (lit< tt)
+line_end_steps true initial read st on = begins_as initial read st 13 on (10 ∷ []) (starts.Open modes.Return) (start-return 13 return_returns) (lit< tt)
 
 pub no_tail_line_end : (returned : Bool) (read : List ℕ) → tail_of (read ++ line_end_of returned) ≡ None
 unfolding is_ascii_word
@@ -225,9 +229,9 @@ ended text after m read c on state steps ends whole scalars tail =
     )
 
 -- CR alone, before another byte: the machine holds it yet
-pub return_waits : (c : ℕ) → (c ≡ 10 → ⊥) → (meet_of modes.Return c ≡ moves.Breaks) × (meet_of modes.JoinReturn c ≡ moves.Breaks)
-unfolding meet_of move_of
-return_waits c other = rw (false_from_ne_true (is_line_feed c) (λ feeds. other (feed_is c feeds))) (refl, refl)
+pub return_waits : (b c : ℕ) → (b ≡ 10 → ⊥) → IsFirstByte b c → (meet_of modes.Return c ≡ moves.Breaks) × (meet_of modes.JoinReturn c ≡ moves.Breaks)
+unfolding meet_of move_of is_line_feed
+return_waits b c other first = rw (first_other b c 10 first (lit< tt) other) (refl, refl)
 
 pub no_tail_return : (read : List ℕ) → tail_of (read ++ 13 ∷ []) ≡ None
 unfolding is_ascii_word
@@ -238,23 +242,26 @@ other_follows [] other = absurd other
 other_follows (b ∷ more) other = (b, more, refl, other)
 
 return_inside : (after : List ℕ) (initial : Mode) (read : List ℕ) (st : List Bracket) → BeginOther after → none_open st ≡ false
-    → EndsBefore 13 initial read st → StandsBefore after initial (read ++ 13 ∷ []) st
+    → EndsBefore 13 initial read st → StandsFree after initial (read ++ 13 ∷ []) st
 return_inside [] initial read st other some on = absurd other
 return_inside (c ∷ cs) initial read st other some on = inr (record {
-  state = scanned (pieces initial read st 13 on) modes.Return (13 ∷ []);
-  come = return_opens initial read st on;
-  breaks = (return_waits c other).0;
-  inside = λ is. some;
-  tail = λ begins. no_tail_return read;
+  ends = record {
+    state = scanned (pieces initial read st 13 on) modes.Return (13 ∷ []);
+    come = return_opens initial read st on;
+    breaks = λ d first. (return_waits c d other first).0;
+    inside = λ is. some;
+    tail = λ begins. no_tail_return read;
+  };
+  may = refl;
 })
 
--- the line goes on up to a character before which the piece ends that is open
-ends_at : (initial : Mode) (read : List ℕ) (st : List Bracket) (c : ℕ) (on : GoesOnAfter initial read st) → meet_of on.state.mode c ≡ moves.Breaks
+-- the line goes on up to a character of ASCII before which the piece ends that is open
+ends_at : (initial : Mode) (read : List ℕ) (st : List Bracket) (c : ℕ) (on : GoesOnAfter initial read st) → c < 128 → meet_of on.state.mode c ≡ moves.Breaks
     → (is_ascii_word c || is_quote c ≡ true → tail_of read ≡ None) → EndsBefore c initial read st
-ends_at initial read st c on breaks tail = record {
+ends_at initial read st c on low breaks tail = record {
   state = on.state;
   come = on.come;
-  breaks = breaks;
+  breaks = λ d first. ap (meet_of on.state.mode) (first_low c d low first) ∙ breaks;
   inside = λ returns. absurd (both_ways _ (ap is_code_mode returns) (tail_code (tail_of read) on.state.mode on.tail));
   tail = tail;
 }
@@ -263,7 +270,7 @@ ends_at initial read st c on breaks tail = record {
 pub code_ends : (rest : List ℕ) (initial : Mode) (read : List ℕ) (st : List Bracket) (c : ℕ) → c < 128 → stands_in_code c ≡ false → StandsBefore (c ∷ rest) initial read st → EndsBefore c initial read st
 code_ends rest initial read st c low apart (inr on) = on
 code_ends rest initial read st c low apart (inl on) =
-    ends_at initial read st c on (code_breaks on.state.mode c (tail_code (tail_of read) on.state.mode on.tail) low apart)
+    ends_at initial read st c on low (code_breaks on.state.mode c (tail_code (tail_of read) on.state.mode on.tail) low apart)
     (λ begins. absurd (both_ways _ (or_parts (is_ascii_word c || is_quote c) (is_space c) apart).0 begins))
 
 first-break : (returned : Bool) → is_break (line_end_first returned) ≡ true
@@ -284,12 +291,12 @@ InWord s initial read st = (done : List Piece) × IsInPieceAfter (modes.Word s) 
 abbrev pub WordOrEnds : ℕ → Mode → List ℕ → List Bracket → Type 0
 WordOrEnds c initial read st = ((s : Spelling) × (tail_of read ≡ Some s) × InWord s initial read st) ⊎ ((tail_of read ≡ None) × EndsBefore c initial read st)
 
-pub word_or_ends : (rest : List ℕ) (initial : Mode) (read : List ℕ) (st : List Bracket) (c : ℕ) → is_ascii_word c || is_quote c ≡ true → is_space c ≡ false → StandsBefore (c ∷ rest) initial read st → WordOrEnds c initial read st
-word_or_ends rest initial read st c begins space (inr on) = inr (on.tail begins, on)
-word_or_ends rest initial read st c begins space (inl on) = by (tail_of read) refl on.tail
+pub word_or_ends : (rest : List ℕ) (initial : Mode) (read : List ℕ) (st : List Bracket) (c : ℕ) → c < 128 → is_ascii_word c || is_quote c ≡ true → is_space c ≡ false → StandsBefore (c ∷ rest) initial read st → WordOrEnds c initial read st
+word_or_ends rest initial read st c low begins space (inr on) = inr (on.tail begins, on)
+word_or_ends rest initial read st c low begins space (inl on) = by (tail_of read) refl on.tail
   where
     by : (t : Option Spelling) → tail_of read ≡ t → IsTail t on.state.mode → WordOrEnds c initial read st
-    by None none apart = inr (none, ends_at initial read st c on (apart_breaks on.state.mode c apart space) (λ _. none))
+    by None none apart = inr (none, ends_at initial read st c on low (apart_breaks on.state.mode c apart space) (λ _. none))
     by (Some s) some is =
         let before : BeforePiece = record { mode = initial; done = on.state.done } in
         inl (s, some, (before.done, subst (λ (m : Mode). IsInPieceAfter m before read st) is (record { held = on.state.held; come = on.come })))
@@ -312,7 +319,7 @@ word_next rest initial read st c is on = ⊎_elim
     (λ ends.
     goes_after initial read st c (scanned (pieces initial read st c ends.1) (modes.Word (first_spelling c)) (c ∷ []))
     (opens initial read st c ends.1 (modes.Word (first_spelling c)) (start-word c (word_starts c is)) (word_byte_low c is)) (rw (ends.0, is) refl))
-    (word_or_ends rest initial read st c (rw is refl) (excluded is_ascii_word is_space c (space-no_word c) is) on)
+    (word_or_ends rest initial read st c (word_byte_low c is) (rw is refl) (excluded is_ascii_word is_space c (space-no_word c) is) on)
 
 -- a space
 space-not-word : (c : ℕ) → is_space c ≡ true → is_word_character c ≡ false
@@ -337,7 +344,7 @@ space_next : (rest : List ℕ) (initial : Mode) (read : List ℕ) (st : List Bra
 space_next rest initial read st c is (inr on) = space_opens initial read st c is on
 space_next rest initial read st c is (inl on) = ⊎_elim
     (λ grows. space_after initial read st c is on.state.done (on.state.held ++ c ∷ []) (grown modes.Space c on.come grows (ascii_scalar c (space_low c is))))
-    (λ breaks. space_opens initial read st c is (ends_at initial read st c on breaks (λ begins. absurd (both_ways _ (rw (space-no_word c is, space-not-quote c is) refl) begins))))
+    (λ breaks. space_opens initial read st c is (ends_at initial read st c on (space_low c is) breaks (λ begins. absurd (both_ways _ (rw (space-no_word c is, space-not-quote c is) refl) begins))))
     (space_or_ends on.state.mode c (tail_code (tail_of read) on.state.mode on.tail) is)
 
 -- a byte of words, a space, or an operator that is no bracket
@@ -378,15 +385,13 @@ outer_end_whole text after m read (inr (is, other)) on = rw is (
     let come = return_opens m read [] before in
     ended (13 ∷ []) after m read 13 before _ come.steps (inr (refl, refl)) (inr (other_follows after other)) refl (no_tail_return read))
 
--- in brackets the line goes on, after CR alone with a piece open
-pub outer_end_inside : (text after : List ℕ) (initial : Mode) (read : List ℕ) (st : List Bracket) (closes : Bool)
-    → IsOuterEnd text after → none_open st ≡ false → (closes ≡ true → text ≡ 13 ∷ [] → ⊥) → StandsBefore (text ++ after) initial read st
-    → StandsClosed closes after initial (read ++ text) st
-outer_end_inside text after initial read st closes (inl (returned, is)) some fed on =
-    rw is (free_closed closes after initial (read ++ line_end_of returned) st
+-- in brackets the line goes on
+pub outer_end_inside : (text after : List ℕ) (initial : Mode) (read : List ℕ) (st : List Bracket)
+    → IsOuterEnd text after → none_open st ≡ false → StandsBefore (text ++ after) initial read st → StandsFree after initial (read ++ text) st
+outer_end_inside text after initial read st (inl (returned, is)) some on =
+    rw is (free_there after initial (read ++ line_end_of returned) st
     (line_end_inside returned initial read st (line_end_next returned after initial read st (rw is at on)) some))
-outer_end_inside text after initial read st true (inr (is, other)) some fed on = absurd (fed refl is)
-outer_end_inside text after initial read st false (inr (is, other)) some fed on =
+outer_end_inside text after initial read st (inr (is, other)) some on =
     rw is (return_inside after initial read st other some (break_next after initial read st 13 (first-break true) (rw is at on)))
 
 -- bytes of code are ASCII

@@ -1,6 +1,5 @@
 -- Strings with fields are passed over, where they are short and their text is simple.
 use Rattle.std.proofs.Common.{◌≡◌, ℕ, ◌+◌, ◌<◌, ◌≤◌, true, false, None, Some, List, [], ◌∷◌, ◌++◌, length, take, drop, slice_index, refl, sym, ap, ◌∙◌, subst, append_assoc, arith, length-append, ⊎_elim}
-use Rattle.std.specs.Prelude.{nat_lt}
 use Rattle.std.specs.List.{list_all}
 use Rattle.std.proofs.lemmas.List.{drop_more}
 use Rattle.std.proofs.Math.Seq.{take-append_seam}
@@ -9,8 +8,8 @@ use Rattle.py_lines.specs.Character.{is_quote}
 use Rattle.py_lines.specs.FieldStrings.{is_field_prefix, literal}
 use Rattle.py_lines.specs.Piece.{string, Piece}
 use Rattle.py_lines.specs.declared.host.StringWithFields.{StringWithFields}
-use Rattle.py_lines.specs.declared.mode.Mode.{Mode}
-use Rattle.py_lines.specs.declared.mode.Mode.TheVariants as modes
+use Rattle.py_lines.specs.Private.Machine.{Mode}
+use Rattle.py_lines.specs.Private.Mode as modes
 use Rattle.py_lines.specs.declared.mode.Spelling.{Spelling}
 use Rattle.py_lines.specs.Private.Machine.{Bracket, IsFull, Scanned, first_spelling, spelling_on}
 use Rattle.py_lines.specs.Private.FieldText.{InText, IsQuotedText, Leads}
@@ -91,10 +90,10 @@ fields_passed bytes len s field is =
 
 -- at a byte of a line
 pub fields_at : (bytes : List ℕ) (at len : ℕ) (s : Spelling) → at < length bytes → is_quote (slice_index bytes at) ≡ true → tail_of (take at bytes) ≡ Some s → is_field_spelling s ≡ true
-    → IsQuotedText (rest_of bytes at) len → PassesAt bytes at len (nat_lt 2 len)
+    → IsQuotedText (rest_of bytes at) len → PassesAt bytes at len
 fields_at bytes at len s within quote tail field has =
     string_at bytes at len within (fields_passed (drop at bytes) len s field (subst (λ (t : List ℕ). IsQuotedText t len) (rest_is bytes at) has))
     (λ m read st on.
     let before = subst (λ (t : List ℕ). StandsBefore t m read st) (drop_more bytes at 0 within) on.2 in
-    let (done, in_word) = word_open (drop (at + 1) bytes) m read st (slice_index bytes at) s (on.0 ∙ tail) quote before in
+    let (done, in_word) = word_open (drop (at + 1) bytes) m read st (slice_index bytes at) s (on.0 quote ∙ tail) quote before in
     (done, (on.1, in_word)))

@@ -1,8 +1,11 @@
 -- The bytes that a slice begins with: one, two or three of them, or a line end.
-use Rattle.std.proofs.Common.{◌≡◌, ℕ, ◌+◌, ◌<◌, inl, inr, Bool, true, false, Some, List, [], ◌∷◌, length, take, drop, slice_index, refl, ap, ◌∙◌, arith, add-zero, suc, sym, subst, get_or-drop}
+use Rattle.std.proofs.Common.{◌≡◌, ℕ, ◌+◌, ◌<◌, ◌⊎◌, inl, inr, Bool, true, false, None, Some, List, [], ◌∷◌, length, take, drop, slice_index, refl, ap, ◌∙◌, arith, add-zero, suc, sym, subst, get_or-drop}
+use Rattle.std.specs.Prelude.{codes}
 use Rattle.std.specs.List.{list_all}
+use Rattle.py_lines.specs.Character.{is_break}
 use Rattle.py_lines.specs.Private.Outline.{HasOuterEnd, IsOuterEnd, line_end_of, PassesFirst}
 use Rattle.py_lines.proofs.LineScan.AsciiRuns.{is_low}
+use Rattle.py_lines.proofs.Text.CharacterTests.{each_of}
 
 pub first_later : (bytes : List ℕ) (at : ℕ) → slice_index (drop at bytes) 0 ≡ slice_index bytes at
 first_later bytes at = get_or-drop at bytes 0 0 ∙ ap (slice_index bytes) (add-zero at)
@@ -33,8 +36,23 @@ feed_found bytes within is = record {
 }
 
 -- a piece that begins with this byte
-pub passed_from : (bytes : List ℕ) (c len : ℕ) (closes : Bool) → 0 < length bytes → slice_index bytes 0 ≡ c → PassesFirst (c ∷ drop 1 bytes) (suc len) closes → PassesFirst bytes (1 + len) closes
-passed_from [] c len closes some is passes = absurd (omega (arith, some))
-passed_from (b ∷ cs) c len closes some is passes =
+pub passed_from : (bytes : List ℕ) (c len : ℕ) → 0 < length bytes → slice_index bytes 0 ≡ c → PassesFirst (c ∷ drop 1 bytes) (suc len) → PassesFirst bytes (1 + len)
+passed_from [] c len some is passes = absurd (omega (arith, some))
+passed_from (b ∷ cs) c len some is passes =
     let size : suc len ≡ 1 + len = omega arith in
-    subst (λ (k : ℕ). PassesFirst (b ∷ cs) k closes) size (subst (λ (d : ℕ). PassesFirst (d ∷ cs) (suc len) closes) (sym is) passes)
+    subst (λ (k : ℕ). PassesFirst (b ∷ cs) k) size (subst (λ (d : ℕ). PassesFirst (d ∷ cs) (suc len)) (sym is) passes)
+
+-- bytes that begin with CR or LF, and with no line end that is known, are CR alone
+return_alone : (bytes : List ℕ) → 0 < length bytes → length bytes < 2 → slice_index bytes 0 ≡ 13 → bytes ≡ 13 ∷ []
+return_alone [] some few is = absurd (omega (arith, some))
+return_alone (b ∷ []) some few is = ap (λ (c : ℕ). c ∷ []) is
+return_alone (b ∷ c ∷ bs) some few is = absurd (omega (arith, few))
+
+break_is : (c : ℕ) → is_break c ≡ true → (c ≡ 10 → ⊥) → c ≡ 13
+unfolding is_break
+break_is c breaks = each_of (λ (d : ℕ). (d ≡ 10 → ⊥) → d ≡ 13) (codes "\n\r") c (λ other. absurd (other refl), (λ other. refl, tt)) breaks
+
+pub no_outer_end : (bytes : List ℕ) → 0 < length bytes → (slice_index bytes 0 ≡ 10 → ⊥) → (length bytes < 2) ⊎ (slice_index bytes 0 ≡ 13 → ⊥) → HasOuterEnd bytes None
+no_outer_end [] some other ends breaks = absurd (omega (arith, some))
+no_outer_end (b ∷ bs) some other (inl few) breaks = return_alone (b ∷ bs) some few (break_is b breaks other)
+no_outer_end (b ∷ bs) some other (inr none) breaks = absurd (none (break_is b breaks other))

@@ -1,27 +1,25 @@
 -- A join of two lines is passed over: the machine goes through the backslash and the line end.
-use Rattle.std.proofs.Common.{◌≡◌, ℕ, ◌+◌, ◌-◌, ◌<◌, inl, inr, Bool, true, false, Some, List, [], ◌∷◌, ◌++◌, length, take, drop, slice_index, ◌==◌, ◌∙◌, ap, sym, refl, subst, append_assoc, arith, lit<}
-use Rattle.std.proofs.lemmas.Bool.{both_ways}
-use Rattle.std.proofs.lemmas.List.{get_or-take, length-take-le}
+use Rattle.std.proofs.Common.{◌≡◌, ℕ, ◌+◌, ◌-◌, ◌<◌, inl, inr, Bool, true, false, Some, List, [], ◌∷◌, ◌++◌, length, take, drop, slice_index, refl, subst, append_assoc, arith, lit<}
 use Rattle.py_lines.specs.Character.{is_backslash, is_line_feed, is_quote, is_return, is_space}
 use Rattle.py_lines.specs.Piece.{Piece, join}
 use Rattle.py_lines.proofs.Pieces.PieceLists.{piece}
-use Rattle.py_lines.specs.declared.mode.Mode.{Mode}
-use Rattle.py_lines.specs.declared.mode.Mode.TheVariants as modes
-use Rattle.py_lines.specs.declared.mode.Start.TheVariants as starts
+use Rattle.py_lines.specs.Private.Machine.{Mode}
+use Rattle.py_lines.specs.Private.Mode as modes
+use Rattle.py_lines.specs.Private.Machine.{Start as starts}
 use Rattle.py_lines.specs.Private.Machine.{Bracket, fresh, move_of}
 use Rattle.py_lines.specs.Private.ScanMachine.{meet_of, scan_steps}
 use Rattle.py_lines.specs.Private.LineScan.{line_start}
 use Rattle.py_lines.specs.Private.Run.{is_ascii_word}
-use Rattle.py_lines.specs.Private.Outline.{BeginsOuterEnd, EndsBefore, HasCome, HasOuterEnd, IsFreeAfter, IsOuterEnd, PassesFirst, StandsClosed, line_end_of}
+use Rattle.py_lines.specs.Private.Outline.{BeginsOuterEnd, ClosesBefore, EndsBefore, HasCome, HasOuterEnd, IsFreeAfter, IsOuterEnd, PassesFirst, StandsFree, line_end_of}
 use Rattle.py_lines.proofs.Machine.LiveTexts.{keeps}
 use Rattle.py_lines.proofs.Machine.PieceSteps.{scanned}
 use Rattle.py_lines.proofs.Machine.Starts.{start-slash}
 use Rattle.py_lines.proofs.LineScan.AsciiRuns.{ascii_scalar, is_low, low_encodes, low_is}
 use Rattle.py_lines.proofs.SimpleLines.Code.{return_waits, begins_as, closes_with, code_ends, grown, no_tail_return, opens, pieces}
 use Rattle.py_lines.proofs.LineTokens.FirstCharacters.{slash_is}
-use Rattle.py_lines.proofs.SimpleLines.Tails.{free_closed}
+use Rattle.py_lines.proofs.SimpleLines.Tails.{free_there}
 use Rattle.py_lines.proofs.SimpleLines.FirstBytes.{line_end_low, outer_end_low, passed_from}
-use Rattle.py_lines.proofs.FieldScans.TextLengths.{later, rest_is}
+use Rattle.py_lines.proofs.FieldScans.TextLengths.{rest_is}
 
 module _ (initial : Mode) (read : List ℕ) (st : List Bracket) (on : EndsBefore 92 initial read st) where
   abbrev done : List Piece
@@ -37,8 +35,8 @@ module _ (initial : Mode) (read : List ℕ) (st : List Bracket) (on : EndsBefore
 
   join_steps : (returned : Bool) → scan_steps (Some (line_start initial)) (read ++ 92 ∷ line_end_of returned) ≡ Some (fresh (done ++ piece join (92 ∷ line_end_of returned) ∷ []))
   unfolding meet_of move_of is_backslash is_line_feed is_return
-  join_steps false = begins_as initial read st 92 on (10 ∷ []) (starts.Open modes.Backslash) (start-slash 92 refl)
-  join_steps true = begins_as initial read st 92 on (13 ∷ 10 ∷ []) (starts.Open modes.Backslash) (start-slash 92 refl)
+  join_steps false = begins_as initial read st 92 on (10 ∷ []) (starts.Open modes.Backslash) (start-slash 92 refl) (lit< tt)
+  join_steps true = begins_as initial read st 92 on (13 ∷ 10 ∷ []) (starts.Open modes.Backslash) (start-slash 92 refl) (lit< tt)
 
   join_leads : (returned : Bool) → IsFreeAfter initial (read ++ 92 ∷ line_end_of returned) st
   join_leads returned =
@@ -47,33 +45,35 @@ module _ (initial : Mode) (read : List ℕ) (st : List Bracket) (on : EndsBefore
       (low_encodes is_low text low_is (line_end_low returned)).1
 
   -- CR alone, before another byte
-  return_leads : (c : ℕ) → (c ≡ 10 → ⊥) → EndsBefore c initial ((read ++ 92 ∷ []) ++ 13 ∷ []) st
+  return_leads : (c : ℕ) → (c ≡ 10 → ⊥) → ClosesBefore c initial ((read ++ 92 ∷ []) ++ 13 ∷ []) st
   return_leads c other = record {
-    state = scanned done modes.JoinReturn (92 ∷ 13 ∷ []);
-    come = returned;
-    breaks = (return_waits c other).1;
-    inside = λ is. absurd (cc);
-    tail = λ begins. no_tail_return (read ++ 92 ∷ []);
+    may = refl;
+    ends = record {
+      state = scanned done modes.JoinReturn (92 ∷ 13 ∷ []);
+      come = returned;
+      breaks = λ d first. (return_waits c d other first).1;
+      inside = λ is. absurd (cc);
+      tail = λ begins. no_tail_return (read ++ 92 ∷ []);
+    };
   }
 
-  -- after either: no piece is open, unless CR alone ends it
-  joined : (closes : Bool) (text after : List ℕ) → IsOuterEnd text after → (closes ≡ true → text ≡ 13 ∷ [] → ⊥) → StandsClosed closes after initial (read ++ 92 ∷ text) st
-  joined closes text after (inl (returned, is)) fed = rw is (free_closed closes after initial (read ++ 92 ∷ line_end_of returned) st (join_leads returned))
-  joined true text after (inr (is, other)) fed = absurd (fed refl is)
-  joined false text [] (inr (is, other)) fed = absurd other
-  joined false text (c ∷ cs) (inr (is, other)) fed =
-      rw is (inr (subst (λ (t : List ℕ). EndsBefore c initial t st) (append_assoc read (92 ∷ []) (13 ∷ [])) (return_leads c other)))
+  -- after either
+  joined : (text after : List ℕ) → IsOuterEnd text after → StandsFree after initial (read ++ 92 ∷ text) st
+  joined text after (inl (returned, is)) = rw is (free_there after initial (read ++ 92 ∷ line_end_of returned) st (join_leads returned))
+  joined text [] (inr (is, other)) = absurd other
+  joined text (c ∷ cs) (inr (is, other)) =
+      rw is (inr (subst (λ (t : List ℕ). ClosesBefore c initial t st) (append_assoc read (92 ∷ []) (13 ∷ [])) (return_leads c other)))
 
-pub join_passed : (bytes : List ℕ) (len : ℕ) → 0 < length bytes → is_backslash (slice_index bytes 0) ≡ true → HasOuterEnd (take (length bytes - 1) (drop 1 bytes)) (Some len) → PassesFirst bytes (1 + len) (slice_index bytes len == 10)
+pub join_passed : (bytes : List ℕ) (len : ℕ) → 0 < length bytes → is_backslash (slice_index bytes 0) ≡ true → HasOuterEnd (take (length bytes - 1) (drop 1 bytes)) (Some len) → PassesFirst bytes (1 + len)
 unfolding is_ascii_word is_quote is_space
 join_passed bytes len some slash found =
-    passed_from bytes 92 len (slice_index bytes len == 10) some (slash_is (slice_index bytes 0) slash) (record {
+    passed_from bytes 92 len some (slash_is (slice_index bytes 0) slash) (record {
       some = omega arith;
       part = record {
         within = omega (arith, ends.within);
         run = 92 ∷ text;
         spell = (low_encodes is_low (92 ∷ text) low_is (outer_end_low text (drop len cs) ends.is)).0;
-        leads = λ initial read st on. joined initial read st (code_ends cs initial read st 92 (lit< tt) refl on) (slice_index bytes len == 10) text (drop len cs) ends.is fed;
+        leads = λ initial read st on. joined initial read st (code_ends cs initial read st 92 (lit< tt) refl on) text (drop len cs) ends.is;
       };
     })
   where
@@ -85,10 +85,3 @@ join_passed bytes len some slash found =
 
     ends : BeginsOuterEnd cs len
     ends = subst (λ (l : List ℕ). BeginsOuterEnd l len) (rest_is bytes 1) found
-
-    fed : slice_index bytes len == 10 ≡ true → text ≡ 13 ∷ [] → ⊥
-    fed feeds returns =
-        let one : len ≡ 1 = sym (length-take-le len cs ends.within) ∙ ap length returns in
-        let last : slice_index bytes len ≡ 13 =
-        ap (slice_index bytes) one ∙ sym (later bytes 1 0) ∙ sym (get_or-take len cs 0 0 (omega (arith, one))) ∙ ap (λ t. slice_index t 0) returns in
-        both_ways _ (ap (λ (c : ℕ). c == 10) last) feeds

@@ -1,19 +1,19 @@
 -- Simple lines follow one another: from one byte that is not plain to the next, and from line end to line end.
-use Rattle.std.proofs.Common.{◌≡◌, ℕ, ◌+◌, ◌-◌, ◌<◌, ◌≤◌, inl, inr, Bool, true, false, not, ◌&&◌, ◌||◌, Option, None, List, [], ◌∷◌, ◌++◌, length, take, drop, slice_index, refl, sym, ap, ◌∙◌, subst, append_assoc, append-nil, arith, length-drop, ⊎_elim}
+use Rattle.std.proofs.Common.{◌≡◌, ℕ, ◌+◌, ◌-◌, ◌<◌, ◌≤◌, inl, inr, true, false, not, ◌&&◌, ◌||◌, Option, None, List, [], ◌∷◌, ◌++◌, length, take, drop, slice_index, refl, sym, ap, ◌∙◌, subst, append_assoc, append-nil, arith, length-drop, ⊎_elim}
 use Rattle.std.specs.List.{list_all}
 use Rattle.std.specs.Str.{all_scalars}
 use Rattle.std.proofs.lemmas.Bool.{and_parts, or_cases, or_parts, not-true}
-use Rattle.std.proofs.lemmas.List.{append_cancel_left, drop-drop, length-take-le, take-append-drop}
+use Rattle.std.proofs.lemmas.List.{append_cancel_left, drop-drop, drop_more, length-take-le, take-append-drop}
 use Rattle.std.proofs.lemmas.Str.{encodes-append}
 use Rattle.std.proofs.Math.Seq.{take-add}
 use Rattle.std.specs.Prelude.{encode_utf8_all}
 use Rattle.py_lines.specs.Balance.{is_closing, is_opening}
-use Rattle.py_lines.specs.Character.{is_operator, is_space}
+use Rattle.py_lines.specs.Character.{is_operator, is_quote, is_space}
 use Rattle.py_lines.specs.LogicalLine.{byte_len}
 use Rattle.py_lines.specs.declared.frames.Frame.{Frame}
 use Rattle.py_lines.specs.declared.marks.Marks.{Marks}
-use Rattle.py_lines.specs.declared.mode.Mode.{Mode}
-use Rattle.py_lines.specs.declared.mode.Mode.TheVariants as modes
+use Rattle.py_lines.specs.Private.Machine.{Mode}
+use Rattle.py_lines.specs.Private.Mode as modes
 use Rattle.py_lines.specs.declared.mode.Spelling.{Spelling}
 use Rattle.py_lines.specs.declared.passing.Passing.{Passing}
 use Rattle.py_lines.specs.Private.Machine.{Bracket}
@@ -21,8 +21,8 @@ use Rattle.py_lines.specs.Private.Marks.{FindsNext, HasMarks, is_plain}
 use Rattle.py_lines.specs.Private.Run.{is_ascii_word}
 use Rattle.py_lines.specs.Private.Scan.{frames_of}
 use Rattle.py_lines.specs.Private.LineScan.{none_open}
-use Rattle.py_lines.specs.Private.Outline.{AreWholeLines, BeginWithLines, BeginsOuterEnd, IsLine, IsWholeLine, StandsBefore, StandsClosed, tail_of, tail_on}
-use Rattle.py_lines.specs.Private.Passing.{EndsLineSo, PassesOver, PassesSo, nothing_passed}
+use Rattle.py_lines.specs.Private.Outline.{AreWholeLines, BeginWithLines, BeginsOuterEnd, IsLine, IsWholeLine, StandsBefore, StandsFree, tail_of, tail_on}
+use Rattle.py_lines.specs.Private.Passing.{EndsLineSo, IsLineEndAt, PassesOver, PassesSo, nothing_passed}
 use Rattle.py_lines.proofs.FieldScans.TextLengths.{later}
 use Rattle.py_lines.proofs.LineScan.BracketStack.{none_framed}
 use Rattle.py_lines.proofs.LineScan.NextCharacter.{empty_stack}
@@ -30,7 +30,7 @@ use Rattle.py_lines.proofs.LineScan.AsciiRuns.{all_pass, low_encodes}
 use Rattle.py_lines.proofs.LogicalLines.Cuts.{byte_len-append}
 use Rattle.py_lines.proofs.Text.Utf8Prefixes.{all_scalars-append}
 use Rattle.py_lines.proofs.SimpleLines.Code.{IsCodeByte, begun, code_low, code_run, outer_end_whole, tail-encoded}
-use Rattle.py_lines.proofs.SimpleLines.Tails.{closed_stands, stands, tail_on-append}
+use Rattle.py_lines.proofs.SimpleLines.Tails.{free_stands, stands, tail_on-append}
 use Rattle.py_lines.proofs.SimpleLines.FirstBytes.{feed_found, first_later}
 use Rattle.py_lines.proofs.SimpleLines.Passing.{end_is, end_spells, end_split, end_within, passed_further}
 
@@ -68,10 +68,36 @@ pub lines_scalars : (texts : List (List ℕ)) (read after : List ℕ) → AreWho
 lines_scalars [] read after are = ap all_scalars are
 lines_scalars (t ∷ texts) read after are = ap all_scalars are.spell ∙ all_scalars-append t are.later are.whole.scalars (lines_scalars texts are.later after are.lines)
 
--- the line end that the bytes have at a byte
-pub feed_ends : (bytes : List ℕ) (at : ℕ) → at < length bytes → slice_index bytes at ≡ 10 → BeginsOuterEnd (drop at bytes) 1
-feed_ends bytes at within is =
-    feed_found (drop at bytes) (omega (arith, within, length-drop at bytes)) (first_later bytes at ∙ is)
+-- the first two bytes from one on
+split_two : (bytes : List ℕ) (at : ℕ) → at + 1 < length bytes → drop at bytes ≡ slice_index bytes at ∷ slice_index bytes (at + 1) ∷ drop (at + 1 + 1) bytes
+split_two bytes at more = drop_more bytes at 0 (omega (arith, more)) ∙ ap (λ t. slice_index bytes at ∷ t) (drop_more bytes (at + 1) 0 more)
+
+-- the line end that the bytes have at a byte: LF, CR before another byte, or CR LF
+pub feed_ends : (bytes : List ℕ) (at : ℕ) → at < length bytes → slice_index bytes at ≡ 10 → IsLineEndAt bytes at 1
+feed_ends bytes at within is = record {
+  within = within;
+  ends = feed_found (drop at bytes) (omega (arith, within, length-drop at bytes)) (first_later bytes at ∙ is);
+}
+
+pub return_ends : (bytes : List ℕ) (at : ℕ) → at + 1 < length bytes → slice_index bytes at ≡ 13 → (slice_index bytes (at + 1) ≡ 10 → ⊥) → IsLineEndAt bytes at 1
+return_ends bytes at more is other = record {
+  within = omega (arith, more);
+  ends = subst (λ (t : List ℕ). BeginsOuterEnd t 1) (sym (split_two bytes at more)) (record {
+    some = omega arith;
+    within = omega arith;
+    is = inr (ap (λ (c : ℕ). c ∷ []) is, other);
+  });
+}
+
+pub both_end : (bytes : List ℕ) (at : ℕ) → at + 1 < length bytes → slice_index bytes at ≡ 13 → slice_index bytes (at + 1) ≡ 10 → IsLineEndAt bytes at 2
+both_end bytes at more is feeds = record {
+  within = omega (arith, more);
+  ends = subst (λ (t : List ℕ). BeginsOuterEnd t 2) (sym (split_two bytes at more)) (record {
+    some = omega arith;
+    within = omega arith;
+    is = inl (true, rw (is, feeds) refl);
+  });
+}
 
 -- no line was passed
 none_passed : (bytes : List ℕ) → BeginWithLines bytes 0
@@ -130,22 +156,19 @@ module _ (bytes : List ℕ) (m : Mode) (past before : List ℕ) where
       (subst (λ (t : List ℕ). StandsBefore t m (before ++ come.run) st) split come.stands)))
 
   -- over what is passed at a byte that isn't plain
-  pub over_further : (at place len : ℕ) (closes : Bool) (st after : List Bracket) → tail_of past ≡ None → tail_of before ≡ None
-      → (c : ComesBefore at st) → byte_len (before ++ c.run) ≡ place → PassesOver bytes at place len closes st after
-      → Comes (at + len) after (StandsClosed closes (drop (at + len) bytes))
-  over_further at place len closes st after none apart c here over =
-      let tail : tail_of (before ++ c.run) ≡ tail_of (take at bytes) =
-      tail_on-append None before c.run ∙ ap (λ (o : Option Spelling). tail_on o c.run) (apart ∙ sym none) ∙ sym (tail_on-append None past c.run)
-      ∙ sym (tail-encoded None (past ++ c.run)) ∙ ap tail_of c.spell in
-      further at len st after (StandsBefore (drop at bytes)) (StandsClosed closes (drop (at + len) bytes)) c over.within
+  pub over_further : (at place len : ℕ) (st after : List Bracket) → (c : ComesBefore at st)
+      → (is_quote (slice_index bytes at) ≡ true → tail_of (before ++ c.run) ≡ tail_of (take at bytes)) → byte_len (before ++ c.run) ≡ place → PassesOver bytes at place len st after
+      → Comes (at + len) after (StandsFree (drop (at + len) bytes))
+  over_further at place len st after c tail here over =
+      further at len st after (StandsBefore (drop at bytes)) (StandsFree (drop (at + len) bytes)) c over.within
       over.run over.spell (over.leads m (before ++ c.run) tail here c.stands)
 
-  pub stands_there : (at : ℕ) (st : List Bracket) (closes : Bool) → Comes at st (StandsClosed closes (drop at bytes)) → ComesBefore at st
-  stands_there at st closes c = record {
+  pub stands_there : (at : ℕ) (st : List Bracket) → Comes at st (StandsFree (drop at bytes)) → ComesBefore at st
+  stands_there at st c = record {
     within = c.within;
     run = c.run;
     spell = c.spell;
-    stands = closed_stands closes (drop at bytes) m (before ++ c.run) st c.stands;
+    stands = free_stands (drop at bytes) m (before ++ c.run) st c.stands;
   }
 
   -- over a line end that ends the line
@@ -199,16 +222,19 @@ module _ (bytes : List ℕ) where
   }
 
   -- over what is passed at a byte that isn't plain
-  passed_on : (lines at len : ℕ) (closes : Bool) (st after : List Bracket) → HasComeTo bytes lines at st
-      → PassesOver bytes at (at - lines) len closes st after → HasComeTo bytes lines (at + len) after
-  passed_on lines at len closes st after on over =
+  passed_on : (lines at len : ℕ) (st after : List Bracket) → HasComeTo bytes lines at st
+      → PassesOver bytes at (at - lines) len st after → HasComeTo bytes lines (at + len) after
+  passed_on lines at len st after on over =
       let past = on.lines_are in
+      let run = on.come.run in
+      let tail : tail_of run ≡ tail_of (take at bytes) =
+      ap (λ (o : Option Spelling). tail_on o run) (sym (lines_tail past.texts past.read (drop lines bytes) past.whole))
+      ∙ sym (tail_on-append None past.read run) ∙ sym (tail-encoded None (past.read ++ run)) ∙ ap tail_of on.come.spell in
       record {
         ordered = omega (arith, on.ordered);
         lines_are = past;
-        come = stands_there bytes modes.Free past.read [] (at + len) after closes
-            (over_further bytes modes.Free past.read [] at (at - lines) len closes st after
-            (lines_tail past.texts past.read (drop lines bytes) past.whole) refl on.come
+        come = stands_there bytes modes.Free past.read [] (at + len) after
+            (over_further bytes modes.Free past.read [] at (at - lines) len st after on.come (λ quote. tail)
             (omega (arith, line_size lines at st (StandsBefore (drop at bytes)) past on.come)) over);
       }
 
@@ -285,7 +311,7 @@ module _ (bytes : List ℕ) (lines at : ℕ) (p : Passing) (b : List Frame) (on 
           stack = later;
           frames = frames;
           come = subst (λ (x : Passing). HasComeTo bytes lines x.all later) (sym so.is)
-              (passed_on bytes lines at so.len so.closes stack later on.come.come over);
+              (passed_on bytes lines at so.len stack later on.come.come over);
         };
         marked = far.1;
       }

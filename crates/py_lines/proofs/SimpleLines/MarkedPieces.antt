@@ -1,7 +1,7 @@
 -- Pieces of ASCII whose end the marks show: the bytes up to there are those of the piece.
 use Rattle.std.proofs.Common.{◌≡◌, ℕ, ◌+◌, ◌-◌, ◌<◌, Bool, true, false, not, ◌==◌, Some, List, length, take, drop, slice_index, refl, sym, ap, ◌∙◌, subst, arith, eqb-true, inl, inr, length-drop}
 use Rattle.std.specs.Prelude.{◌≤◌, codes}
-use Rattle.std.proofs.lemmas.Bool.{and_from, and_parts, both_ways, cases_lt, cases_order, eq-eqb, false_from_ne_true, lt-ltb, not-true}
+use Rattle.std.proofs.lemmas.Bool.{and_from, and_parts, both_ways, cases_lt, cases_order, eq-eqb, false_from_ne_true, not-true}
 use Rattle.py_lines.specs.Character.{is_break, is_hash, is_one_of, is_operator, is_quote, is_space}
 use Rattle.py_lines.specs.Balance.{is_closing, is_opening}
 use Rattle.py_lines.specs.declared.marks.Marks.{Marks}
@@ -15,7 +15,8 @@ use Rattle.py_lines.proofs.SimpleLines.Code.{code_low}
 use Rattle.py_lines.proofs.SimpleLines.Comments.{comment_passed}
 use Rattle.py_lines.proofs.SimpleLines.Lines.{plain_code}
 use Rattle.py_lines.proofs.FieldScans.TextLengths.{later, rest_is, rest_of}
-use Rattle.py_lines.proofs.SimpleLines.Strings.{after, piece_at, short_ended, short_first, short_run, plain_at}
+use Rattle.py_lines.proofs.SimpleLines.PlainStrings.{run_passed}
+use Rattle.py_lines.proofs.SimpleLines.Strings.{piece_at, plain_at}
 use Rattle.py_lines.proofs.SimpleLines.FirstBytes.{first_later}
 use Rattle.py_lines.proofs.SimpleLines.Passing.{holds_none}
 
@@ -60,9 +61,9 @@ abbrev pub Between : (ℕ → Bool) → List ℕ → ℕ → ℕ → Type 0
 Between passes bytes at end = (i : ℕ) → at < i → i < end → passes (slice_index bytes i) ≡ true
 
 -- a piece with which the bytes from there on begin
-pub first_piece : (bytes : List ℕ) (at len : ℕ) (closes : Bool) → at < length bytes → PassesFirst (rest_of bytes at) len closes → PassesAt bytes at len closes
-first_piece bytes at len closes here found =
-    piece_at bytes at len closes here (subst (λ (t : List ℕ). PassesFirst t len closes) (rest_is bytes at) found) (λ m read st on. (m, on.2, λ later come. come))
+pub first_piece : (bytes : List ℕ) (at len : ℕ) → at < length bytes → PassesFirst (rest_of bytes at) len → PassesAt bytes at len
+first_piece bytes at len here found =
+    piece_at bytes at len here (subst (λ (t : List ℕ). PassesFirst t len) (rest_is bytes at) found) (λ m read st on. (m, on.2, λ later come. come))
 
 module _ (bytes : List ℕ) (at end : ℕ) (further : at < end) (within : end < length bytes) where
   abbrev rest : List ℕ
@@ -111,27 +112,23 @@ module _ (bytes : List ℕ) (at end : ℕ) (further : at < end) (within : end < 
           ap (λ (k : ℕ). is_break (slice_index bytes k)) last ∙ ap is_break closes ∙ quote_unbroken _ quote
     ])
 
-    pub marked_string : at + 1 < end → is_plain_prefix (tail_of (take at bytes)) ≡ true → PassesAt bytes at (end + 1 - at) true
+    pub marked_string : at + 1 < end → is_plain_prefix (tail_of (take at bytes)) ≡ true → PassesAt bytes at (end + 1 - at)
     marked_string some prefix =
         let k = end - at - 1 in
-        let room : 1 < length rest = omega (arith, some, within, length-drop at bytes) in
         let spans = text_spans (slice_index rest 0) (drop 1 rest) k text in
-        let begun = short_first (slice_index rest 0) quote_first rest (omega (arith, room)) refl in
-        let read = after rest 1 k begun (short_run (slice_index rest 0) quote_first (drop 1 rest) 1 k (omega arith) spans) in
         let second : slice_index rest 1 ≡ slice_index bytes (at + 1) = later bytes at 1 in
         let holds : slice_index rest 1 ≡ slice_index rest 0 → ⊥ = λ same.
         both_ways _ (quote-not-plain (slice_index rest 0) quote_first) (ap is_plain (sym same ∙ second) ∙ plain (at + 1) (omega arith) some) in
         let there : at + (1 + k) ≡ end = omega (arith, further) in
         let last : slice_index rest (1 + k) ≡ slice_index rest 0 = later bytes at (1 + k) ∙ ap (λ (i : ℕ). slice_index bytes i) there ∙ closes ∙ sym first_is in
-        let ended = short_ended rest quote_first (1 + k) (omega arith) holds read (omega (arith, further, within, length-drop at bytes)) last in
+        let ended = run_passed rest k quote_first holds (omega (arith, further, within, length-drop at bytes)) spans last in
         let size : 1 + k + 1 ≡ end + 1 - at = omega (arith, further) in
-        subst (PassesAt bytes at (end + 1 - at)) (lt-ltb 2 (end + 1 - at) (omega (arith, some)))
-        (plain_at bytes at (end + 1 - at) (omega (arith, further, within)) quote prefix
+        plain_at bytes at (end + 1 - at) (omega (arith, further, within)) quote prefix
         (subst (λ (t : List ℕ). HasString t (Some (end + 1 - at))) (sym (rest_is bytes at))
-        (subst (λ (n : ℕ). HasString rest (Some n)) size ended)))
+        (subst (λ (n : ℕ). HasString rest (Some n)) size ended))
 
   -- a comment
-  pub marked_comment : is_hash (slice_index bytes at) ≡ true → Between is_remark_byte bytes at end → is_break (slice_index bytes end) ≡ true → PassesAt bytes at (end - at) false
+  pub marked_comment : is_hash (slice_index bytes at) ≡ true → Between is_remark_byte bytes at end → is_break (slice_index bytes end) ≡ true → PassesAt bytes at (end - at)
   marked_comment hash remark breaks =
       let k = end - at - 1 in
       let stops : is_remark_byte (slice_index bytes end) ≡ false = rw breaks refl in
@@ -142,9 +139,9 @@ module _ (bytes : List ℕ) (at end : ℕ) (further : at < end) (within : end < 
       let whole = ascii_comment (drop 1 rest) k run (omega (arith, further, within, length-drop at bytes, length-drop 1 rest)) low in
       let first = comment_passed rest k (omega (arith, further, within, length-drop at bytes)) (ap is_hash first_is ∙ hash) (subst (λ (t : List ℕ). IsWholeComment t (Some k)) (sym (rest_is rest 1)) whole) in
       let size : 1 + k ≡ end - at = omega (arith, further) in
-      first_piece bytes at (end - at) false (omega (arith, further, within))
-      (subst (λ (t : List ℕ). PassesFirst t (end - at) false) (sym (rest_is bytes at))
-      (subst (λ (n : ℕ). PassesFirst rest n false) size first))
+      first_piece bytes at (end - at) (omega (arith, further, within))
+      (subst (λ (t : List ℕ). PassesFirst t (end - at)) (sym (rest_is bytes at))
+      (subst (λ (n : ℕ). PassesFirst rest n) size first))
 
   pub comment_holds : is_hash (slice_index bytes at) ≡ true → Between is_remark_byte bytes at end → HoldsEnds bytes at (end - at) 0
   comment_holds hash remark =

@@ -1,5 +1,5 @@
 -- Bytes are passed over at one that isn't plain: brackets, line ends and pieces, wherever in a line they stand.
-use Rattle.std.proofs.Common.{◌≡◌, ℕ, ◌+◌, ◌-◌, ◌<◌, ◌≤◌, Bool, true, false, Some, List, [], ◌∷◌, ◌++◌, ◌==◌, ◌&&◌, not, inl, inr, length, take, drop, slice_index, refl, sym, ap, ◌∙◌, subst, arith, length-drop, suc}
+use Rattle.std.proofs.Common.{◌≡◌, ℕ, ◌+◌, ◌-◌, ◌<◌, ◌≤◌, true, false, Some, List, [], ◌∷◌, ◌++◌, ◌==◌, ◌&&◌, not, inl, inr, length, take, drop, slice_index, refl, sym, ap, ◌∙◌, subst, arith, length-drop, suc}
 use Rattle.std.specs.Prelude.{codes, encode_utf8_all}
 use Rattle.std.specs.List.{list_all}
 use Rattle.std.proofs.lemmas.Bool.{and_from, and_left, and_parts, both_ways, eqb-true, false_from_ne_true, not-true}
@@ -11,12 +11,11 @@ use Rattle.py_lines.specs.Balance.{is_closing, is_opening}
 use Rattle.py_lines.specs.declared.frames.Frame.{Frame}
 use Rattle.py_lines.specs.declared.marks.Marks.{Marks}
 use Rattle.py_lines.specs.declared.passing.Passing.{Passing}
-use Rattle.py_lines.specs.declared.passing.Special.{Special}
 use Rattle.py_lines.specs.declared.passing.Special.TheVariants as special
 use Rattle.py_lines.specs.Private.Machine.{Bracket, brackets_after}
 use Rattle.py_lines.specs.Private.Marks.{HasMarks}
 use Rattle.py_lines.specs.Private.Outline.{BeginsOuterEnd, HoldsEnds, IsOuterEnd, PassesAt, StandsBefore}
-use Rattle.py_lines.specs.Private.Passing.{IsMet, PassesOver, PassesSo, PassesSpecial, passed_to}
+use Rattle.py_lines.specs.Private.Passing.{PassesOver, PassesSo, PassesSpecial, passed_to}
 use Rattle.py_lines.specs.Private.Scan.{frames_of}
 use Rattle.py_lines.specs.Private.Frames.{ClosesBracket, OpensBracket}
 use Rattle.py_lines.specs.Private.LineScan.{none_open}
@@ -31,6 +30,7 @@ use Rattle.py_lines.proofs.LogicalLines.Cuts.{break-return}
 use Rattle.py_lines.proofs.Text.CharacterTests.{excluded, feed_is, none_of, operator_ascii, return_is}
 use Rattle.py_lines.proofs.Text.LineEnds.{unbroken}
 use Rattle.py_lines.proofs.SimpleLines.Code.{operator_free, outer_end_inside}
+use Rattle.py_lines.proofs.SimpleLines.Tails.{free_there}
 use Rattle.py_lines.proofs.SimpleLines.FirstBytes.{first_later, outer_end_low}
 
 -- there are no more line ends than bytes
@@ -108,7 +108,7 @@ outer_end_holds text (c ∷ cs) (inr (is, other)) = rw is (refl, false_from_ne_t
 module _ (bytes : List ℕ) (at : ℕ) (within : at < length bytes) where
   -- over an operator, which the brackets allow
   pub operator_over : (place : ℕ) (st after : List Bracket) → is_operator (slice_index bytes at) ≡ true
-      → brackets_after st place (piece operator (slice_index bytes at ∷ [])) ≡ Some after → PassesOver bytes at place 1 true st after
+      → brackets_after st place (piece operator (slice_index bytes at ∷ [])) ≡ Some after → PassesOver bytes at place 1 st after
   operator_over place st after is may =
       let c = slice_index bytes at in
       record {
@@ -118,15 +118,15 @@ module _ (bytes : List ℕ) (at : ℕ) (within : at < length bytes) where
         spell = (low_encodes is_operator (c ∷ []) operator_ascii (and_from _ _ is refl)).0
             ∙ sym (ap (take 1) (drop_more bytes at 0 within));
         leads = λ m read tail here on.
-            operator_free c (drop (at + 1) bytes) m read st after is
+            free_there (drop (at + 1) bytes) m (read ++ c ∷ []) after (operator_free c (drop (at + 1) bytes) m read st after is
             (ap (λ (k : ℕ). brackets_after st k (piece operator (c ∷ []))) here ∙ may)
-            (subst (λ (t : List ℕ). StandsBefore t m read st) (drop_more bytes at 0 within) on);
+            (subst (λ (t : List ℕ). StandsBefore t m read st) (drop_more bytes at 0 within) on));
       }
 
   -- over a piece
-  pub piece_over : (place : ℕ) (st : List Bracket) (len : ℕ) (closes : Bool) → length st ≤ 100 → PassesAt bytes at len closes
-      → PassesOver bytes at place len closes st st
-  piece_over place st len closes few (room, passes) = record {
+  pub piece_over : (place : ℕ) (st : List Bracket) (len : ℕ) → length st ≤ 100 → PassesAt bytes at len
+      → PassesOver bytes at place len st st
+  piece_over place st len few (room, passes) = record {
     some = passes.some;
     within = room;
     run = passes.part.run;
@@ -151,41 +151,32 @@ module _ (bytes : List ℕ) (at : ℕ) (within : at < length bytes) (len : ℕ) 
   pub end_is : IsOuterEnd end_text (drop (at + len) bytes)
   end_is = subst (IsOuterEnd end_text) (drop-drop len at bytes) ends.is
 
-  -- its last byte
-  end_last : slice_index bytes (at + len - 1) ≡ slice_index end_text (length end_text - 1)
-  end_last = taken_last bytes at len ends.some end_within
-
   pub end_holds : HoldsEnds bytes at len 1
   end_holds = let holds = outer_end_holds end_text (drop (at + len) bytes) end_is in record { count = holds.0; apart = holds.1 }
 
   -- over one in brackets
   line_end_over : (place : ℕ) (st : List Bracket) → none_open st ≡ false
-      → PassesOver bytes at place len (slice_index bytes (at + len - 1) == 10) st st
+      → PassesOver bytes at place len st st
   line_end_over place st some = record {
     some = ends.some;
     within = end_within;
     run = end_text;
     spell = end_spells;
     leads = λ m read tail here on.
-        outer_end_inside end_text (drop (at + len) bytes) m read st (slice_index bytes (at + len - 1) == 10) end_is some
-        (λ feeds is.
-        let last : slice_index bytes (at + len - 1) ≡ 13 = end_last ∙ ap (λ t. slice_index t (length t - 1)) is in
-        both_ways _ (ap (λ (c : ℕ). c == 10) last) feeds)
+        outer_end_inside end_text (drop (at + len) bytes) m read st end_is some
         (subst (λ (t : List ℕ). StandsBefore t m read st) end_split on);
   }
 
   -- whatever was marked before it
   module _ (place : ℕ) (old : Passing) (before : Marks) (b : List Frame) (new : Passing) (marked : HasMarks bytes (at + len) old.marks)
-      (is : new ≡ passed_to old (at + len) 1 (slice_index bytes (at + len - 1) == 10)) where
+      (is : new ≡ passed_to old (at + len) 1) where
     pub line_end_passed : length b == 0 ≡ false → PassesSpecial bytes at place (record old { marks = before }) b special.Passed new b
     line_end_passed some = rw is (record {
       len = len;
       more = 1;
-      closes = slice_index bytes (at + len - 1) == 10;
       some = ends.some;
       within = end_within;
       over = λ st are. (st, are, line_end_over place st (sym (none_length st (length b) (sym (frames_length b st are))) ∙ some));
-      kept = λ _. refl;
       holds = end_holds;
       is = refl;
       marked = marked;
@@ -202,55 +193,42 @@ passed_further bytes at place old b new c so =
     (omega (arith, so.some, size), subst (λ (k : ℕ). HasMarks bytes k new.marks) (sym size) so.marked)
 
 module _ (bytes : List ℕ) (at : ℕ) (old : Passing) (within : at < length bytes) (marked : HasMarks bytes (at + 1) old.marks) where
-  -- a bracket that was met
-  bracket_met : (place : ℕ) (b c : List Frame) (result : Special) (new : Passing) → is_operator (slice_index bytes at) ≡ true
-      → ((st : List Bracket) → b ≡ frames_of st → MeetsAt st place (slice_index bytes at) c) → IsMet true at old result new
-      → PassesSpecial bytes at place old b result new c
-  bracket_met place b c result new is meets (passed, so) =
-      rw (passed, so)
-      (record {
+  -- a bracket
+  bracket_passed : (place : ℕ) (b c : List Frame) → is_operator (slice_index bytes at) ≡ true
+      → ((st : List Bracket) → b ≡ frames_of st → MeetsAt st place (slice_index bytes at) c) → PassesSpecial bytes at place old b special.Passed (passed_to old (at + 1) 0) c
+  bracket_passed place b c is meets =
+      record {
         len = 1;
         more = 0;
-        closes = true;
         some = omega arith;
         within = omega (arith, within);
         over = λ st are. let met = meets st are in (met.later, met.frames, operator_over bytes at within place st met.later is met.after);
-        kept = λ none. absurd (both_ways _ none refl);
         holds = holds_none bytes at 1 (omega (arith, within)) (λ i more less.
             let here : i ≡ at = omega (arith, more, less) in
             ap (λ (k : ℕ). is_break (slice_index bytes k)) here ∙ operator_unbroken (slice_index bytes at) is);
         is = refl;
         marked = marked;
-      })
+      }
 
-  -- or not
-  pub opening_passed : (place : ℕ) (b : List Frame) (met : Bool) (c : List Frame) (result : Special) (new : Passing)
-      → is_opening (slice_index bytes at) ≡ true → OpensBracket b (slice_index bytes at) place met c → IsMet met at old result new
-      → PassesSpecial bytes at place old b result new c
-  opening_passed place b true c result new is opens met =
-      bracket_met place b c result new (opening_operator _ is) (λ st are. opened_at_byte st place (slice_index bytes at) b c is are opens) met
-  opening_passed place b false c result new is opens (unpassed, same) = rw unpassed (same, opens.1)
+  pub opening_passed : (place : ℕ) (b c : List Frame) → is_opening (slice_index bytes at) ≡ true → OpensBracket b (slice_index bytes at) place true c
+      → PassesSpecial bytes at place old b special.Passed (passed_to old (at + 1) 0) c
+  opening_passed place b c is opens = bracket_passed place b c (opening_operator _ is) (λ st are. opened_at_byte st place (slice_index bytes at) b c is are opens)
 
-  pub closing_passed : (place : ℕ) (b : List Frame) (met : Bool) (c : List Frame) (result : Special) (new : Passing)
-      → is_closing (slice_index bytes at) ≡ true → ClosesBracket b (slice_index bytes at) met c → IsMet met at old result new
-      → PassesSpecial bytes at place old b result new c
-  closing_passed place b true c result new is closes met =
-      bracket_met place b c result new (closing-operator _ is) (λ st are. closed_at_byte st place (slice_index bytes at) b c is are closes) met
-  closing_passed place b false c result new is closes (unpassed, same) = rw unpassed (same, closes.1)
+  pub closing_passed : (place : ℕ) (b c : List Frame) → is_closing (slice_index bytes at) ≡ true → ClosesBracket b (slice_index bytes at) true c
+      → PassesSpecial bytes at place old b special.Passed (passed_to old (at + 1) 0) c
+  closing_passed place b c is closes = bracket_passed place b c (closing-operator _ is) (λ st are. closed_at_byte st place (slice_index bytes at) b c is are closes)
 
   -- a piece
-  pub piece_passed : (place : ℕ) (b : List Frame) (len more : ℕ) (closes : Bool) (to : ℕ) (marks : Marks) (new : Passing) → length b ≤ 100
-      → PassesAt bytes at len closes → HoldsEnds bytes at len more → at + len ≡ to → HasMarks bytes to marks
-      → new ≡ passed_to (record old { marks = marks }) to more closes → PassesSpecial bytes at place old b special.Passed new b
-  piece_passed place b len more closes to marks new few passes holds there has is =
+  pub piece_passed : (place : ℕ) (b : List Frame) (len more : ℕ) (to : ℕ) (marks : Marks) (new : Passing) → length b ≤ 100
+      → PassesAt bytes at len → HoldsEnds bytes at len more → at + len ≡ to → HasMarks bytes to marks
+      → new ≡ passed_to (record old { marks = marks }) to more → PassesSpecial bytes at place old b special.Passed new b
+  piece_passed place b len more to marks new few passes holds there has is =
       rw (is, ← there) (record {
         len = len;
         more = more;
-        closes = closes;
         some = passes.1.some;
         within = passes.0;
-        over = λ st are. (st, are, piece_over bytes at within place st len closes (omega (arith, few, frames_length b st are)) passes);
-        kept = λ _. refl;
+        over = λ st are. (st, are, piece_over bytes at within place st len (omega (arith, few, frames_length b st are)) passes);
         holds = holds;
         is = refl;
         marked = rw there has;

@@ -1,17 +1,19 @@
 -- The word that bytes end with, told by the last three of them.
-use Rattle.std.proofs.Common.{take-suc, ◌≡◌, ℕ, suc, ◌+◌, ◌-◌, ◌<◌, ◌≤◌, true, false, None, Some, List, [], ◌∷◌, length, take, drop, slice_index, refl, sym, ap, ◌∙◌, subst, arith, zero, ◌⊎◌, inl, inr, length-drop}
+use Rattle.std.proofs.Common.{take-suc, ◌≡◌, ℕ, suc, ◌+◌, ◌-◌, ◌<◌, ◌≤◌, true, false, Option, None, Some, List, [], ◌∷◌, length, take, drop, slice_index, refl, sym, ap, ◌∙◌, arith, zero, ◌⊎◌, inl, inr, length-drop, ⊎_elim}
 use Rattle.std.specs.List.{list_all}
-use Rattle.std.proofs.lemmas.Bool.{and_parts}
+use Rattle.std.proofs.lemmas.Bool.{and_parts, both_ways}
 use Rattle.std.proofs.lemmas.List.{length-take-le}
 use Rattle.std.proofs.Math.Seq.{take-add}
 use Rattle.py_lines.specs.declared.mode.Spelling.{Spelling}
-use Rattle.py_lines.specs.declared.prefix.Prefix.{Prefix}
+use Rattle.py_lines.specs.declared.mode.Spelling.TheVariants as spellings
 use Rattle.py_lines.specs.Private.Machine.{first_spelling, spelling_on, spelling_with}
 use Rattle.py_lines.specs.Private.Run.{is_ascii_word, word_spelling}
-use Rattle.py_lines.specs.Private.Outline.{IsPrefix, tail_of, tail_on}
+use Rattle.py_lines.specs.Private.Outline.{IsWordBefore, is_plain_prefix, tail_of, tail_on, tail_with}
+use Rattle.py_lines.specs.Private.ScanMachine.{begins_string, is_field_spelling}
+use Rattle.py_lines.proofs.Machine.Spellings.{third}
 use Rattle.py_lines.proofs.FieldScans.TextLengths.{later}
 use Rattle.py_lines.proofs.LineScan.AsciiRuns.{all_pass}
-use Rattle.py_lines.proofs.SimpleLines.Tails.{no_tail, tail_on-append}
+use Rattle.py_lines.proofs.SimpleLines.Tails.{no_tail, tail_on-append, tail_push}
 
 -- no word ends before this byte: the text begins there, or another byte stands before it
 pub none_before : (bytes : List ℕ) (at k : ℕ) → at ≤ length bytes → k ≡ at - 1 → (at ≡ 0) ⊎ (is_ascii_word (slice_index bytes k) ≡ false) → tail_of (take at bytes) ≡ None
@@ -31,14 +33,56 @@ word_tail [] some all = absurd (omega (arith, some))
 word_tail (c ∷ cs) some all = let parts = and_parts (is_ascii_word c) (list_all is_ascii_word cs) all in rw (parts.0) (word_goes_on (first_spelling c) cs parts.1)
 
 -- the word from this byte up to another, before which none ends
-pub word_before : (bytes : List ℕ) (k at : ℕ) (p : Prefix) → k < at → at ≤ length bytes → tail_of (take k bytes) ≡ None → ((i : ℕ) → k ≤ i → i < at → is_ascii_word (slice_index bytes i) ≡ true)
-    → IsPrefix p (Some (word_spelling (take (at - k) (drop k bytes)))) → IsPrefix p (tail_of (take at bytes))
-word_before bytes k at p some within none each is =
+pub word_there : (bytes : List ℕ) (k at : ℕ) → k < at → at ≤ length bytes → tail_of (take k bytes) ≡ None → ((i : ℕ) → k ≤ i → i < at → is_ascii_word (slice_index bytes i) ≡ true)
+    → tail_of (take at bytes) ≡ Some (word_spelling (take (at - k) (drop k bytes)))
+word_there bytes k at some within none each =
     let word = take (at - k) (drop k bytes) in
     let there : k + (at - k) ≡ at = omega (arith, some) in
     let room : at - k ≤ length (drop k bytes) = omega (arith, within, length-drop k bytes) in
     let all = all_pass is_ascii_word (drop k bytes) (at - k) room (λ i less. ap is_ascii_word (later bytes k i) ∙ each (k + i) (omega arith) (omega (arith, less))) in
-    let tail : tail_of (take at bytes) ≡ Some (word_spelling word) =
     ap (λ j. tail_of (take j bytes)) (sym there) ∙ ap tail_of (take-add k (at - k) bytes) ∙ tail_on-append None (take k bytes) word
-    ∙ ap (λ t. tail_on t word) none ∙ word_tail word (omega (arith, some, length-take-le (at - k) (drop k bytes) room)) all in
-    subst (IsPrefix p) (sym tail) is
+    ∙ ap (λ t. tail_on t word) none ∙ word_tail word (omega (arith, some, length-take-le (at - k) (drop k bytes) room)) all
+
+no_prefix : (s : Spelling) (b c : ℕ) → begins_string (spelling_with (spelling_with s b) c) ≡ false
+no_prefix s b c = ⊎_elim (λ is. ap begins_string is) (λ is. ap begins_string is) (third s b c)
+
+-- it begins no string, where three bytes of it stand before this one
+three_letters : (t : Option Spelling) (a b c : ℕ) → is_ascii_word a ≡ true → is_ascii_word b ≡ true → is_ascii_word c ≡ true
+    → (s : Spelling) × (tail_on t (a ∷ b ∷ c ∷ []) ≡ Some s) × (begins_string s ≡ false)
+three_letters None a b c first second last = rw (first, second, last) (spelling_with (spelling_with (first_spelling a) b) c, refl, no_prefix (first_spelling a) b c)
+three_letters (Some s) a b c first second last = rw (first, second, last) (spelling_with (spelling_with (spelling_with s a) b) c, refl, no_prefix (spelling_with s a) b c)
+
+one_more : (bytes : List ℕ) (n : ℕ) → n < length bytes → tail_of (take (suc n) bytes) ≡ tail_with (tail_of (take n bytes)) (slice_index bytes n)
+one_more bytes n within = ap tail_of (take-suc bytes n 0 within) ∙ tail_push (take n bytes) (slice_index bytes n)
+
+pub long_word : (bytes : List ℕ) (at : ℕ) → 2 < at → at ≤ length bytes → ((i : ℕ) → at - 3 ≤ i → i < at → is_ascii_word (slice_index bytes i) ≡ true)
+    → (s : Spelling) × (tail_of (take at bytes) ≡ Some s) × (begins_string s ≡ false)
+long_word bytes zero some within each = absurd (omega (arith, some))
+long_word bytes (suc zero) some within each = absurd (omega (arith, some))
+long_word bytes (suc (suc zero)) some within each = absurd (omega (arith, some))
+long_word bytes (suc (suc (suc n))) some within each =
+    let a = slice_index bytes n in
+    let b = slice_index bytes (suc n) in
+    let c = slice_index bytes (suc (suc n)) in
+    let (s, tail, none) = three_letters (tail_of (take n bytes)) a b c (each n (omega arith) (omega arith)) (each (suc n) (omega arith) (omega arith)) (each (suc (suc n)) (omega arith) (omega arith)) in (
+      s,
+      one_more bytes (suc (suc n)) (omega (arith, within))
+          ∙ ap (λ t. tail_with t c) (one_more bytes (suc n) (omega (arith, within)) ∙ ap (λ t. tail_with t b) (one_more bytes n (omega (arith, within)))) ∙ tail,
+      none,
+    )
+
+-- what was found tells what it is, unless that is a word that begins no string: the prefix of a string with fields
+pub fields_before : (found tail : Option Spelling) (s : Spelling) → IsWordBefore found tail → found ≡ Some s → is_field_spelling s ≡ true → tail ≡ Some s
+fields_before found tail s (inl same) is fields = sym same ∙ is
+fields_before found tail s (inr other) is fields =
+    let same : Some spellings.Name ≡ Some s = sym other.0 ∙ is in
+    let name : s ≡ spellings.Name = cc (same) in
+    absurd (both_ways (is_field_spelling s) (ap is_field_spelling name) fields)
+
+-- or of one without
+pub plain_before : (found tail : Option Spelling) → IsWordBefore found tail → is_plain_prefix found ≡ true → is_plain_prefix tail ≡ true
+plain_before found tail (inl same) plain = ap is_plain_prefix (sym same) ∙ plain
+plain_before found tail (inr other) plain = absurd (both_ways _ (ap is_plain_prefix other.0) plain)
+
+pub plain_word : (found : Option Spelling) (s : Spelling) → found ≡ Some s → begins_string s ≡ true → is_field_spelling s ≡ false → is_plain_prefix found ≡ true
+plain_word found s is begins plain = ap is_plain_prefix is ∙ rw plain begins

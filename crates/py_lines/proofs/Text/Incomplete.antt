@@ -1,15 +1,16 @@
--- Which bytes that begin no character more bytes may complete, by what `error_len` says.
+-- Which bytes that begin no character more bytes may complete, by what `error_len` says, and after how many bytes of characters they stand.
 use Rattle.std.proofs.lemmas.Bool.Decides.{nat_tests}
-use Rattle.std.proofs.Common.{◌≡◌, ℕ, ◌+◌, ◌-◌, ◌*◌, ◌/◌, ◌<◌, ◌≤◌, ◌⊎◌, Bool, true, false, cond, Option, None, Some, List, [], ◌∷◌, ◌++◌, length, take, drop, refl, sym, ap, ◌∙◌, subst, ⊎_elim, inl, inr, append_assoc, length-take, arith}
-use Rattle.std.specs.Prelude.{nat_lt, encode_utf8, encode_utf8_all, is_some}
+use Rattle.std.proofs.Common.{◌≡◌, ℕ, ◌+◌, ◌-◌, ◌*◌, ◌/◌, ◌<◌, ◌≤◌, ◌⊎◌, Bool, true, false, cond, Option, None, Some, List, [], ◌∷◌, ◌++◌, length, drop, refl, sym, ap, ◌∙◌, subst, ⊎_elim, inl, inr, arith}
+use Rattle.std.specs.Prelude.{nat_lt, encode_utf8_all, is_some}
 use Rattle.std.specs.Str.{StartsWithNoChar, IsUtf8, IsValidUpTo}
 use Rattle.py_lines.specs.Private.Feed.{TellsHopeless}
+use Rattle.py_lines.proofs.Text.Utf8Prefixes.{nothing_bad, opening_text}
 use Rattle.std.specs.Str.Lossy.{utf8_error_len, error_len_of_some, error_len_after_one, error_len_after_two, second_byte_min, second_byte_max}
 use Rattle.std.specs.Int.{is_in_range, IsInRange, IsOutOfRange}
 use Rattle.std.proofs.lemmas.Bool.{cases_lt, and_parts, le-ltb, ne_eqb, cases_Bool}
 use Rattle.std.proofs.Math.Utf8.{next, low_scalar}
 use Rattle.py_lines.proofs.Text.Utf8Shapes.{Follows, no_longer, one, two, three, four, high_scalar}
-use Rattle.std.proofs.lemmas.List.{take-append-drop}
+use Rattle.std.proofs.lemmas.List.{drop_all, take_all}
 use Rattle.py_lines.specs.Settled.{IsHopeless}
 
 -- the second byte lies where the first one allows it
@@ -78,8 +79,12 @@ out_of_bounds : (x y : ℕ) → 194 ≤ x → x ≤ 244 → (y < second_byte_min
 out_of_bounds x y low high out f three four = grind (arith, nat_tests)
 
 -- what `error_len` says of bytes that begin no character
-abbrev pub Verdict : List ℕ → Option ℕ → Type 0
-Verdict bytes len = TellsHopeless bytes (is_some len)
+abbrev VerdictBy : List ℕ → Bool → Type 0
+VerdictBy bytes true = IsHopeless bytes
+VerdictBy bytes false = ¬ (IsHopeless bytes)
+
+abbrev Verdict : List ℕ → Option ℕ → Type 0
+Verdict bytes len = VerdictBy bytes (is_some len)
 
 in_or_out : (a b c : ℕ) (P : Bool → Type 0) → (IsInRange a b c → P true) → (IsOutOfRange a b c → P false) → P (is_in_range a b c)
 in_or_out a b c P inside outside =
@@ -110,7 +115,7 @@ of_some x r none = in_or_out 194 244 x (λ b. Verdict (x ∷ r) (cond b (error_l
     (λ i. after_one x r i.0 i.1 none)
     (λ out. no_longer (x ∷ r) none (λ n more beyond g. omega arith))
 
-pub verdict : (bytes : List ℕ) → StartsWithNoChar bytes → Verdict bytes (utf8_error_len bytes)
+verdict : (bytes : List ℕ) → StartsWithNoChar bytes → Verdict bytes (utf8_error_len bytes)
 unfolding utf8_error_len
 verdict [] none = part_none
 verdict (x ∷ r) none = rw (ne_eqb (length (x ∷ r)) 0 (λ is. omega arith)) (of_some x r none)
@@ -120,21 +125,26 @@ pub text_none : (bytes : List ℕ) → IsUtf8 bytes → StartsWithNoChar bytes �
 text_none bytes ([], (scalars, spell)) none = sym spell
 text_none bytes (c ∷ cs, (scalars, spell)) none = absurd (none c (encode_utf8_all cs) (and_parts _ _ scalars).0 (sym spell))
 
-starts_in_take : (n : ℕ) (bytes : List ℕ) → StartsWithNoChar bytes → StartsWithNoChar (take n bytes)
-starts_in_take n bytes none c rest scalar is = none c (rest ++ drop n bytes) scalar (sym (take-append-drop n bytes) ∙ ap (λ t. t ++ drop n bytes) is ∙ append_assoc (encode_utf8 c) rest (drop n bytes))
+-- what `from_utf8` says of bytes: all are characters
+pub tells_ok : (bytes : List ℕ) → IsUtf8 bytes → TellsHopeless bytes None
+tells_ok bytes utf8 =
+    let none : drop (length bytes) bytes ≡ [] = drop_all (length bytes) bytes (omega arith) in (
+      length bytes,
+      subst IsUtf8 (sym (take_all (length bytes) bytes (omega arith))) utf8,
+      subst StartsWithNoChar (sym none) nothing_bad,
+      subst (λ t. ¬ (IsHopeless t)) (sym none) part_none,
+    )
 
--- no text stands before such bytes
-pub valid_none : (bytes : List ℕ) (n : ℕ) → StartsWithNoChar bytes → IsValidUpTo bytes n → n ≡ 0
-valid_none bytes n none valid =
-    let empty = text_none (take n bytes) valid.front (starts_in_take n bytes none) in
-    omega (arith, ap length empty, length-take n bytes, valid.short)
+-- or characters stand before bytes that begin none
+module _ (bytes : List ℕ) (n : ℕ) (len : Option ℕ) (valid : IsValidUpTo bytes n) (is : len ≡ utf8_error_len (drop n bytes)) where
+  bad : StartsWithNoChar (drop n bytes)
+  bad = opening_text bytes n valid.front (λ m more within. valid.longest m more)
 
--- what `from_utf8` says of them
-pub tells_ok : (bytes : List ℕ) → IsUtf8 bytes → StartsWithNoChar bytes → TellsHopeless bytes false
-tells_ok bytes utf8 none =
-    let empty = text_none bytes utf8 none in
-    subst (λ t. ¬ (IsHopeless t)) (sym empty) part_none
+  by_len : (b : Bool) → is_some len ≡ b → VerdictBy (drop n bytes) b
+  by_len b same = subst (VerdictBy (drop n bytes)) (ap is_some (sym is) ∙ same) (verdict (drop n bytes) bad)
 
-pub tells_error : (bytes : List ℕ) (n : ℕ) (len : Option ℕ) → StartsWithNoChar bytes → IsValidUpTo bytes n → len ≡ utf8_error_len (drop n bytes) → (b : Bool) → b ≡ is_some len → TellsHopeless bytes b
-tells_error bytes n len none valid is b same =
-    subst (TellsHopeless bytes) (sym same) (subst (Verdict bytes) (sym (is ∙ ap (λ (m : ℕ). utf8_error_len (drop m bytes)) (valid_none bytes n none valid))) (verdict bytes none))
+  pub tells_hopeless : is_some len ≡ true → TellsHopeless bytes (Some n)
+  tells_hopeless some = (omega (arith, valid.short), valid.front, by_len true some)
+
+  pub tells_part : is_some len ≡ false → TellsHopeless bytes None
+  tells_part none = (n, valid.front, bad, by_len false none)

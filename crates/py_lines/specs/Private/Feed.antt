@@ -1,21 +1,20 @@
 -- What the scanner inside a `Scanner` holds: the text since the line that was released last, and how far it was scanned.
-use Rattle.std.specs.Prelude.{◌≡◌, ℕ, ◌+◌, ◌<◌, ◌≤◌, ◌^◌, ◌⊎◌, Bool, true, false, Option, None, Some, Result, Ok, Err, List, [], ◌++◌, length, take, drop, encode_utf8_all, is_some, IsUtf8}
-use Rattle.std.specs.Str.{all_scalars}
+use Rattle.std.specs.Prelude.{◌≡◌, ℕ, ◌+◌, ◌<◌, ◌≤◌, ◌^◌, ◌⊎◌, Bool, true, false, Option, None, Some, Result, Ok, Err, List, ◌++◌, length, take, drop, encode_utf8_all, is_some, IsUtf8}
+use Rattle.std.specs.Str.{all_scalars, StartsWithNoChar}
 use Rattle.std.specs.declared.alloc.AllocError.{AllocError}
 use Rattle.py_lines.specs.Piece.{Piece, spelled}
 use Rattle.py_lines.specs.LogicalLine.{LogicalLine, byte_len, end_len_of, line_ends, line_of}
 use Rattle.py_lines.specs.Lexed.{IsLexed}
 use Rattle.py_lines.specs.Settled.{IsHopeless, Decides}
 pub use Rattle.py_lines.specs.Given.{AreFirstLines}
-use Rattle.py_lines.specs.ScannerState.{ScannerState, EndsExactly, Feeds, GoesOnWith, HoldsLast, TakesBytes, WhereWhole, ready_lines}
+use Rattle.py_lines.specs.ScannerState.{LacksBoth, ScannerState, EndsExactly, Feeds, GoesOnWith, HoldsLast, TakesBytes, WhereWhole, ready_lines}
 pub use Rattle.py_lines.specs.ScannerState.View.{line_of_feed, ready_of, scanning_of}
-use Rattle.py_lines.specs.Private.LineScan.{ScansIn, is_returned}
-use Rattle.py_lines.specs.Private.Run.{Reached}
+use Rattle.py_lines.specs.Private.LineScan.{Reached, ScansIn}
 use Rattle.py_lines.specs.Private.LineState.{BeginsAnew, KeepsFault, first_mode}
 use Rattle.py_lines.specs.Private.LineTokens.{AreLineText}
 pub use Rattle.py_lines.specs.declared.line_state.LineState.{LineState}
 pub use Rattle.py_lines.specs.declared.scan.LineFault.{LineFault}
-pub use Rattle.py_lines.specs.declared.mode.Mode.{Mode}
+pub use Rattle.py_lines.specs.Private.Machine.{Mode}
 pub use Rattle.py_lines.specs.declared.fault.Fault.{Fault}
 pub use Rattle.py_lines.specs.declared.fault.FaultKind.{FaultKind}
 pub use Rattle.py_lines.specs.declared.fault.LexError.{LexError}
@@ -23,10 +22,10 @@ pub use Rattle.py_lines.specs.declared.scan.Scan.{Scan}
 pub use Rattle.py_lines.specs.declared.scan.Stop.{Stop}
 pub use Rattle.py_lines.specs.declared.feed.Feed.{Feed}
 
--- whether no bytes complete these
-abbrev pub TellsHopeless : List ℕ → Bool → Type 0
-TellsHopeless bytes true = IsHopeless bytes
-TellsHopeless bytes false = ¬ (IsHopeless bytes)
+-- after so many bytes of whole characters stand bytes that none complete, or none such
+abbrev pub TellsHopeless : List ℕ → Option ℕ → Type 0
+TellsHopeless bytes None = (n : ℕ) × IsUtf8 (take n bytes) × StartsWithNoChar (drop n bytes) × ¬ (IsHopeless (drop n bytes))
+TellsHopeless bytes (Some n) = (n ≤ length bytes) × IsUtf8 (take n bytes) × IsHopeless (drop n bytes)
 
 -- these bytes are held, from the same place on, and this fault is known
 pub record HoldsAt (at number : ℕ) (over : Bool) (items : List ℕ) (known : Option Fault) (f : Feed) : Type 0 where
@@ -59,9 +58,9 @@ IsHeldOpen f = (rest : List ℕ) × IsOpen f rest
 abbrev pub StopsHeld : Feed → Stop → Type 0
 StopsHeld f stop = ScansIn (first_mode f.state.place) f.held.items f.state.scan stop
 
--- all that is held was scanned, except a part of a character, or up to a line's end
+-- all that is held was scanned, except what doesn't tell yet what it is, or up to a line's end
 abbrev pub IsScanned : Feed → Option ℕ → Type 0
-IsScanned f None = (s : StopsHeld f Stop.TextEnd) × ¬ (IsHopeless s.rest) × (is_returned f.state.scan ≡ true → s.rest ≡ [])
+IsScanned f None = (s : StopsHeld f Stop.TextEnd) × ¬ (IsHopeless s.rest)
 IsScanned f (Some end_len) = StopsHeld f (Stop.LineEnd end_len)
 
 -- whole characters end after so many of the bytes that are held
@@ -246,3 +245,10 @@ pub record LetsGo (old new : Feed) : Type 0 where
   pub ended : new.ended ≡ old.ended
   pub fault : new.state.fault ≡ old.state.fault
   pub opens : IsOpen new new.held.items
+
+-- so the line that stands in what is held, where it lacks both words; else nothing has changed
+abbrev pub LetsGoWithout : List ℕ → List ℕ → Feed → Bool → Feed → Type 0
+LetsGoWithout word other old true new =
+    (end_len : ℕ) × (old.ready ≡ Some end_len) × LacksBoth word other (take old.state.scan.stop old.held.items) × LetsGo old new
+LetsGoWithout word other old false new =
+    (new ≡ old) × ((end_len : ℕ) → old.ready ≡ Some end_len → ¬ (LacksBoth word other (take old.state.scan.stop old.held.items)))

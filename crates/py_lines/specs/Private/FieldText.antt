@@ -5,8 +5,8 @@ use Rattle.std.specs.Str.{byte}
 use Rattle.py_lines.specs.Character.{is_brace, is_break, is_one_of, is_quote}
 use Rattle.py_lines.specs.Piece.{Piece}
 use Rattle.py_lines.specs.FieldStrings.{literal, specification}
-use Rattle.py_lines.specs.declared.mode.Mode.{Mode}
-use Rattle.py_lines.specs.declared.mode.Mode.TheVariants as modes
+use Rattle.py_lines.specs.Private.Machine.{Mode}
+use Rattle.py_lines.specs.Private.Mode as modes
 use Rattle.py_lines.specs.Private.Machine.{IsFull}
 use Rattle.py_lines.specs.Private.FieldMachine.{between, after_brace, plain, body, Level, FieldScanned, field_state, levels_open}
 use Rattle.py_lines.specs.Private.Scan.{GoesThrough}

@@ -1,24 +1,10 @@
 -- The brackets and fields that are open in a line, as a list with the innermost first. It serves the contracts of private functions.
-use Rattle.std.specs.Prelude.{◌≡◌, ℕ, ◌+◌, ◌<◌, Bool, true, false, Option, None, Some, List, [], ◌∷◌, length, map, nat_lt, reverse}
+use Rattle.std.specs.Prelude.{◌≡◌, ℕ, ◌+◌, ◌<◌, Bool, true, false, Option, None, Some, List, [], ◌∷◌, length, nat_lt}
 use Rattle.py_lines.specs.Balance.{closing_of}
 use Rattle.py_lines.specs.declared.host.Region.{Region}
 use Rattle.py_lines.specs.declared.host.Region.TheVariants as regions
 use Rattle.py_lines.specs.declared.frames.Frame.{Frame}
 use Rattle.py_lines.specs.declared.frames.Frame.TheVariants as frame
-use Rattle.py_lines.specs.declared.frames.Slot.{Slot}
-
--- what a slot keeps: a bracket, or a field that stands there in its string
-abbrev pub frame_at : Slot → Option Region → Frame
-frame_at s None = frame.Bracket s.sign s.place
-frame_at s (Some region) =
-    frame.Field (record { place = s.place; host = record { quote = s.sign; is_long = s.is_long; is_raw = s.is_raw }; region = region; start = s.start })
-
-abbrev pub frame_of : Slot → Frame
-frame_of s = frame_at s s.region
-
--- what slots keep, that of the last first
-abbrev pub frames_in : List Slot → List Frame
-frames_in ss = reverse (map frame_of ss)
 
 -- what was opened last
 abbrev pub IsInnermostFrame : Option Frame → List Frame → Type 0

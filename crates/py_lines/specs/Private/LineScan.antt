@@ -7,15 +7,15 @@ use Rattle.py_lines.specs.Piece.{line_end, Piece, ends, spelled, begins}
 use Rattle.py_lines.specs.Balance.{depth_after, depth_through}
 use Rattle.py_lines.specs.Fields.{AreReadBefore}
 use Rattle.py_lines.specs.LogicalLine.{byte_len, is_line_end_class}
-use Rattle.py_lines.specs.Private.Machine.{Scanned, Bracket, brackets_of}
+use Rattle.py_lines.specs.Private.Machine.{Mode, Scanned, Bracket, brackets_of}
+use Rattle.py_lines.specs.Private.Mode as modes
 use Rattle.py_lines.specs.Private.FieldMachine.{FieldScanned, field_steps_from}
 use Rattle.py_lines.specs.Private.ScanMachine.{scan_step, scan_steps, StringsFit, IsScanSound, line_begun}
 pub use Rattle.py_lines.specs.Private.ScanMachine.{line_start}
-use Rattle.py_lines.specs.Private.Scan.{Follows, opened_at}
-pub use Rattle.py_lines.specs.Private.Scan.{is_returned}
-use Rattle.py_lines.specs.declared.mode.Mode.{Mode}
-use Rattle.py_lines.specs.declared.scan.Progress.{Progress}
-use Rattle.py_lines.specs.declared.scan.Progress.TheVariants as progress
+use Rattle.py_lines.specs.Private.Scan.{GoesOverAll, HasPending, IsFieldFault, Rests, StandsAs, has_returned, opened_at}
+use Rattle.py_lines.specs.declared.mode.Mode.{Mode as OpenMode}
+use Rattle.py_lines.specs.declared.mode.Mode.TheVariants as opens
+use Rattle.py_lines.specs.declared.scan.LineFault.{LineFault}
 use Rattle.py_lines.specs.declared.scan.Stop.{Stop}
 use Rattle.py_lines.specs.declared.scan.Stop.TheVariants as stops
 use Rattle.py_lines.specs.declared.scan.Scan.{Scan}
@@ -31,8 +31,12 @@ none_open [] = true
 none_open (b ∷ bs) = false
 
 -- the scan begins a line in this mode
+abbrev pub first_open : Mode → OpenMode
+first_open modes.Start = opens.Start
+first_open other = opens.Free
+
 abbrev pub HasBegun : Mode → Scan → Type 0
-HasBegun m scan = scan ≡ opened_at m
+HasBegun m scan = scan ≡ opened_at (first_open m)
 
 -- the open brackets where the machine comes to
 abbrev pub stack_if : Option Scanned → Option (List Bracket)
@@ -49,7 +53,7 @@ pub record AreLine (body : List Piece) (last : Piece) (len : ℕ) : Type 0 where
 
 -- The machines have gone through these characters of a line, none of which ended it: with these brackets open, where each string is one
 -- piece.
-pub record IsUnderWay (m : Mode) (scan : Scan) (read : List ℕ) : Type 0 where
+pub record IsUnderWay (m : Mode) (read : List ℕ) : Type 0 where
   pub state : Scanned
   pub steps : scan_steps (Some (line_start m)) read ≡ Some state
   pub brackets : List Bracket
@@ -57,7 +61,24 @@ pub record IsUnderWay (m : Mode) (scan : Scan) (read : List ℕ) : Type 0 where
   pub one_line : EndsNoLine 0 state.done
   pub field : FieldScanned
   pub field_steps : field_steps_from (Some (line_begun m)) read ≡ Some field
-  pub follows : Follows scan field
+
+-- the scan of a text has come to `rest`
+pub record Reached (m : Mode) (text : List ℕ) (scan : Scan) (rest : List ℕ) : Type 0 where
+  pub read : List ℕ
+  pub way : IsUnderWay m read
+  pub rests : Rests scan way.field rest
+  pub spell : encode_utf8_all read ++ rest ≡ text
+  pub scalars : all_scalars read ≡ true
+
+-- this holds of each text of which the scan has come to these bytes
+abbrev pub WhereverReached : Scan → List ℕ → (Mode → List ℕ → Type 0) → Type 0
+WhereverReached scan rest holds =
+    (m : Mode) (whole : List ℕ) → IsScanSound (line_start m) [] → Reached m whole scan rest → holds m whole
+
+-- it has come there in some line
+abbrev pub ReachedInSomeLine : Scan → List ℕ → Type 0
+ReachedInSomeLine scan rest =
+    (m : Mode) × (whole : List ℕ) × IsScanSound (line_start m) [] × Reached m whole scan rest
 
 -- these characters are a line with its line end, and may stand before what follows
 pub record IsAtLineEnd (m : Mode) (scan : Scan) (read rest : List ℕ) (len : ℕ) : Type 0 where
@@ -71,38 +92,6 @@ pub record IsAtLineEnd (m : Mode) (scan : Scan) (read rest : List ℕ) (len : �
   pub strings : StringsFit 0 (body ++ last ∷ [])
   pub stop : scan.stop ≡ byte_len read
 
--- the line goes on with this character, or is refused: it hadn't ended before, with CR
-abbrev pub IsNotEnded : Scan → ℕ → Type 0
-IsNotEnded scan c = is_returned scan && not (is_line_feed c) ≡ false
-
--- what one more character comes to after these of a line, where the machine stands so: a scan that refused it is as it was
-abbrev pub Takes : Mode → List ℕ → Scanned → Scan → ℕ → Progress → Scan → Type 0
-Takes m read s old c progress.Going new = IsUnderWay m new (read ++ c ∷ [])
-Takes m read s old c (progress.LineEnded len) new = (old.frames ≡ []) × ((rest : List ℕ) → IsAtLineEnd m new (read ++ c ∷ []) rest len)
-Takes m read s old c progress.Refused new = (stack_if (scan_step s c) ≡ None) × (new ≡ old)
-
--- so wherever it is under way in a line
-abbrev pub TakesNext : Scan → ℕ → Progress → Scan → Type 0
-TakesNext old c result new =
-    (m : Mode) (read : List ℕ) → IsScanSound (line_start m) [] → (way : IsUnderWay m old read) → IsNotEnded old c
-    → Takes m read way.state old c result new
-
--- the scan of a line's characters stops after these, with `rest` after them
-abbrev pub StopsSo : Mode → Scan → Stop → List ℕ → List ℕ → Type 0
-StopsSo m scan stops.TextEnd read rest = IsUnderWay m scan read × (rest ≡ []) × (is_returned scan ≡ false)
-StopsSo m scan (stops.LineEnd len) read rest = IsAtLineEnd m scan read rest len
-StopsSo m scan (stops.Refused c) read rest =
-    (way : IsUnderWay m scan read) × (after : List ℕ) × (rest ≡ encode_utf8_all (c ∷ after))
-    × (stack_if (scan_step way.state c) ≡ None) × IsNotEnded scan c
-
--- where the scan of a text stops: after some of its characters
-pub record Scans (m : Mode) (text : List ℕ) (scan : Scan) (stop : Stop) : Type 0 where
-  pub read : List ℕ
-  pub rest : List ℕ
-  pub scalars : all_scalars read ≡ true
-  pub spell : encode_utf8_all read ++ rest ≡ text
-  pub stops : StopsSo m scan stop read rest
-
 -- LF doesn't follow CR
 abbrev pub IsApart : List ℕ → List ℕ → Type 0
 IsApart read after = ends is_return read ≡ true → begins is_line_feed after ≡ false
@@ -115,18 +104,40 @@ IsLineBefore m scan read len = (after : List ℕ) → IsApart read after → IsA
 abbrev pub EndsWhole : List ℕ → List ℕ → Type 0
 EndsWhole read rest = (ends is_return read ≡ false) ⊎ ((b : ℕ) × (more : List ℕ) × (rest ≡ b ∷ more) × (b ≡ 10 → ⊥))
 
--- The scan of a line stops after these characters of it, with `rest` after them. Where no character follows, more bytes may.
-abbrev pub StopsIn : Mode → Scan → Stop → List ℕ → List ℕ → Type 0
-StopsIn m scan stops.TextEnd read rest = IsUnderWay m scan read × StartsWithNoChar rest
-StopsIn m scan (stops.LineEnd len) read rest = IsLineBefore m scan read len × EndsWhole read rest
-StopsIn m scan (stops.Refused c) read rest =
-    (way : IsUnderWay m scan read) × (after : List ℕ) × IsScalar c × (rest ≡ encode_utf8 c ++ after)
-    × (stack_if (scan_step way.state c) ≡ None) × IsNotEnded scan c
+-- All characters of a text were gone over, up to bytes that begin none, and the line may go on. The scan stops there, or before the last
+-- of them, which don't tell yet what they are: the state that it keeps count of goes over them, to one that stands as the machine does.
+-- After CR that ends the line no byte is known.
+pub record IsLeft (m : Mode) (whole : List ℕ) (scan : Scan) (read rest : List ℕ) : Type 0 where
+  pub way : IsUnderWay m read
+  pub none : StartsWithNoChar rest
+  pub left : List ℕ
+  pub reached : Reached m whole scan left
+  pub pending : HasPending scan.mode left
+  pub all : GoesOverAll reached.rests.as_if left
+  pub rest_is : all.rest ≡ rest
+  pub stands : StandsAs rest way.field all.to
+  pub alone : has_returned all.to ≡ true → rest ≡ []
 
--- where the scan of a line stops that began with these bytes
+-- the machines refuse the character after these of a line, which hadn't ended before it with CR
+pub record IsRefused (m : Mode) (read rest : List ℕ) (line_fault : LineFault) : Type 0 where
+  pub way : IsUnderWay m read
+  pub c : ℕ
+  pub after : List ℕ
+  pub scalar : IsScalar c
+  pub spell : rest ≡ encode_utf8 c ++ after
+  pub none : stack_if (scan_step way.state c) ≡ None
+  pub open_yet : has_returned way.field && not (is_line_feed c) ≡ false
+  pub fault : IsFieldFault way.field c line_fault
+
+-- the scan of a line that began with these bytes stops so, where it has gone over these characters of it, with `rest` after them
+abbrev pub StopsIn : Mode → List ℕ → Scan → Stop → List ℕ → List ℕ → Type 0
+StopsIn m whole scan stops.TextEnd read rest = IsLeft m whole scan read rest
+StopsIn m whole scan (stops.LineEnd len) read rest = IsLineBefore m scan read len × EndsWhole read rest
+StopsIn m whole scan (stops.Wrong line_fault) read rest = IsRefused m read rest line_fault
+
 pub record ScansIn (m : Mode) (whole : List ℕ) (scan : Scan) (stop : Stop) : Type 0 where
   pub read : List ℕ
   pub rest : List ℕ
   pub scalars : all_scalars read ≡ true
   pub spell : encode_utf8_all read ++ rest ≡ whole
-  pub stops : StopsIn m scan stop read rest
+  pub stops : StopsIn m whole scan stop read rest

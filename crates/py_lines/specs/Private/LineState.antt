@@ -1,18 +1,15 @@
 -- What the reader inside a `Lines` and the one inside a `Scanner` have in common: where the next line begins, what the
 -- scan knows of that line, and the text's fault.
-use Rattle.std.specs.Prelude.{◌≡◌, ℕ, zero, suc, ◌+◌, ◌<◌, ◌⊎◌, Option, None, Some, List, encode_utf8_all}
+use Rattle.std.specs.Prelude.{◌≡◌, ℕ, zero, suc, ◌+◌, None, Some, List, encode_utf8_all}
 use Rattle.py_lines.specs.LogicalLine.{LogicalLine, line_ends}
-use Rattle.py_lines.specs.Private.Scan.{EndsField}
 use Rattle.py_lines.specs.Private.LineScan.{HasBegun}
 use Rattle.py_lines.specs.declared.fault.Fault.{Fault}
 use Rattle.py_lines.specs.declared.fault.FaultKind.{FaultKind}
-use Rattle.py_lines.specs.declared.fault.FaultKind.TheVariants.{BadUtf8}
 use Rattle.py_lines.specs.declared.fault.LexError.{LexError}
 use Rattle.py_lines.specs.declared.fault.LexError.TheVariants as lex
 use Rattle.py_lines.specs.declared.line_state.LineState.{LineState}
-use Rattle.py_lines.specs.declared.mode.Mode.{Mode}
-use Rattle.py_lines.specs.declared.mode.Mode.TheVariants as modes
-use Rattle.py_lines.specs.declared.scan.LineFault.{LineFault}
+use Rattle.py_lines.specs.Private.Machine.{Mode}
+use Rattle.py_lines.specs.Private.Mode as modes
 use Rattle.py_lines.specs.declared.scan.Scan.{Scan}
 
 -- what is open where a line begins: a mark may stand at the text's start
@@ -69,10 +66,3 @@ pub record KeepsFault (old : LineState) (kind : FaultKind) (offset : ℕ) (bytes
   pub error_is : error ≡ lex.Fault fault
   pub at : IsFaultAfter old kind offset bytes fault
   pub same : new ≡ record old { fault = Some fault }
-
--- what is wrong where the text ends so many bytes after the characters that were scanned: they begin no character, or else
--- something is open
-abbrev pub IsEndLineFault : Scan → ℕ → Option LineFault → Type 0
-IsEndLineFault scan rest None = (rest ≡ 0) × EndsField scan None
-IsEndLineFault scan rest (Some line_fault) =
-    ((0 < rest) × (line_fault.kind ≡ BadUtf8) × (line_fault.place ≡ scan.stop)) ⊎ ((rest ≡ 0) × EndsField scan (Some line_fault))

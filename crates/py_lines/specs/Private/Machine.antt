@@ -9,9 +9,21 @@ use Rattle.py_lines.specs.PieceGrammar.{IsRun, IsComment, IsPrefix, is_item, is_
 use Rattle.py_lines.specs.Balance.{is_opener, is_closer, closing_of}
 use Rattle.py_lines.specs.LogicalLine.{first_or_zero, byte_len}
 pub use Rattle.py_lines.specs.declared.mode.Spelling.{Spelling}
-pub use Rattle.py_lines.specs.declared.mode.Mode.{Mode}
-pub use Rattle.py_lines.specs.declared.mode.Move.{Move}
-pub use Rattle.py_lines.specs.declared.mode.Start.{Start}
+pub use Rattle.py_lines.specs.Private.Mode.{Mode}
+
+-- what a character does to the piece that is open
+pub data Move : Type 0 where
+  Grows : Mode → Move
+  Closes : Move
+  Breaks : Move
+  Refused : Move
+
+-- what a character begins
+pub data Start : Type 0 where
+  Open : Mode → Start
+  Operator : Start
+  LineEnd : Start
+  Nothing : Start
 
 -- the spelling of a word of one character
 unfoldable pub first_spelling : ℕ → Spelling

@@ -6,17 +6,17 @@ use Rattle.py_lines.specs.Character.{is_break, is_line_feed, is_quote, is_return
 use Rattle.py_lines.specs.LogicalLine.{line_ends}
 use Rattle.py_lines.specs.Piece.{Piece, begins, ends, line_end, string}
 use Rattle.py_lines.specs.Private.Machine.{Scanned, fresh, Bracket, brackets_of, first_spelling, spelling_with}
-use Rattle.py_lines.specs.Private.ScanMachine.{IsScanSound, begins_string, is_field_spelling, meet_of, scan_steps}
+use Rattle.py_lines.specs.Private.ScanMachine.{IsScanSound, begins_string, code_mode, is_field_spelling, meet_of, scan_steps}
 use Rattle.py_lines.specs.Private.LineScan.{AreLine, EndsNoLine, EndsWhole, line_start, none_open}
 use Rattle.py_lines.specs.Private.Run.{is_ascii_word}
+use Rattle.py_lines.specs.Private.Scan.{IsFirstByte, is_ending}
 use Rattle.py_lines.specs.Private.FieldText.{is_apart_mode}
-use Rattle.py_lines.specs.declared.mode.Mode.{Mode}
-use Rattle.py_lines.specs.declared.mode.Mode.TheVariants as modes
-use Rattle.py_lines.specs.declared.mode.Move.TheVariants as moves
+use Rattle.py_lines.specs.Private.Machine.{Mode}
+use Rattle.py_lines.specs.Private.Mode as modes
+use Rattle.py_lines.specs.Private.Machine.{Move as moves}
 use Rattle.py_lines.specs.declared.mode.Spelling.{Spelling}
 use Rattle.py_lines.specs.declared.outline.PassedPiece.{PassedPiece}
-use Rattle.py_lines.specs.declared.prefix.Prefix.{Prefix}
-use Rattle.py_lines.specs.declared.prefix.Prefix.TheVariants as prefixes
+use Rattle.py_lines.specs.declared.mode.Spelling.TheVariants as spellings
 
 -- a line end: CR LF, or LF alone
 abbrev pub line_end_of : Bool → List ℕ
@@ -39,7 +39,7 @@ pub record BeginsOuterEnd (bytes : List ℕ) (len : ℕ) : Type 0 where
   pub is : IsOuterEnd (take len bytes) (drop len bytes)
 
 abbrev pub HasOuterEnd : List ℕ → Option ℕ → Type 0
-HasOuterEnd bytes None = Unit {0}
+HasOuterEnd bytes None = begins is_break bytes ≡ true → bytes ≡ 13 ∷ []
 HasOuterEnd bytes (Some len) = BeginsOuterEnd bytes len
 
 -- the machine has gone through these characters of a line, which began soundly in this mode, and stands so, where these brackets are open
@@ -67,11 +67,9 @@ abbrev pub is_plain_prefix : Option Spelling → Bool
 is_plain_prefix None = true
 is_plain_prefix (Some s) = if is_field_spelling s then false else begins_string s
 
--- what such a word makes of a string that begins after it
-abbrev pub IsPrefix : Prefix → Option Spelling → Type 0
-IsPrefix prefixes.Plain tail = is_plain_prefix tail ≡ true
-IsPrefix prefixes.Fields tail = (s : Spelling) × (tail ≡ Some s) × (is_field_spelling s ≡ true)
-IsPrefix prefixes.Other tail = Unit {0}
+-- such a word was found, or is known to begin no string
+abbrev pub IsWordBefore : Option Spelling → Option Spelling → Type 0
+IsWordBefore found tail = (found ≡ tail) ⊎ ((found ≡ Some spellings.Name) × (s : Spelling) × (tail ≡ Some s) × (begins_string s ≡ false))
 
 -- such a word is open; or where there is none, space, or no piece
 abbrev pub IsTail : Option Spelling → Mode → Type 0
@@ -84,11 +82,11 @@ pub record GoesOnAfter (m : Mode) (read : List ℕ) (st : List Bracket) : Type 0
   pub come : HasCome m read st state
   pub tail : IsTail (tail_of read) state.mode
 
--- the piece that is open after these characters ends before this byte; it is a line end in brackets alone
+-- the piece that is open after these characters ends before each character that begins with this byte; it is a line end in brackets alone
 pub record EndsBefore (c : ℕ) (m : Mode) (read : List ℕ) (st : List Bracket) : Type 0 where
   pub state : Scanned
   pub come : HasCome m read st state
-  pub breaks : meet_of state.mode c ≡ moves.Breaks
+  pub breaks : (d : ℕ) → IsFirstByte c d → meet_of state.mode d ≡ moves.Breaks
   pub inside : state.mode ≡ modes.Return → none_open st ≡ false
   pub tail : is_ascii_word c || is_quote c ≡ true → tail_of read ≡ None
 
@@ -102,10 +100,15 @@ pub record IsFreeAfter (m : Mode) (read : List ℕ) (st : List Bracket) : Type 0
   pub done : List Piece
   pub come : HasCome m read st (fresh done)
 
--- no piece is open, where it is known that the last one has closed itself; else the line stands as above
-abbrev pub StandsClosed : Bool → List ℕ → Mode → List ℕ → List Bracket → Type 0
-StandsClosed true bytes = IsFreeAfter
-StandsClosed false bytes = StandsBefore bytes
+-- the piece that is open ends so, and is no word
+pub record ClosesBefore (c : ℕ) (m : Mode) (read : List ℕ) (st : List Bracket) : Type 0 where
+  pub ends : EndsBefore c m read st
+  pub may : is_ending (code_mode ends.state.mode) ≡ true
+
+-- no piece is open, or one is that ends before the bytes that follow
+abbrev pub StandsFree : List ℕ → Mode → List ℕ → List Bracket → Type 0
+StandsFree [] m read st = IsFreeAfter m read st
+StandsFree (c ∷ rest) m read st = IsFreeAfter m read st ⊎ ClosesBefore c m read st
 
 -- what stands before a piece of a line: the mode that the line began in, and the finished pieces
 pub record BeforePiece : Type 0 where
@@ -126,10 +129,10 @@ pub record HasClosedString (before : BeforePiece) (read : List ℕ) (st : List B
 abbrev pub StringBegins : ℕ → BeforePiece → List ℕ → List Bracket → Type 0
 StringBegins q before read = IsInPieceAfter (modes.Opened q) before (read ++ q ∷ [])
 
--- it was closed, where it holds something; else it stands before the bytes that follow
+-- it was closed, where it holds something; else it ends before the bytes that follow
 abbrev pub StringEnds : Bool → List ℕ → BeforePiece → List ℕ → List Bracket → Type 0
 StringEnds true bytes = HasClosedString
-StringEnds false bytes = λ before. StandsBefore bytes before.mode
+StringEnds false bytes = λ before. StandsFree bytes before.mode
 
 -- wherever a line stands so, it comes to stand so after so many of the bytes; what stands before them stays the same: the mode that the
 -- line began in, or what is before a piece
@@ -145,56 +148,28 @@ pub record Passes {Before : Type 0} (bytes : List ℕ) (len : ℕ) (stands comes
   pub some : 0 < len
   pub part : PassesPart bytes len stands comes
 
--- the part that was passed leads there, if one was passed
-abbrev pub PassesOrNot : {Before : Type 0} → List ℕ → Option ℕ → (stands comes : Before → List ℕ → List Bracket → Type 0) → Type 0
-PassesOrNot {Before} bytes None stands comes = Unit {0}
-PassesOrNot {Before} bytes (Some len) stands comes = Passes bytes len stands comes
-
--- what is open in a short string of this quote after so many bytes of it
-abbrev pub short_mode : ℕ → ℕ → Mode
-short_mode q len = if len == 1 then modes.Opened q else modes.Inside q
-
-abbrev pub IsInShort : ℕ → ℕ → BeforePiece → List ℕ → List Bracket → Type 0
-IsInShort q len = IsInPieceAfter (short_mode q len)
-
--- a string of three such quotes is open, which ends with none of these bytes
-abbrev pub IsInLong : ℕ → BeforePiece → List ℕ → List Bracket → Type 0
-IsInLong q = IsInPieceAfter (modes.Long q)
-
--- the bytes begin with three such quotes
-pub record BeginsLong (q : ℕ) (bytes : List ℕ) : Type 0 where
-  pub within : 3 ≤ length bytes
-  pub spell : take 3 bytes ≡ q ∷ q ∷ q ∷ []
-
--- the bytes begin with a backslash and another byte of ASCII
-pub record BeginsEscape (bytes : List ℕ) : Type 0 where
-  pub c : ℕ
-  pub rest : List ℕ
-  pub spell : bytes ≡ 92 ∷ c ∷ rest
-  pub ascii : c < 128
-
--- the piece at a byte of a line, which stands there so; it is known how the bytes up to it end, and that few brackets are open
+-- the piece at a byte of a line, which stands there so; it is known how the bytes up to a quote end, and that few brackets are open
 abbrev pub StandsAt : List ℕ → ℕ → Mode → List ℕ → List Bracket → Type 0
 StandsAt bytes at m read st =
-    (tail_of read ≡ tail_of (take at bytes)) × (length st ≤ 100) × StandsBefore (drop at bytes) m read st
+    (is_quote (slice_index bytes at) ≡ true → tail_of read ≡ tail_of (take at bytes)) × (length st ≤ 100) × StandsBefore (drop at bytes) m read st
 
 -- so many line ends stand in as many bytes from this one on, which don't end between CR and LF
 pub record HoldsEnds (bytes : List ℕ) (at len n : ℕ) : Type 0 where
   pub count : line_ends (take len (drop at bytes)) ≡ n
   pub apart : ends is_return (take len (drop at bytes)) && begins is_line_feed (drop (at + len) bytes) ≡ false
 
--- it was passed, and may be known to have closed itself
-abbrev pub PassesAt : List ℕ → ℕ → ℕ → Bool → Type 0
-PassesAt bytes at len closes =
-    (at + len ≤ length bytes) × Passes (drop at bytes) len (StandsAt bytes at) (StandsClosed closes (drop len (drop at bytes)))
+-- it was passed
+abbrev pub PassesAt : List ℕ → ℕ → ℕ → Type 0
+PassesAt bytes at len =
+    (at + len ≤ length bytes) × Passes (drop at bytes) len (StandsAt bytes at) (StandsFree (drop len (drop at bytes)))
 
 abbrev pub PassesPiece : List ℕ → ℕ → Option PassedPiece → Type 0
 PassesPiece bytes at None = Unit {0}
-PassesPiece bytes at (Some p) = PassesAt bytes at p.len p.closes × HoldsEnds bytes at p.len p.line_ends
+PassesPiece bytes at (Some p) = PassesAt bytes at p.len × HoldsEnds bytes at p.len p.line_ends
 
 -- so the comment or the join that the bytes begin with
-abbrev pub PassesFirst : List ℕ → ℕ → Bool → Type 0
-PassesFirst bytes len closes = Passes bytes len (StandsBefore bytes) (StandsClosed closes (drop len bytes))
+abbrev pub PassesFirst : List ℕ → ℕ → Type 0
+PassesFirst bytes len = Passes bytes len (StandsBefore bytes) (StandsFree (drop len bytes))
 
 -- so a string, from where it begins so
 abbrev pub PassesString : (BeforePiece → List ℕ → List Bracket → Type 0) → List ℕ → ℕ → Type 0

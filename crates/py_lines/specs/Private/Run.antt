@@ -1,21 +1,18 @@
 -- Runs of bytes that a text begins with, which leave the open piece as it is.
-use Rattle.std.specs.Prelude.{◌&&◌, Option, None, Some, ◌≡◌, ℕ, ◌+◌, ◌-◌, ◌<◌, ◌≤◌, ◌⊎◌, Bool, true, false, ◌==◌, ◌||◌, not, nat_lt, nat_le, if◌then◌else◌, map, List, [], ◌∷◌, ◌++◌, length, take, drop, slice_index, codes, encode_utf8, encode_utf8_all}
-use Rattle.std.specs.Str.{all_scalars, byte, IsUtf8}
+use Rattle.std.specs.Prelude.{◌&&◌, Option, None, Some, ◌≡◌, ℕ, ◌+◌, ◌-◌, ◌<◌, ◌≤◌, ◌⊎◌, Bool, true, false, ◌==◌, ◌||◌, not, nat_lt, nat_le, if◌then◌else◌, map, List, [], ◌∷◌, ◌++◌, length, take, drop, slice_index, codes, encode_utf8}
+use Rattle.std.specs.Str.{byte, IsUtf8}
 use Rattle.std.specs.Char.{is_ascii_alphanumeric, len_utf8, IsScalar}
 use Rattle.std.specs.List.{list_all, prefix_len}
 use Rattle.py_lines.specs.Character.{is_one_of, is_brace, is_space, is_break, is_hash, is_backslash, is_quote}
 use Rattle.py_lines.specs.Private.Machine.{IsFull, first_spelling, spelling_on}
-use Rattle.py_lines.specs.Private.ScanMachine.{IsScanSound, line_start}
-use Rattle.py_lines.specs.Private.LineScan.{IsUnderWay}
-use Rattle.py_lines.specs.declared.field_mode.FieldMode.{FieldMode}
-use Rattle.py_lines.specs.declared.field_mode.FieldMode.TheVariants as field_modes
+use Rattle.py_lines.specs.declared.mode.Mode.{Mode as OpenMode}
+use Rattle.py_lines.specs.declared.mode.Mode.TheVariants as opens
 use Rattle.py_lines.specs.declared.mode.Spelling.{Spelling}
 use Rattle.py_lines.specs.declared.mode.Spelling.TheVariants as spellings
-use Rattle.py_lines.specs.declared.mode.Mode.{Mode}
-use Rattle.py_lines.specs.declared.mode.Mode.TheVariants as modes
+use Rattle.py_lines.specs.Private.Machine.{Mode}
+use Rattle.py_lines.specs.Private.Mode as modes
 use Rattle.py_lines.specs.declared.run.ByteRun.{ByteRun}
 use Rattle.py_lines.specs.declared.run.ByteRun.TheVariants as runs
-use Rattle.py_lines.specs.declared.scan.Scan.{Scan}
 
 -- as many bytes pass as there are before the first that doesn't
 pub record IsRunOf (passes : ℕ → Bool) (bytes : List ℕ) (len : ℕ) : Type 0 where
@@ -107,48 +104,20 @@ is_in_run (runs.Literal q) = is_literal_byte q
 is_in_run runs.Code = is_code_byte
 is_in_run runs.Remark = is_remark_byte
 
--- whether a byte, or a character, leaves the open piece as it is
-abbrev pub stays : Mode → ℕ → Bool
-stays modes.Space c = is_space c
-stays (modes.Word spellings.Number) c = is_ascii_word c
-stays (modes.Word spellings.Name) c = is_ascii_word c
-stays modes.Comment c = is_comment_byte c
-stays (modes.Inside q) c = is_body_byte q c
-stays (modes.Long q) c = is_long_byte q c
+-- whether a byte, or a character, leaves the open piece as it is, where that is no string with fields
+abbrev pub stays : OpenMode → ℕ → Bool
+stays opens.Space c = is_space c
+stays (opens.Word spellings.Number) c = is_ascii_word c
+stays (opens.Word spellings.Name) c = is_ascii_word c
+stays opens.Comment c = is_comment_byte c
+stays (opens.Short q) c = is_body_byte q c
+stays (opens.Long q) c = is_long_byte q c
 stays other c = false
-
--- the quote of the open string, if one is open, is one byte
-abbrev pub HasAsciiQuote : Mode → Type 0
-HasAsciiQuote (modes.Inside q) = q < 128
-HasAsciiQuote (modes.Long q) = q < 128
-HasAsciiQuote other = Unit {0}
-
--- so for what is open
-abbrev pub HasAsciiQuoteOpen : FieldMode → Type 0
-HasAsciiQuoteOpen (field_modes.Code m) = HasAsciiQuote m
-HasAsciiQuoteOpen other = Unit {0}
 
 -- a character that these bytes begin with
 pub record BeginsWith (bytes : List ℕ) (c : ℕ) : Type 0 where
   pub scalar : IsScalar c
   pub spell : encode_utf8 c ++ drop (len_utf8 c) bytes ≡ bytes
-
--- the scan of a text has come to `rest`
-pub record Reached (m : Mode) (text : List ℕ) (scan : Scan) (rest : List ℕ) : Type 0 where
-  pub read : List ℕ
-  pub way : IsUnderWay m scan read
-  pub spell : encode_utf8_all read ++ rest ≡ text
-  pub scalars : all_scalars read ≡ true
-
--- this holds of each text of which the scan has come to these bytes
-abbrev pub WhereverReached : Scan → List ℕ → (Mode → List ℕ → Type 0) → Type 0
-WhereverReached scan rest holds =
-    (m : Mode) (whole : List ℕ) → IsScanSound (line_start m) [] → Reached m whole scan rest → holds m whole
-
--- it has come there in some line
-abbrev pub ReachedInSomeLine : Scan → List ℕ → Type 0
-ReachedInSomeLine scan rest =
-    (m : Mode) × (whole : List ℕ) × IsScanSound (line_start m) [] × Reached m whole scan rest
 
 -- what a line end, a comment or a join of lines begins with
 abbrev pub is_apart : ℕ → Bool

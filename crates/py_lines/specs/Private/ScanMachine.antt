@@ -8,10 +8,10 @@ use Rattle.py_lines.specs.Piece.{string, Piece, spelled}
 use Rattle.py_lines.specs.PieceGrammar.{AreReadIn}
 use Rattle.py_lines.specs.Balance.{depth_through, EachAtDepth}
 use Rattle.py_lines.specs.Fields.{fielded, ShallowFields}
-use Rattle.py_lines.specs.FieldStrings.{is_field_prefix, Host, Place, with_fields}
+use Rattle.py_lines.specs.FieldStrings.{is_field_prefix, Host, Place, literal, with_fields}
 use Rattle.py_lines.specs.declared.host.StringWithFields.{StringWithFields}
 use Rattle.py_lines.specs.Private.Machine.{Spelling, Mode, Move, Scanned, moved, steps_by, class_of, move_of, spelling_with, Holds}
-use Rattle.py_lines.specs.Private.FieldMachine.{At, opened, empty, plain, body, FieldMove, closes, Level, FieldScanned, field_state, field_text_start, field_move, field_step, field_steps_from, frames, has_room_at}
+use Rattle.py_lines.specs.Private.FieldMachine.{At, between, opened, empty, plain, body, FieldMode, FieldMove, grows, closes, breaks, refused, between_move, long_host, Level, FieldScanned, field_state, field_text_start, field_move, field_step, field_steps_from, frames, has_room_at}
 
 -- whether the word is the prefix of a string with fields
 abbrev pub is_field_spelling : Spelling → Bool
@@ -154,3 +154,21 @@ line_start m = record { done = []; mode = m; held = [] }
 
 abbrev pub line_begun : Mode → FieldScanned
 line_begun m = field_state [] [] [] (plain m) []
+
+-- the piece of code that is open, in the words of the machine with fields, and what a character does to it
+abbrev pub code_mode : Mode → FieldMode
+code_mode (Mode.FieldOpened h) = opened (host_in h)
+code_mode (Mode.FieldEmpty h) = empty (host_in h)
+code_mode m = plain m
+
+abbrev pub code_moved : Move → FieldMove
+code_moved (Move.Grows m) = grows (code_mode m)
+code_moved Move.Closes = closes
+code_moved Move.Breaks = breaks
+code_moved Move.Refused = refused
+
+-- what a character does to the piece of code that is open
+unfoldable pub code_move : Mode → ℕ → FieldMove
+code_move (Mode.FieldOpened h) c = if c == h.quote then grows (empty (host_in h)) else between_move (host_in h) literal false between c
+code_move (Mode.FieldEmpty h) c = if c == h.quote then grows (body (long_host (host_in h)) literal false between) else breaks
+code_move m c = code_moved (meet_of m c)

@@ -6,15 +6,17 @@ use Rattle.py_lines.specs.Token.{EachLiesIn}
 use Rattle.py_lines.specs.Reader.{Continues, Ends, Fails, ReaderRunsOut}
 pub use Rattle.py_lines.specs.Reader.View.{reader_of}
 pub use Rattle.py_lines.specs.declared.fault.LexError.{LexError}
-use Rattle.py_lines.specs.Private.LineScan.{Scans}
+use Rattle.py_lines.specs.Private.LineScan.{ScansIn}
+use Rattle.py_lines.specs.Private.Scan.{EndsTextSo}
 use Rattle.py_lines.specs.Private.LineState.{KeepsFault, first_mode, read_line, with_tokens}
 use Rattle.py_lines.specs.Private.LineTokens.{HoldsTokens, IsLineAfter}
 pub use Rattle.py_lines.specs.declared.fault.FaultKind.{FaultKind}
 pub use Rattle.py_lines.specs.declared.scan.Stop.{Stop}
+use Rattle.py_lines.specs.declared.scan.Stop.TheVariants as stops
 pub use Rattle.py_lines.specs.declared.source.Source.{Source}
 pub use Rattle.py_lines.specs.declared.line_state.LineState.{LineState}
 pub use Rattle.py_lines.specs.declared.scan.LineFault.{LineFault}
-pub use Rattle.py_lines.specs.declared.mode.Mode.{Mode}
+pub use Rattle.py_lines.specs.Private.Machine.{Mode}
 
 -- the logical line that was read last
 abbrev pub line_of_source : Source → LogicalLine
@@ -41,16 +43,31 @@ abbrev pub GivesLine : Source → ℕ → Result (Unit {0}) AllocError → Sourc
 GivesLine old end_len (Ok done) new = GivesTokens old end_len new
 GivesLine old end_len (Err e) new = reader_of new ≡ reader_of old
 
--- the text has this fault from now on: so many bytes after the lines that were read
-pub record FailsAfter (old : Source) (kind : FaultKind) (offset : ℕ) (error : LexError) (new : Source) : Type 0 where
+-- the text has this fault of the next line from now on
+pub record FailsAfter (old : Source) (line_fault : LineFault) (error : LexError) (new : Source) : Type 0 where
   pub bytes : new.bytes ≡ old.bytes
-  pub keeps : KeepsFault old.state kind offset (take offset (drop old.state.place old.characters.now)) error new.state
+  pub keeps : KeepsFault old.state line_fault.kind line_fault.place
+      (take line_fault.place (drop old.state.place old.characters.now)) error new.state
 
 -- the scan of the next line has stopped so
 pub record HasScanned (s : Source) (stop : Stop) : Type 0 where
   pub more : s.state.place < length s.bytes.now
   pub no_fault : s.state.fault ≡ None
-  pub scans : Scans (first_mode s.state.place) (drop s.state.place s.characters.now) s.state.scan stop
+  pub scans : ScansIn (first_mode s.state.place) (drop s.state.place s.characters.now) s.state.scan stop
+
+-- the scan alone has changed
+pub record ChangesScan (old new : Source) : Type 0 where
+  pub bytes : new.bytes ≡ old.bytes
+  pub characters : new.characters ≡ old.characters
+  pub state : new.state ≡ record old.state { scan = new.state.scan }
+
+-- its end, with what is left of the text where the scan has stopped before bytes that don't tell
+abbrev pub EndsLine : Source → Stop → Result ℕ LineFault → Source → Type 0
+EndsLine old stops.TextEnd result new =
+    ChangesScan old new
+    × EndsTextSo old.state.scan (drop (old.state.place + old.state.scan.stop) old.bytes.now) result new.state.scan
+EndsLine old (stops.LineEnd len) result new = (result ≡ Ok len) × (new ≡ old)
+EndsLine old (stops.Wrong line_fault) result new = (result ≡ Err line_fault) × (new ≡ old)
 
 -- what a call that reads the next line answers and leaves
 abbrev pub Advances : Source → Result Bool LexError → Source → Type 0

@@ -1,17 +1,13 @@
 -- Whole pieces, which the scan of a line passes over: what they leave.
-use Rattle.std.specs.Prelude.{◌≡◌, ℕ, ◌+◌, ◌-◌, ◌≤◌, ◌⊎◌, true, List, length, nat_lt, take, drop, slice_index}
+use Rattle.std.specs.Prelude.{◌≡◌, ℕ, ◌-◌, ◌≤◌, ◌⊎◌, true, List, length, slice_index}
 use Rattle.py_lines.specs.declared.class.Class.TheVariants as class
-use Rattle.py_lines.specs.declared.mode.Mode.{Mode}
-use Rattle.py_lines.specs.declared.marks.Marks.{Marks}
-use Rattle.py_lines.specs.declared.passing.Passing.{Passing}
+use Rattle.py_lines.specs.Private.Machine.{Mode}
 use Rattle.py_lines.specs.declared.scan.Scan.{Scan}
 use Rattle.py_lines.specs.declared.scan.Stop.TheVariants as stops
 use Rattle.py_lines.specs.declared.whole_pieces.Left.{Left}
 use Rattle.py_lines.specs.declared.whole_pieces.Left.TheVariants as left
-use Rattle.py_lines.specs.Private.Marks.{FindsNext, is_of_class}
-use Rattle.py_lines.specs.Private.Passing.{passed_to}
-use Rattle.py_lines.specs.Private.Run.{Reached}
-use Rattle.py_lines.specs.Private.LineScan.{ScansIn}
+use Rattle.py_lines.specs.Private.Marks.{is_of_class}
+use Rattle.py_lines.specs.Private.LineScan.{Reached, ScansIn}
 
 -- what pieces leave of these bytes is no longer than they are
 abbrev pub IsNoLonger : List ℕ → Left → Type 0
@@ -26,15 +22,3 @@ LeavesOff m whole scan (left.LineEnd len) = ScansIn m whole scan (stops.LineEnd 
 -- so many bytes go up to an operator that is no bracket, and with it; or none
 abbrev pub IsOperatorEnd : List ℕ → ℕ → Type 0
 IsOperatorEnd plain len = (len ≤ length plain) × ((len ≡ 0) ⊎ (is_of_class class.Operator (slice_index plain (len - 1)) ≡ true))
-
--- up to the last operator among the plain bytes that stand before this one, if there is one, they were passed, and close what was
-abbrev pub PassesOperators : List ℕ → ℕ → Passing → Passing → Type 0
-PassesOperators bytes at old new =
-    (len : ℕ) × IsOperatorEnd (take (at - old.all) (drop old.all bytes)) len
-    × (new ≡ passed_to old (old.all + len) 0 (nat_lt 0 len))
-
--- the next byte that isn't plain stands there, or the bytes end, and operators before it were passed, or none
-abbrev pub FindsSpecial : List ℕ → Passing → ℕ → Passing → Type 0
-FindsSpecial bytes old at new =
-    (marks : Marks) × FindsNext bytes old.all at marks
-    × ((new ≡ record old { marks = marks }) ⊎ PassesOperators bytes at (record old { marks = marks }) new)

@@ -4,7 +4,8 @@ use Rattle.py_lines.specs.Private.FieldText.{HasQuotedText}
 use Rattle.py_lines.specs.Private.LineTokens.{IsStringLen, role_of}
 use Rattle.py_lines.specs.Private.Outline.{HasString}
 use Rattle.py_lines.proofs.FieldScans.TextLengths.{rest_of}
-use Rattle.py_lines.proofs.LineTokens.Strings.{fields_taken, plain_taken, string_text, string_within}
+use Rattle.py_lines.proofs.LineTokens.FirstString.{string_text, string_within}
+use Rattle.py_lines.proofs.LineTokens.Strings.{fields_taken, plain_taken}
 use Rattle.py_lines.proofs.line_tokens.string.Goals as goal
 use Rattle.py_lines.proofs.line_tokens.string.Goals.{Joined-simple, then-has_fields, else-has_fields, in-Some, in_default}
 

@@ -1,4 +1,4 @@
-use Rattle.std.proofs.Common.{◌≡◌, ℕ, ◌+◌, true, false, List, Some, drop, slice_index, subst, rules, ◌∙◌, ap}
+use Rattle.std.proofs.Common.{◌≡◌, ℕ, ◌+◌, true, List, Some, drop, slice_index, subst, rules, ◌∙◌, ap}
 use Rattle.std.proofs.lemmas.List.{drop-drop}
 use Rattle.py_lines.specs.declared.class.Class.{Class}
 use Rattle.py_lines.specs.declared.class.Class.TheVariants as class
@@ -31,7 +31,7 @@ returns-in_ok-text-in-Hash c =
     let at = c.args.at in
     let met = own_met c.args.class class.Hash (slice_index bytes at) c.in-Hash.is c.requires.class in
     let k = c.in_ok-text-in-Hash.text in
-    let passes = first_piece bytes at (1 + k) false c.requires.within
+    let passes = first_piece bytes at (1 + k) c.requires.within
     (comment_passed (rest_of bytes at) k (search rules) (first_met class.Hash bytes at met) c.in_ok-text-in-Hash.ensures) in
     (passes, comment_ends_none bytes at k passes.0 met (subst (λ (t : List ℕ). IsWholeComment t (Some k)) (rest_after bytes at) c.in_ok-text-in-Hash.ensures))
 
@@ -41,7 +41,7 @@ returns-in_ok-line_end-in-Backslash c =
     let at = c.args.at in
     let met = own_met c.args.class class.Backslash (slice_index bytes at) c.in-Backslash.is c.requires.class in
     let len = c.in_ok-line_end-in-Backslash.line_end in (
-      first_piece bytes at (1 + len) _ c.requires.within
+      first_piece bytes at (1 + len) c.requires.within
           (join_passed (rest_of bytes at) len (search rules) (first_met class.Backslash bytes at met) c.in_ok-line_end-in-Backslash.ensures),
       join_ends_one bytes at len c.requires.within met (subst (λ (t : List ℕ). BeginsOuterEnd t len) (rest_after bytes at) c.in_ok-line_end-in-Backslash.ensures),
     )

@@ -1,13 +1,13 @@
-use Rattle.std.proofs.Common.{◌&&◌, ◌<◌, ◌==◌, arith, length, subst, sym, take, ◌≡◌, ℕ, List, false, true, slice_index, ap, ◌∙◌}
+use Rattle.std.proofs.Common.{◌&&◌, ◌<◌, ◌==◌, arith, length, sym, take, ◌≡◌, ℕ, List, false, true, slice_index, ap, ◌∙◌}
 use Rattle.std.specs.Prelude.{nat_lt}
-use Rattle.py_lines.specs.declared.prefix.Prefix.{Prefix}
 use Rattle.py_lines.specs.LogicalLine.{line_ends}
-use Rattle.py_lines.specs.Private.Outline.{HoldsEnds, IsPrefix, PassesAt, begins_long, tail_of}
+use Rattle.py_lines.specs.Private.Outline.{begins_long, is_plain_prefix, tail_of}
 use Rattle.py_lines.proofs.SimpleLines.FieldStrings.{fields_at}
+use Rattle.py_lines.proofs.SimpleLines.Prefixes.{fields_before, plain_before, plain_word}
 use Rattle.py_lines.proofs.SimpleLines.Strings.{plain_at}
 use Rattle.py_lines.proofs.SimpleLines.PieceEnds.{fields_end_none, plain_ends, short_ends_none}
+use Rattle.py_lines.proofs.outline.string.Goals.{else-rest, else-rest-gt2, in_default-via-in-Some-2+else-has_fields, in_default-via-in_default, then-rest, then-rest-gt2}
 use Rattle.py_lines.proofs.outline.string.Goals as goal
-use Rattle.py_lines.proofs.outline.string.Goals.{in-Plain+in_ok-len-in-Plain+then-is_long, in-Plain+in_ok-len-in-Plain+else-is_long, then-rest-gt2, else-rest-gt2, then-rest, else-rest, in-Fields+in_ok-quoted_text_len-in-Fields}
 use Rattle.std.proofs.lemmas.Bool.{and_parts, both_ways, false_from_ne_true, ltb-true}
 use Rattle.py_lines.specs.Character.{is_quote}
 use Rattle.py_lines.proofs.FieldScans.TextLengths.{rest_is, rest_of}
@@ -31,38 +31,50 @@ plain_string-requires-clause-quote c = quote_first c.args.bytes.now c.args.at c.
 pub quoted_text_len-requires-clause-quote : goal.quoted_text_len-requires-clause-quote
 quoted_text_len-requires-clause-quote c = quote_first c.args.bytes.now c.args.at c.requires.quote
 
-pub returns : goal.returns
-returns c =
+-- a string without fields
+pub returns-then-is_long : goal.returns-then-is_long
+returns-then-is_long c =
     let bytes = c.args.bytes.now in
     let at = c.args.at in
-    elim c.match-before.branch [
-      | in-Plain+in_ok-len-in-Plain+then-is_long w ↦
-          let before = subst (λ (p : Prefix). IsPrefix p (tail_of (take at bytes))) w.in-Plain.is c.before-2.ensures in
-          let len = w.in_ok-len-in-Plain.len in
-          let passes = plain_at bytes at len c.requires.within c.requires.quote before w.in_ok-len-in-Plain.ensures.string in
-          let counted = w.line_ends.ensures.bytes ∙ ap (λ (t : List ℕ). line_ends (take len t)) (rest_is bytes at) in
-          subst (λ (p : ℕ × ℕ). PassesAt bytes at p.0 (nat_lt 2 p.0) × HoldsEnds bytes at p.0 p.1) (sym w.len-is)
-          (passes, plain_ends bytes at len w.line_ends.result passes.0 c.requires.quote w.in_ok-len-in-Plain.ensures.ends counted)
-      | in-Plain+in_ok-len-in-Plain+else-is_long w ↦
-          let before = subst (λ (p : Prefix). IsPrefix p (tail_of (take at bytes))) w.in-Plain.is c.before-2.ensures in
-          let len = w.in_ok-len-in-Plain.len in
-          let passes = plain_at bytes at len c.requires.within c.requires.quote before w.in_ok-len-in-Plain.ensures.string in
-          let rest = rest_of bytes at in
-          let short : begins_long rest ≡ false = false_from_ne_true (begins_long rest) (λ (h : begins_long rest ≡ true).
-          let long = long_parts rest h in
-          elim w.if-rest-gt2.branch [
-            | then-rest-gt2 v ↦ elim w.if-rest.branch [
-              | then-rest u ↦ both_ways _ (sym u.is_long-is ∙ w.if-is_long.false) long.2
-              | else-rest u ↦ both_ways _ (sym v.value-is ∙ u.if-rest.false) long.1
-            ]
-            | else-rest-gt2 v ↦ let few = v.if-rest-gt2.false in let some = long.0 in omega (arith, few, some)
-          ]) in
-          subst (λ (p : ℕ × ℕ). PassesAt bytes at p.0 (nat_lt 2 p.0) × HoldsEnds bytes at p.0 p.1) (sym w.len-is)
-          (passes, short_ends_none bytes at len (w.in_ok-len-in-Plain.ensures.unbroken short))
-      | in-Fields+in_ok-quoted_text_len-in-Fields w ↦
-          let (s, tail, field) = subst (λ (p : Prefix). IsPrefix p (tail_of (take at bytes))) w.in-Fields.is c.before-2.ensures in
-          let len = w.in_ok-quoted_text_len-in-Fields.field-0 in
-          let has = w.in_ok-quoted_text_len-in-Fields.ensures in
-          subst (λ (p : ℕ × ℕ). PassesAt bytes at p.0 (nat_lt 2 p.0) × HoldsEnds bytes at p.0 p.1) (sym w.len-is)
-          (fields_at bytes at len s c.requires.within c.requires.quote tail field has, fields_end_none bytes at len has)
-    ]
+    let before = plain_before c.word_before.result (tail_of (take at bytes)) c.word_before.ensures (elim c.in_default.branch [
+      | in_default-via-in-Some-2+else-has_fields w ↦ plain_word c.word_before.result w.in-Some.spelling w.in-Some.is (sym w.is_prefix.ensures ∙ w.if-not-is_prefix.false) (sym w.has_fields.ensures ∙ w.if-has_fields.false)
+      | in_default-via-in_default w ↦ ap is_plain_prefix w.in_default.is
+    ]) in
+    let len = c.in_ok-len-in_default.len in
+    let passes = plain_at bytes at len c.requires.within c.requires.quote before c.in_ok-len-in_default.ensures.string in
+    let counted = c.line_ends.ensures.bytes ∙ ap (λ (t : List ℕ). line_ends (take len t)) (rest_is bytes at) in
+    (passes, plain_ends bytes at len c.line_ends.result passes.0 c.requires.quote c.in_ok-len-in_default.ensures.ends counted)
+
+pub returns-else-is_long : goal.returns-else-is_long
+returns-else-is_long c =
+    let bytes = c.args.bytes.now in
+    let at = c.args.at in
+    let before = plain_before c.word_before.result (tail_of (take at bytes)) c.word_before.ensures (elim c.in_default.branch [
+      | in_default-via-in-Some-2+else-has_fields w ↦ plain_word c.word_before.result w.in-Some.spelling w.in-Some.is (sym w.is_prefix.ensures ∙ w.if-not-is_prefix.false) (sym w.has_fields.ensures ∙ w.if-has_fields.false)
+      | in_default-via-in_default w ↦ ap is_plain_prefix w.in_default.is
+    ]) in
+    let len = c.in_ok-len-in_default.len in
+    let passes = plain_at bytes at len c.requires.within c.requires.quote before c.in_ok-len-in_default.ensures.string in
+    let rest = rest_of bytes at in
+    let short : begins_long rest ≡ false = false_from_ne_true (begins_long rest) (λ (h : begins_long rest ≡ true).
+    let long = long_parts rest h in
+    elim c.if-rest-gt2.branch [
+      | then-rest-gt2 v ↦ elim c.if-rest.branch [
+        | then-rest u ↦ both_ways _ (sym u.is_long-is ∙ c.if-is_long.false) long.2
+        | else-rest u ↦ both_ways _ (sym v.value-is ∙ u.if-rest.false) long.1
+      ]
+      | else-rest-gt2 v ↦ let few = v.if-rest-gt2.false in let some = long.0 in omega (arith, few, some)
+    ]) in
+    (passes, short_ends_none bytes at len (c.in_ok-len-in_default.ensures.unbroken short))
+
+-- one with fields
+pub returns-in_ok-quoted_text_len-in-Some-2 : goal.returns-in_ok-quoted_text_len-in-Some-2
+returns-in_ok-quoted_text_len-in-Some-2 c =
+    let bytes = c.args.bytes.now in
+    let at = c.args.at in
+    let s = c.in-Some.spelling in
+    let fields = sym c.has_fields.ensures ∙ c.if-has_fields.true in
+    let tail = fields_before c.word_before.result (tail_of (take at bytes)) s c.word_before.ensures c.in-Some.is fields in
+    let len = c.in_ok-quoted_text_len-in-Some-2.field-0 in
+    let has = c.in_ok-quoted_text_len-in-Some-2.ensures in
+    (fields_at bytes at len s c.requires.within c.requires.quote tail fields has, fields_end_none bytes at len has)

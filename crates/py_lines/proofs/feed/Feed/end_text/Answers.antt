@@ -1,10 +1,11 @@
-use Rattle.std.proofs.Common.{◌≢◌, Ok, length, sym, ap, ◌∙◌, subst, arith}
+use Rattle.std.proofs.Common.{◌≢◌, Err, Ok, length, sym, ap, ◌∙◌, subst, arith}
 use Rattle.std.specs.Vec.{vec_len}
 use Rattle.std.proofs.lemmas.Bool.{eqb-false}
 use Rattle.std.proofs.lemmas.Result.{err_from_is_err_and}
+use Rattle.py_lines.specs.Private.Scan.{HasPending}
 use Rattle.py_lines.specs.Private.Feed.{IsScanned}
-use Rattle.py_lines.proofs.Feeds.EndedHeld.{IsLeftOpen, all_scanned, end_fault_fails, end_fault_within, ends_plain, ends_returned, text_fault, text_left, text_empty}
-use Rattle.py_lines.proofs.Feeds.OpenLine.{scans_on, none_held, open_size, open_stop, reached_by, within_held}
+use Rattle.py_lines.proofs.Feeds.EndedHeld.{IsLeftOpen, at_end, end_fault_fails, end_fault_within, ends_so, left_at, text_fault, text_left, text_empty}
+use Rattle.py_lines.proofs.Feeds.OpenLine.{scans_on, none_held, next_is, open_within, within_held}
 use Rattle.py_lines.proofs.Feeds.ReadyLines.{none_is}
 use Rattle.py_lines.proofs.feed.Feed.end_text.Goals.{Else-is_some}
 use Rattle.py_lines.proofs.feed.Feed.end_text.Goals as goal
@@ -42,28 +43,42 @@ left_open c =
       some = omega (arith, other, ap length keeps.held);
     }
 
-pub returns-then-is_returned : goal.returns-then-is_returned
-returns-then-is_returned c = ends_returned (left_open (goal.at.returns-then-is_returned c).Else-is_some) (sym c.is_returned.ensures ∙ c.if-is_returned.true)
+pub slice_bounds-end-count : goal.slice_bounds-end-count
+slice_bounds-end-count c =
+    let l = left_at (left_open (goal.at.slice_bounds-end-count c).Else-is_some) in
+    omega (arith, open_within c.meet.new.self l.left l.reached _ c.deref.ensures.value)
 
-pub overflow_sub-rest : goal.overflow_sub-rest
-overflow_sub-rest c =
-    let s = (left_open (goal.at.overflow_sub-rest c).Else-is_some).scanned in
-    let o = reached_by s.0 s.0.stops.0 in
+pub slice_bounds-end-start : goal.slice_bounds-end-start
+slice_bounds-end-start c =
+    let l = left_at (left_open (goal.at.slice_bounds-end-start c).Else-is_some) in
+    omega (arith, open_within c.meet.new.self l.left l.reached _ c.deref.ensures.value)
+
+pub end-requires-clause-pending : goal.end-requires-clause-pending
+end-requires-clause-pending c =
     let f = c.meet.new.self in
-    omega (arith, c.len.ensures, open_size f s.0.rest o, open_stop f s.0.rest o)
+    let l = left_at (left_open (goal.at.end-requires-clause-pending c).Else-is_some) in
+    subst (HasPending f.state.scan.mode) (sym (next_is f l.left l.reached c.deref.result.now c.deref.ensures.value)) l.pending
 
 pub fail-requires-clause-cut : goal.fail-requires-clause-cut
 fail-requires-clause-cut c =
+    let f = c.meet.new.self in
     let h = left_open (goal.at.fail-requires-clause-cut c).Else-is_some in
-    (within_held c.meet.new.self h.scanned.0.rest (reached_by h.scanned.0 h.scanned.0.stops.0) c.in-Some.line_fault.place
-    (end_fault_within h c.len.result (omega (arith, c.len.ensures)) c.in-Some.line_fault c.in-Some.ensures)).0
+    let s = h.scanned.0 in
+    let l = left_at h in
+    let comes = at_end h c.end.new.self _ (next_is f l.left l.reached c.deref.result.now c.deref.ensures.value) (Err c.in-Err.line_fault) c.in-Err.ensures in
+    (within_held f s.read s.rest s.spell s.scalars c.in-Err.line_fault.place (end_fault_within h c.end.new.self c.in-Err.line_fault comes)).0
 
-pub returns-in-Some : goal.returns-in-Some
-returns-in-Some c =
-    end_fault_fails (left_open (goal.at.returns-in-Some c).Else-is_some) c.len.result (omega (arith, c.len.ensures)) c.in-Some.line_fault
-    (none_is c.meet.new.self.ready (sym c.is_some.ensures ∙ c.if-is_some.false)) (sym c.is_returned.ensures ∙ c.if-is_returned.false) c.fail.new.self c.fail.result c.fail.ensures c.in-Some.ensures
+pub returns-in-Ok : goal.returns-in-Ok
+returns-in-Ok c =
+    let f = c.meet.new.self in
+    let h = left_open (goal.at.returns-in-Ok c).Else-is_some in
+    let l = left_at h in
+    ends_so h c.end.new.self c.in-Ok.end_len (at_end h c.end.new.self _ (next_is f l.left l.reached c.deref.result.now c.deref.ensures.value) (Ok c.in-Ok.end_len) c.in-Ok.ensures)
 
-pub returns : goal.returns
-returns c =
-    let h = left_open (goal.at.returns c).Else-is_some in
-    ends_plain h (all_scanned h (omega (arith, c.len.ensures, c.in_default.ensures.0))) (sym c.is_returned.ensures ∙ c.if-is_returned.false) c.in_default.ensures.1
+pub returns-in-Err : goal.returns-in-Err
+returns-in-Err c =
+    let f = c.meet.new.self in
+    let h = left_open (goal.at.returns-in-Err c).Else-is_some in
+    let l = left_at h in
+    end_fault_fails h c.end.new.self c.in-Err.line_fault (none_is f.ready (sym c.is_some.ensures ∙ c.if-is_some.false)) c.fail.new.self c.fail.result c.fail.ensures
+    (at_end h c.end.new.self _ (next_is f l.left l.reached c.deref.result.now c.deref.ensures.value) (Err c.in-Err.line_fault) c.in-Err.ensures)

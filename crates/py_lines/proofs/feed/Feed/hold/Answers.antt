@@ -1,12 +1,21 @@
-use Rattle.std.proofs.Common.{rules, ◌++◌, refl, sym, ◌∙◌, subst, length-append, arith}
+use Rattle.std.proofs.Common.{rules, ◌≡◌, ◌++◌, take, refl, sym, ◌∙◌, subst, length-append, arith}
 use Rattle.py_lines.specs.Private.LineState.{first_mode}
-use Rattle.py_lines.specs.Private.LineScan.{ScansIn}
+use Rattle.py_lines.specs.Private.LineScan.{Reached, ScansIn}
 use Rattle.py_lines.specs.Private.Feed.{Stop}
 use Rattle.py_lines.proofs.LineScan.TextSteps.{begun_sound}
 use Rattle.py_lines.proofs.Feeds.GivenBack.{HoldsStop, holds_bytes, holds_line_end, stop_within}
-use Rattle.py_lines.proofs.Feeds.OpenLine.{begun_unchanged, open_stop, open_size, reached_next}
+use Rattle.py_lines.proofs.Feeds.OpenLine.{begun_unchanged, open_stop, open_size, reached_more, reached_next}
 use Rattle.py_lines.proofs.feed.Feed.hold.Goals.{Joined-stop, in-LineEnd, in_default}
 use Rattle.py_lines.proofs.feed.Feed.hold.Goals as goal
+
+-- more is held after what the scan stands before
+pub scan_held-requires-clause-opens : goal.scan_held-requires-clause-opens
+scan_held-requires-clause-opens c =
+    let f = c.args.self.now in
+    let (rest, o) = c.requires.opens in
+    let bytes = take c.min.result c.args.piece.now in
+    let items : c.extend_from_slice.new.self.items ≡ f.held.items ++ bytes = c.in_ok-extend_from_slice.ensures.items in
+    (rest ++ bytes, subst (λ t. Reached (first_mode f.state.place) t f.state.scan (rest ++ bytes)) (sym items) (reached_more f rest bytes o))
 
 -- all that is held was scanned: the scan stands before the piece
 pub extend-stop-requires : goal.extend-stop-requires

@@ -1,5 +1,5 @@
 use Rattle.std.proofs.Common.{length, refl, sym, ap, subst, arith}
-use Rattle.py_lines.specs.Private.Run.{Reached}
+use Rattle.py_lines.specs.Private.LineScan.{Reached}
 use Rattle.py_lines.specs.Private.LineState.{first_mode}
 use Rattle.py_lines.proofs.LineScan.TextSteps.{begun_sound}
 use Rattle.py_lines.proofs.Feeds.OpenLine.{open_stop, open_size, open_within, next_is}

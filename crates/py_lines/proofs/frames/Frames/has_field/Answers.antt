@@ -7,4 +7,4 @@ use Rattle.py_lines.proofs.frames.Frames.has_field.Goals as goal
 pub returns : goal.returns
 returns c =
     let q = c.self.inside in
-    ap (nat_lt 0) c.self.invariant.3 ∙ fields_some (first_frames q.slots q.depth) ∙ ap has_field c.self.view_is
+    ap (nat_lt 0) c.self.invariant.3 ∙ fields_some (first_frames q.frames q.depth) ∙ ap has_field c.self.view_is

@@ -5,4 +5,4 @@ use Rattle.py_lines.proofs.frames.Frames.push.Goals as goal
 pub overflow_add-self-in-Field : goal.overflow_add-self-in-Field
 overflow_add-self-in-Field c =
     let q = c.self.inside in
-    omega (arith, fields_fit q.slots q.depth q.fields _ c.self.view_is c.self.invariant.3 c.requires.room)
+    omega (arith, fields_fit q.frames q.depth q.fields _ c.self.view_is c.self.invariant.3 c.requires.room)

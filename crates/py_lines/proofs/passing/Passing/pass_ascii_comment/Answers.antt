@@ -39,5 +39,5 @@ returns-clause-passed c = λ _ place frames shallow.
     ] in
     let passes = marked_comment bytes at end read.further within c.requires.hash read.each breaks in
     let there = c.keep.ensures bytes (within, read.next.special within) (read.next.rest within) in
-    piece_passed bytes at c.args.self.now c.requires.within c.requires.marked place frames (end - at) 0 false end c.keep.new.self c.pass_to.new.self shallow passes
+    piece_passed bytes at c.args.self.now c.requires.within c.requires.marked place frames (end - at) 0 end c.keep.new.self c.pass_to.new.self shallow passes
     (comment_holds bytes at end read.further within c.requires.hash read.each) (omega (arith, read.further)) there c.pass_to.ensures

@@ -23,10 +23,10 @@ returns c = λ place.
       | in_default w ↦ w.self-is
     ] in
     let marked = subst (λ (p : Passing). HasMarks bytes (at + 1) p.marks) (sym same) c.requires.marked in
-    let shallow : length c.args.frames.now ≤ 100 = omega (arith, c.if-len-gt-MAX_DEPTH_AROUND_STRING.false, c.len.ensures) in
+    let shallow : length c.args.frames.now ≤ 100 = omega (arith, c.if-len-gt-MAX_DEPTH_AROUND_STRING.false, c.len.ensures.is) in
     let piece = c.in-Some.piece in
     let (passes, holds) = c.in-Some.ensures in
     subst (λ (p : Passing). PassesSpecial bytes at place p c.args.frames.now special.Passed c.pass_to.new.self c.args.frames.now) same
-    (piece_passed bytes at c.match-class.self c.requires.within marked place c.args.frames.now piece.len piece.line_ends piece.closes
+    (piece_passed bytes at c.match-class.self c.requires.within marked place c.args.frames.now piece.len piece.line_ends
     (at + piece.len) c.pass.new.self c.pass_to.new.self shallow passes holds refl
     (c.pass.ensures (at + 1) marked (omega (arith, passes.1.some))) c.pass_to.ensures)

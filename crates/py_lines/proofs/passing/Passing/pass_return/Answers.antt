@@ -1,10 +1,19 @@
-use Rattle.std.proofs.Common.{◌+◌, List, arith, refl, subst, ℕ}
-use Rattle.py_lines.specs.Private.Outline.{BeginsOuterEnd}
-use Rattle.py_lines.proofs.FieldScans.TextLengths.{rest_is}
+use Rattle.std.proofs.Common.{◌+◌, ◌<◌, arith, length}
+use Rattle.py_lines.proofs.Text.CharacterTests.{return_is}
+use Rattle.py_lines.proofs.SimpleLines.Lines.{both_end, return_ends}
 use Rattle.py_lines.proofs.passing.Passing.pass_return.Goals as goal
+
+pub returns-then-bytes-at-ne10 : goal.returns-then-bytes-at-ne10
+returns-then-bytes-at-ne10 c = λ place.
+    let bytes = c.args.bytes.now in
+    let at = c.args.at in
+    let more : at + 1 < length bytes = omega (arith, c.requires.within, c.if-at-bytes.false) in
+    c.pass_line_end.ensures bytes place c.args.self.now.marks (return_ends bytes at more (return_is _ c.requires.returns) c.if-bytes-at-ne10.true) c.requires.marked
 
 pub returns : goal.returns
 returns c = λ place.
-    let ends = subst (λ (t : List ℕ). BeginsOuterEnd t c.in-Some.len) (rest_is c.args.bytes.now c.args.at) c.in-Some.ensures in
-    c.pass_line_end.ensures c.args.bytes.now place c.args.self.now.marks (record { within = c.requires.within; ends = ends; feed = refl })
-    (c.pass.ensures (c.args.at + 1) c.requires.marked (omega (arith, c.in-Some.ensures.some)))
+    let bytes = c.args.bytes.now in
+    let at = c.args.at in
+    let more : at + 1 < length bytes = omega (arith, c.requires.within, c.if-at-bytes.false) in
+    c.pass_line_end-2.ensures bytes place c.args.self.now.marks (both_end bytes at more (return_is _ c.requires.returns) c.if-bytes-at-ne10.false)
+    (c.pass.ensures (at + 1) c.requires.marked (omega arith))

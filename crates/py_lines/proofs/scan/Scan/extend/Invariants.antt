@@ -2,10 +2,10 @@ use Rattle.std.proofs.Common.{length}
 use Rattle.py_lines.proofs.LineScan.LineStops.{GoesTo}
 use Rattle.py_lines.proofs.scan.Scan.extend.Given as goal
 
-abbrev pub invariant-characters : goal.invariant-characters
-invariant-characters l = record {
+abbrev pub invariant-items : goal.invariant-items
+invariant-items l = record {
   goes : GoesTo l.fn.self l.fn.bytes l.self l.rest;
 }
 
-abbrev pub decreases-characters : goal.decreases-characters
-decreases-characters l = length l.rest
+abbrev pub decreases-items : goal.decreases-items
+decreases-items l = length l.rest

@@ -1,69 +1,70 @@
-use Rattle.std.proofs.Common.{◌≡◌, ◌-◌, length, take, drop, sym, ap, ◌∙◌, arith, List, ℕ, length-drop}
-use Rattle.std.specs.Char.{len_utf8}
+use Rattle.std.proofs.Common.{◌-◌, length, take, drop, sym, ap, ◌∙◌, arith, length-drop}
 use Rattle.std.proofs.lemmas.List.{take_rest}
-use Rattle.std.proofs.lemmas.Str.{len_utf8_bounds}
-use Rattle.py_lines.proofs.LineScan.LineSteps.{pushed}
-use Rattle.py_lines.proofs.LineTokens.Strings.{InFirst, at_start, begins_string, first_placed, first_run, first_stands, passed_all, passed_before, passed_with, still_first}
-use Rattle.py_lines.proofs.Text.FirstCharacters.{first_size}
+use Rattle.py_lines.specs.Private.Scan.{GoesOver}
+use Rattle.py_lines.specs.declared.scan.Scan.{Scan}
+use Rattle.py_lines.proofs.LineTokens.FirstString.{InFirst, at_start, first_run, first_stands, item_over, passed_with, some_left, step_comes, step_on, stops_there, string_within}
 use Rattle.py_lines.proofs.scan.Scan.take_first.Goals as goal
 use Rattle.py_lines.proofs.scan.Scan.take_first.Goals.{Else-is_settled}
 
--- the bytes after the character
-after_is : (before : List ℕ) (c len : ℕ) → len ≡ len_utf8 c → take (length before - len) (drop len before) ≡ drop (len_utf8 c) before
-after_is before c len is = take_rest before len ∙ ap (λ (n : ℕ). drop n before) is
+pub items-init : goal.items-init
+items-init c = record { first = at_start c.args.bytes.now c.requires.start }
 
-pub characters-init : goal.characters-init
-characters-init c = record { first = at_start c.args.bytes.now c.requires.start }
+pub step-requires-clause-some : goal.step-requires-clause-some
+step-requires-clause-some c = let (p, is, begin) = c.requires.string in some_left c.items.invariant.first p is begin
+
+pub step-requires-clause-bytes : goal.step-requires-clause-bytes
+step-requires-clause-bytes c = let stands = first_stands c.items.invariant.first in omega (arith, c.requires.bytes, stands.room)
+
+pub pass-requires : goal.pass-requires
+pass-requires c =
+    let (p, is, begin) = c.requires.string in
+    let at = c.items.invariant.first in
+    let comes = step_comes at (some_left at p is begin) c.step.result c.step.new.self c.step.ensures in
+    omega (arith, c.requires.bytes, stops_there at p is begin c.step.result c.step.new.self comes c.in_default.not-Going, string_within c.args.bytes.now p begin)
 
 pub returns-in_default : goal.returns-in_default
 returns-in_default c p is begin =
-    passed_all c.characters.invariant.first (begins_string c.args.bytes.now p is begin) c.in_default.ensures
-
-pub returns-then-ends_before : goal.returns-then-ends_before
-returns-then-ends_before c p is begin =
-    let text = begins_string c.args.bytes.now p is begin in
-    passed_before c.characters.invariant.first text c.in-Some.ensures (sym c.ends_before.ensures ∙ c.if-ends_before.true)
-
-pub push-requires : goal.push-requires
-push-requires c =
-    let stands = first_stands c.characters.invariant.first in
-    record {
-      bytes = omega (arith, c.requires.bytes, stands.room, first_size c.in-Some.ensures);
-      placed = first_placed c.characters.invariant.first;
-    }
+    let at = c.items.invariant.first in
+    let comes = step_comes at (some_left at p is begin) c.step.result c.step.new.self c.step.ensures in
+    ap (λ (s : Scan). s.stop) c.pass.ensures ∙ stops_there at p is begin c.step.result c.step.new.self comes c.in_default.not-Going
 
 pub returns-then-is_settled : goal.returns-then-is_settled
 returns-then-is_settled c p is begin =
-    let text = begins_string c.args.bytes.now p is begin in
-    let on = sym c.ends_before.ensures ∙ c.if-ends_before.false in
-    let settled = sym c.is_settled.ensures ∙ c.if-is_settled.true in
-    passed_with c.characters.invariant.first c.push.result c.push.new.self c.in-Some.ensures on (pushed _ _ _ _ c.push.ensures.takes) text settled
+    let at = c.items.invariant.first in
+    let over = item_over at (some_left at p is begin) c.step.result c.in-Going.len c.step.new.self c.step.ensures c.in-Going.is in
+    passed_with at over p is begin (sym c.is_settled.ensures ∙ c.if-is_settled.true)
 
--- the string that goes on
-goes : (c : Else-is_settled) → InFirst c.args.bytes.now c.push.new.self (drop (len_utf8 c.in-Some.c) c.characters.rest.now)
-goes c =
+-- the item that was taken, after which the string goes on
+over : (c : Else-is_settled) → GoesOver c.items.invariant.first.reached.way.field c.items.rest.now c.in-Going.len c.step.new.self
+over c =
     let (p, is, begin) = c.requires.string in
-    let text = begins_string c.args.bytes.now p is begin in
-    let on = sym c.ends_before.ensures ∙ c.if-ends_before.false in
-    still_first c.characters.invariant.first c.push.result c.push.new.self c.in-Some.ensures on (pushed _ _ _ _ c.push.ensures.takes) text
-    (sym c.is_settled.ensures ∙ c.if-is_settled.false)
+    let at = c.items.invariant.first in
+    item_over at (some_left at p is begin) c.step.result c.in-Going.len c.step.new.self c.step.ensures c.in-Going.is
 
-pub hold-rest-requires : goal.hold-rest-requires
-hold-rest-requires c =
-    let stands = first_stands (goes (goal.at.hold-rest-requires c).Else-is_settled) in
-    let after = after_is c.characters.rest.now c.in-Some.c c.len_utf8.result c.len_utf8.ensures.value in
-    record { bytes = omega (arith, c.requires.bytes, stands.room, ap length after); quote = stands.quote }
+goes : (c : Else-is_settled) → InFirst c.args.bytes.now c.step.new.self (drop c.in-Going.len c.items.rest.now)
+goes c = step_on c.items.invariant.first (over c) (sym c.is_settled.ensures ∙ c.if-is_settled.false)
 
-pub characters-preserved : goal.characters-preserved
-characters-preserved c =
-    let after = after_is c.characters.rest.now c.in-Some.c c.len_utf8.result c.len_utf8.ensures.value in
-    record { first = first_run (goes (goal.at.characters-preserved c).Else-is_settled) (rw after at c.hold-rest.ensures.holds) }
+pub hold-rest-requires-clause-bytes : goal.hold-rest-requires-clause-bytes
+hold-rest-requires-clause-bytes c =
+    let stands = first_stands (goes (goal.at.hold-rest-requires-clause-bytes c).Else-is_settled) in
+    omega (arith, c.requires.bytes, stands.room, ap length (take_rest c.items.rest.now c.in-Going.len))
 
-pub slice_bounds-hold-count : goal.slice_bounds-hold-count
-slice_bounds-hold-count c = omega (arith, c.len_utf8.ensures.value, first_size c.in-Some.ensures)
+pub items-smaller : goal.items-smaller
+items-smaller c =
+    let (n, held, rest_is) = c.hold-rest.ensures in
+    let len = c.in-Going.len in
+    let rest = c.items.rest.now in
+    let (p, is, begin) = c.requires.string in
+    omega (
+      arith,
+      ap length rest_is,
+      length-drop n (take (length rest - len) (drop len rest)),
+      ap length (take_rest rest len),
+      length-drop len rest,
+      (over (goal.at.items-smaller c).Else-is_settled).some,
+      some_left c.items.invariant.first p is begin,
+    )
 
-pub characters-smaller : goal.characters-smaller
-characters-smaller c =
-    let (n, held, rest_is) = c.hold-rest.ensures.holds in
-    let len = c.len_utf8.result in
-    omega (arith, ap length rest_is, length-drop n (take (length c.characters.rest.now - len) (drop len c.characters.rest.now)), ap length (after_is c.characters.rest.now c.in-Some.c len c.len_utf8.ensures.value), first_size c.in-Some.ensures, len_utf8_bounds c.in-Some.c)
+pub items-preserved : goal.items-preserved
+items-preserved c =
+    record { first = first_run (goes (goal.at.items-preserved c).Else-is_settled) (rw (take_rest c.items.rest.now c.in-Going.len) at c.hold-rest.ensures) }

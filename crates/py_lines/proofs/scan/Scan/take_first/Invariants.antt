@@ -1,11 +1,11 @@
 use Rattle.std.proofs.Common.{length}
-use Rattle.py_lines.proofs.LineTokens.Strings.{InFirst}
+use Rattle.py_lines.proofs.LineTokens.FirstString.{InFirst}
 use Rattle.py_lines.proofs.scan.Scan.take_first.Given as goal
 
-abbrev pub invariant-characters : goal.invariant-characters
-invariant-characters l = record {
+abbrev pub invariant-items : goal.invariant-items
+invariant-items l = record {
   first : InFirst l.fn.bytes l.self l.rest;
 }
 
-abbrev pub decreases-characters : goal.decreases-characters
-decreases-characters l = length l.rest
+abbrev pub decreases-items : goal.decreases-items
+decreases-items l = length l.rest

@@ -2,11 +2,11 @@ use Rattle.std.proofs.Common.{◌≤◌, length}
 use Rattle.py_lines.proofs.LineScan.LineStops.{GoesTo}
 use Rattle.py_lines.proofs.scan.Scan.take_in_fields.Given as goal
 
-abbrev pub invariant-characters : goal.invariant-characters
-invariant-characters l = record {
+abbrev pub invariant-items : goal.invariant-items
+invariant-items l = record {
   goes : GoesTo l.fn.self l.fn.bytes l.self l.rest;
   shorter : length l.rest ≤ length l.fn.bytes;
 }
 
-abbrev pub decreases-characters : goal.decreases-characters
-decreases-characters l = length l.rest
+abbrev pub decreases-items : goal.decreases-items
+decreases-items l = length l.rest

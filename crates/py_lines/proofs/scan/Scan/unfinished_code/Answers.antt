@@ -1,66 +1,64 @@
-use Rattle.std.proofs.Common.{◌≡◌, ℕ, true, false, ◌∷◌, ap, arith, length, refl, ◌∙◌}
-use Rattle.py_lines.specs.declared.frames.Frame.{Frame}
-use Rattle.py_lines.specs.declared.host.StringWithFields.{StringWithFields}
-use Rattle.py_lines.specs.declared.mode.Mode.{Mode}
-use Rattle.py_lines.specs.declared.mode.Mode.TheVariants as modes
-use Rattle.py_lines.specs.Faults.{open_short, open_long, open_join}
-use Rattle.py_lines.specs.Private.Machine.{in_long, in_short, is_after_backslash}
-use Rattle.py_lines.proofs.FieldScans.FieldFaults.{bracket_open, code_ends, code_unfinished, field_open}
+use Rattle.std.proofs.Common.{◌≡◌, None, Some, slice_index, refl, sym, ap, ◌∙◌}
+use Rattle.py_lines.specs.Private.FieldMachine.{FieldScanned}
+use Rattle.py_lines.specs.Private.Scan.{Follows, Goes}
+use Rattle.py_lines.specs.Private.ScanMachine.{begins_string}
+use Rattle.py_lines.specs.declared.frames.Frame.TheVariants as frame
+use Rattle.py_lines.proofs.FieldScans.Ends.{EndsCode, code_end, code_over, code_parts, only_byte, quote_end, slash_end, slash_only}
+use Rattle.py_lines.proofs.FieldScans.Quotes.{after_piece, after_prefix}
 use Rattle.py_lines.proofs.scan.Scan.unfinished_code.Goals as goal
+use Rattle.py_lines.proofs.scan.Scan.unfinished_code.Goals.{Joined-else-bytes-eq1-2, in-Word, in_default, in_default-via-in-Word+else-is_prefix, in_default-via-in_default, else-bytes-eq1-via-then-bytes-eq1+else-is_quote, else-bytes-eq1-via-else-bytes-eq1, else-bytes-eq1-2-via-then-bytes-eq1-2+else-is_backslash, else-bytes-eq1-2-via-else-bytes-eq1-2}
 
--- none of the pieces that may not end there
-abbrev Isn't : (ℕ → Mode) → Mode → Type 0
-Isn't form m = (q : ℕ) → m ≡ form q → ⊥
+pub returns-then-is_quote : goal.returns-then-is_quote
+returns-then-is_quote c = λ t u follow goes.
+    let q = slice_index c.args.bytes.now 0 in
+    let is = only_byte c.args.bytes.now q c.if-bytes-eq1.true refl in
+    let quote = sym c.is_quote.ensures ∙ c.if-is_quote.true in
+    let after = rw is at (code_parts c.args.self.now.mode c.args.bytes.now c.requires.code (c.requires.pending follow.quote)).1 in
+    let over = rw is at goes in
+    elim c.match-self.branch [
+      | in-Word w ↦
+          quote_end c.args.self.now t u follow c.requires.code q w.in-Word.spelling c.args.self.now.start
+          (after_prefix c.args.self.now t q follow quote after w.in-Word.spelling w.in-Word.is (sym w.is_prefix.ensures ∙ w.if-is_prefix.true)) over _ refl w.place-is
+      | in_default w ↦
+          quote_end c.args.self.now t u follow c.requires.code q _ c.args.self.now.stop
+          (after_piece c.args.self.now t q follow quote after
+          (elim w.in_default.branch [
+            | in_default-via-in-Word+else-is_prefix v ↦ λ s same.
+                let spelling : s ≡ v.in-Word.spelling = cc (same, v.in-Word.is) in
+                ap begins_string spelling ∙ sym v.is_prefix.ensures ∙ v.if-is_prefix.false
+            | in_default-via-in_default v ↦ λ s same. absurd (v.in_default.not-Word s same)
+          ])) over _ refl w.place-is
+    ]
 
-abbrev IsNoneOfThem : Mode → Type 0
-IsNoneOfThem m =
-    Isn't modes.Opened m × Isn't modes.Inside m × Isn't modes.Escape m × Isn't modes.EscapeReturn m
-    × ((h : StringWithFields) → m ≡ modes.FieldOpened h → ⊥) × Isn't modes.Long m × Isn't modes.LongOne m × Isn't modes.LongTwo m
-    × Isn't modes.LongEscape m × (m ≡ modes.Fielded → ⊥) × (m ≡ modes.Backslash → ⊥)
+pub returns-then-is_backslash : goal.returns-then-is_backslash
+returns-then-is_backslash c = λ t u follow goes.
+    let is = only_byte c.args.bytes.now 92 c.if-bytes-eq1-2.true (slash_only _ (sym c.is_backslash.ensures ∙ c.if-is_backslash.true)) in
+    let after = rw is at (code_parts c.args.self.now.mode c.args.bytes.now c.requires.code (c.requires.pending follow.quote)).1 in
+    slash_end c.args.self.now t u follow c.requires.code after (rw is at goes) _ refl refl
 
-none_open : (m : Mode) → IsNoneOfThem m → (in_short m ≡ false) × (in_long m ≡ false) × (is_after_backslash m ≡ false)
-none_open (modes.Opened q) none = absurd (none.0 q refl)
-none_open (modes.Inside q) none = absurd (none.1 q refl)
-none_open (modes.Escape q) none = absurd (none.2 q refl)
-none_open (modes.EscapeReturn q) none = absurd (none.3 q refl)
-none_open (modes.FieldOpened h) none = absurd (none.4 h refl)
-none_open (modes.Long q) none = absurd (none.5 q refl)
-none_open (modes.LongOne q) none = absurd (none.6 q refl)
-none_open (modes.LongTwo q) none = absurd (none.7 q refl)
-none_open (modes.LongEscape q) none = absurd (none.8 q refl)
-none_open modes.Fielded none = absurd (none.9 refl)
-none_open modes.Backslash none = absurd (none.10 refl)
-none_open m none = (refl, refl, refl)
+-- neither a string nor a backslash is open
+ends : (c : Joined-else-bytes-eq1-2) (t u : FieldScanned) → Follows c.args.self.now t → Goes t c.args.bytes.now u → EndsCode u c.args.self.now.frames
+ends c t u follow goes =
+    (code_over c.args.self.now t u follow c.requires.code c.args.bytes.now (c.requires.pending follow.quote) goes).ends
+    (elim c.else-bytes-eq1.branch [
+      | else-bytes-eq1-via-then-bytes-eq1+else-is_quote w ↦ λ one. sym w.is_quote.ensures ∙ w.if-is_quote.false
+      | else-bytes-eq1-via-else-bytes-eq1 w ↦ λ one. absurd (w.if-bytes-eq1.false one)
+    ])
+    (elim c.else-bytes-eq1-2.branch [
+      | else-bytes-eq1-2-via-then-bytes-eq1-2+else-is_backslash w ↦ λ one. sym w.is_backslash.ensures ∙ w.if-is_backslash.false
+      | else-bytes-eq1-2-via-else-bytes-eq1-2 w ↦ λ one. absurd (w.if-bytes-eq1-2.false one)
+    ])
 
-pub returns-in-Opened : goal.returns-in-Opened
-returns-in-Opened c = λ t f is.
-    let short : in_short c.args.mode ≡ true = grind arith in
-    (open_short, code_unfinished c.args.mode t is ∙ rw short, refl, f.start)
-
-pub returns-in-Long : goal.returns-in-Long
-returns-in-Long c = λ t f is.
-    let long : (in_short c.args.mode ≡ false) × (in_long c.args.mode ≡ true) = grind arith in
-    (open_long, code_unfinished c.args.mode t is ∙ rw (long.0, long.1), refl, f.start)
-
-pub returns-in-Backslash : goal.returns-in-Backslash
-returns-in-Backslash c = λ t f is. (open_join, code_unfinished c.args.mode t is ∙ rw c.in-Backslash.is, refl, f.start)
+pub returns-in_err-place : goal.returns-in_err-place
+returns-in_err-place c = λ t u follow goes.
+    rw c.from_residual.ensures (code_end u c.args.self.now.frames None (ends (goal.at.returns-in_err-place c).Joined-else-bytes-eq1-2 t u follow goes) c.in_err-place.ensures)
 
 pub returns-in-Bracket : goal.returns-in-Bracket
-returns-in-Bracket c = λ t f is.
-    let none = none_open c.args.mode (assumption) in
-    let (others, top) = c.in_ok-place-in_default.ensures in
-    bracket_open c.args.self.now t c.args.mode f is none.0 none.1 none.2 c.in-Bracket.field-0 c.in-Bracket.place others
-    (top ∙ ap (λ (g : Frame). g ∷ others) c.in-Bracket.is)
+returns-in-Bracket c = λ t u follow goes.
+    code_end u c.args.self.now.frames (Some (frame.Bracket c.in-Bracket.field-0 c.in-Bracket.place)) (ends (goal.at.returns-in-Bracket c).Joined-else-bytes-eq1-2 t u follow goes)
+    (rw c.in-Bracket.is at c.in_ok-place.ensures)
 
 pub returns-in-Field : goal.returns-in-Field
-returns-in-Field c = λ t f is.
-    let none = none_open c.args.mode (assumption) in
-    let (others, top) = c.in_ok-place-in_default.ensures in
-    field_open c.args.self.now t c.args.mode f is none.0 none.1 none.2 c.in-Field.field others
-    (top ∙ ap (λ (g : Frame). g ∷ others) c.in-Field.is)
-
-pub returns-in_err-place-in_default : goal.returns-in_err-place-in_default
-returns-in_err-place-in_default c = λ t f is.
-    let none = none_open c.args.mode (assumption) in
-    rw (c.from_residual.ensures)
-    (code_ends c.args.self.now t c.args.mode f is none.0 none.1 none.2 (ap length c.in_err-place-in_default.ensures))
+returns-in-Field c = λ t u follow goes.
+    code_end u c.args.self.now.frames (Some (frame.Field c.in-Field.field)) (ends (goal.at.returns-in-Field c).Joined-else-bytes-eq1-2 t u follow goes)
+    (rw c.in-Field.is at c.in_ok-place.ensures)

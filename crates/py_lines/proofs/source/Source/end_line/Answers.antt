@@ -1,24 +1,40 @@
-use Rattle.std.proofs.Common.{◌++◌, ◌∷◌, []}
-use Rattle.std.proofs.lemmas.Result.{err_from_is_err_and}
-use Rattle.py_lines.proofs.Readers.LineAnswers.{all_within, place_boundary, line_ended, is_line_text, continues_line}
+use Rattle.std.proofs.Common.{◌≡◌, ℕ, ◌+◌, ◌-◌, ◌≤◌, List, length, take, drop, sym, ap, subst, refl, arith, length-drop, length-take}
+use Rattle.std.specs.Prelude.{Result}
+use Rattle.std.proofs.lemmas.List.{take_all}
+use Rattle.py_lines.specs.Private.Scan.{EndsTextSo, HasPending}
+use Rattle.py_lines.specs.Private.Source.{ChangesScan, EndsLine, LineFault, HasScanned, Source, Stop}
+use Rattle.py_lines.specs.declared.scan.Stop.TheVariants as stops
+use Rattle.py_lines.proofs.Readers.LineAnswers.{left_pending, stop_within}
 use Rattle.py_lines.proofs.source.Source.end_line.Goals as goal
-use Rattle.py_lines.specs.Private.Source.{Stop}
 
-pub give-requires : goal.give-requires
-give-requires c =
+-- all bytes of the text from a place on
+from_place : (bytes : List ℕ) (n : ℕ) → take (length bytes - n) (drop n bytes) ≡ drop n bytes
+from_place bytes n = take_all (length bytes - n) (drop n bytes) (omega (arith, length-drop n bytes))
+
+-- the scan stopped within the text
+stops_within : (s : Source) (stop : Stop) → stop ≡ stops.TextEnd → HasScanned s stop → s.state.place + s.state.scan.stop ≤ length s.bytes.now
+stops_within s stop is h = omega (arith, stop_within s (subst (HasScanned s) is h), ap length s.prefix, length-take (length s.characters.now) s.bytes.now)
+
+-- what the end of the text comes to is what that of the line does
+ends_so : (s new : Source) (stop : Stop) (result : Result ℕ LineFault) → stop ≡ stops.TextEnd → ChangesScan s new → EndsTextSo s.state.scan (drop (s.state.place + s.state.scan.stop) s.bytes.now) result new.state.scan → EndsLine s stop result new
+ends_so s new stop result is changes ends = subst (λ x. EndsLine s x result new) (sym is) (changes, ends)
+
+pub overflow_add-scanned : goal.overflow_add-scanned
+overflow_add-scanned c = omega (arith, stops_within c.args.self.now c.args.stop c.in-TextEnd.is c.requires)
+
+pub slice_bounds-end-count : goal.slice_bounds-end-count
+slice_bounds-end-count c = stops_within c.args.self.now c.args.stop c.in-TextEnd.is c.requires
+
+pub slice_bounds-end-start : goal.slice_bounds-end-start
+slice_bounds-end-start c = stops_within c.args.self.now c.args.stop c.in-TextEnd.is c.requires
+
+pub end-requires-clause-pending : goal.end-requires-clause-pending
+end-requires-clause-pending c =
     let s = c.args.self.now in
-    let stop = Stop.LineEnd c.args.len in
-    let at = c.requires.scans.stops in
-    let ended = line_ended s c.args.len c.requires in
-    record {
-      boundary = place_boundary s stop c.requires s.state.scan.stop (all_within c.requires.scans.read s.state.scan.stop ended.stop);
-      text = (at.body ++ at.last ∷ [], is_line_text s stop c.requires c.args.len (at.body ++ at.last ∷ []) ended);
-    }
+    subst (HasPending s.state.scan.mode) (sym (from_place s.bytes.now (s.state.place + s.state.scan.stop))) (left_pending s (subst (HasScanned s) c.in-TextEnd.is c.requires))
 
-pub returns-in_err-give : goal.returns-in_err-give
-returns-in_err-give c =
-    let p = err_from_is_err_and c.from_residual.result c.from_residual.ensures.1 in
-    rw (p.1, p.2) (record { same = c.in_err-give.ensures; more = c.requires.more; fault = c.requires.no_fault })
-
-pub returns : goal.returns
-returns c = continues_line c.args.self.now c.give.new.self c.args.len c.requires c.in_ok-give.ensures
+pub returns-in-TextEnd : goal.returns-in-TextEnd
+returns-in-TextEnd c =
+    let s = c.args.self.now in
+    ends_so s _ c.args.stop c.end.result c.in-TextEnd.is (record { bytes = refl; characters = refl; state = refl })
+    (subst (λ bytes. EndsTextSo s.state.scan bytes c.end.result c.end.new.self) (from_place s.bytes.now (s.state.place + s.state.scan.stop)) c.end.ensures)

@@ -1,0 +1,16 @@
+use Rattle.std.proofs.Common.{rules, arith}
+use Rattle.py_lines.proofs.FieldScans.LineEnds.{half_join_waits, join_takes, join_waits, join_wrong, none_told}
+use Rattle.py_lines.proofs.scan.Scan.take_join.Goals as goal
+
+pub returns-in-Some : goal.returns-in-Some
+returns-in-Some c = λ t follow. join_takes c.args.self.now t c.args.bytes.now follow c.requires.backslash c.requires.after c.in-Some.len c.in-Some.ensures c.pass.new.self c.pass.ensures
+
+pub returns-in-Some-first_character : goal.returns-in-Some-first_character
+returns-in-Some-first_character c = λ t follow.
+    rw c.wrong.ensures (join_wrong c.args.self.now t c.args.bytes.now follow c.requires.backslash c.requires.after c.in-Some-first_character.field-0 c.in_default.ensures c.in-Some-first_character.ensures (search rules))
+
+pub returns-in-None : goal.returns-in-None
+returns-in-None c = λ t follow. join_waits c.args.self.now t c.args.bytes.now follow c.requires.backslash c.requires.after (none_told c.first_character.result _ c.first_character.ensures (search rules))
+
+pub returns-in-None-2 : goal.returns-in-None-2
+returns-in-None-2 c = λ t follow. half_join_waits c.args.self.now t c.args.bytes.now follow c.requires.backslash c.requires.after _ c.in_default.ensures c.in-None.ensures (omega arith)
