@@ -3,14 +3,10 @@ pub mod Known
 pub mod SettledSoFar
 pub mod DecidedSoFar
 pub mod Released
-pub mod Ended
 pub mod OpenLine
 pub mod ReadyLines
 pub mod LastBytes
-pub mod LeftBytes
 pub mod GivenBack
-pub mod FedHeld
-pub mod Taken
 pub mod FedScanner
 pub mod EndedHeld
 pub mod PassedLines

@@ -11,3 +11,6 @@ pub mod Completeness
 pub mod OpenStrings
 pub mod OpenLists
 pub mod WhatIsOpen
+pub mod OuterLists
+pub mod EarlierPieces
+pub mod WholeRuns

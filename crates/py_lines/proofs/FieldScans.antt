@@ -10,11 +10,12 @@ pub mod StringBytes
 pub mod Texts
 pub mod TextLengths
 pub mod Taking
+pub mod Takes
 pub mod Operators
+pub mod PlainCode
+pub mod Places
 pub mod LineEnds
-pub mod Quotes
 pub mod CodeItems
 pub mod Openings
 pub mod TextItems
 pub mod Ends
-pub mod Resting

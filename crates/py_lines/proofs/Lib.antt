@@ -3,12 +3,10 @@
 -- Definitions look at the whole text. A reading is a list of pieces, each in its class and before a rest that it may
 -- precede, with brackets in pairs. There is no mode and no stack.
 --
--- Three machines go through a text, character by character. Each keeps the finished pieces, a mode, and the characters of the
--- open piece. A character grows the open piece, closes it, follows it, or is refused.
+-- One machine goes through a text, character by character. It keeps the finished pieces, a mode, and the characters of the
+-- open piece. A character grows the open piece, closes it, follows it, or is refused (specs/Private/Machine.antt; proofs/Machine).
 --
--- That of specs/Private/Machine.antt knows no fields. proofs/Machine has its steps through each class of pieces.
---
--- That of specs/Private/FieldMachine.antt also reads the fields of strings, and keeps those that are open as levels: in each of
+-- It reads the fields of strings, too (specs/Private/FieldMachine.antt), and keeps those that are open as levels: in each of
 -- them the pieces and brackets before. It is complete (proofs/FieldMachine). It goes through the parts of a string wherever it
 -- goes through the fields among them, and through a list of pieces wherever it goes through the strings among them; so it goes
 -- through fields, by how many stand one in another. Each run says what its characters open, so one proof gives two theorems: the
@@ -20,14 +18,8 @@
 -- which strings are open, and what is open can be closed, so a text is live exactly if the machine goes through it with room. The code
 -- goes by this machine, in scan.rt and string_text.rt.
 --
--- That of specs/Private/ScanMachine.antt finds the pieces of a line. To it a string with fields is one open piece, and the machine with
--- fields says how far that has come. Where one of the two has come, so has the other, and their states belong together (`IsTied`,
--- proofs/ScanMachine/Follows): so this one is sound, and reaches the end of what is read.
---
--- In its state there is no stack of open brackets: that is a fold over the finished pieces (`brackets_of`).
--- An operator is finished with its character, so the stack is in step with the text: one step does both (`advance`,
--- proofs/ScanMachine/Advance), and theorems on whole texts go by it. Brackets are in pairs exactly if the stack is empty
--- at the end (proofs/Pieces).
+-- Where no field is open, its finished pieces are those of the text, and else those of its outermost list (FieldMachine/OuterLists), which only
+-- grows. With pieces before them it goes on as it does alone (EarlierPieces). So a line's run is a part of the text's.
 --
 -- Faults (proofs/Faults): where the machine with fields stops, a first cause fits; where a live text isn't read, its state says
 -- what is open at the end. What is open is told by the state alone, so the fault is one, and the state names it: its kind and
@@ -41,19 +33,22 @@
 -- start has given none, so every text has some lexing. Settled pieces begin all pieces that read more, so their lines are final.
 --
 -- What is open in a line (proofs/FieldScans): the scan keeps the mode, the place and the frames of a state of the machine with fields
--- (`Follows`, specs/Private/Scan), and each item keeps it so: in code (Taking, Operators), and in the text of strings (StringTexts, TextFields).
--- Where an item ends before the machine has ended it, that state is as good as the machine's own before the next byte (`GoAlike`; Resting,
+-- (`Follows`, specs/Private/Scan), and each item keeps it so: in code (Taking, Operators), and in the text of strings (StringTexts).
+-- Where an item ends before the machine has ended it, that state is as good as the machine's own before the next byte (`GoAlike`,
 -- Taking), so what holds of a step from the one holds from the other. What the scan says of a fault is what the machine's state says.
 -- Characters of one piece, code of a field up to a sign, and simple text of a string, with whole fields, are taken at once (Runs). Simple
 -- text leads the machine from one place of a string to another, whatever was open before (`Leads`, specs/Private/FieldText; Texts and
--- TextLengths).
+-- TextLengths). What is taken at once is told as a step is (`Takes`, specs/Private/Scan), and such steps are put together (Takes).
 --
--- The scan of one logical line (proofs/LineScan): what it has gone over of the line, both machines have (`IsUnderWay`,
--- specs/Private/LineScan). A character that ends the line in one of them does so in the other, since their states belong together
--- (LineSteps). So the scan, which goes by the machine with fields, knows where the line ends, and the other machine has its pieces. What
--- is taken at once finishes none of these (LineStops). Where no piece and no field is open the scan passes over whole pieces as over simple
--- lines (SimpleLines/Passing), in whatever mode the line began (WholePieces). A string with fields whose text is simple is passed so too
--- (WholeStrings). After a line end the machine goes on as it does alone, so the next line is scanned from its own start.
+-- Pieces of code that are passed over from mark to mark (proofs/PassedPieces) are what the scan would take item by item. So plain bytes lead it
+-- to a word, space or nothing that is open (FieldScans/PlainCode), and what stands at the mark is the next item. How many LF were passed is told by
+-- the bytes alone (CountedEnds).
+--
+-- The scan of logical lines (proofs/LineScan): what it has gone over of the line, the machine has (`IsUnderWay`, specs/Private/LineScan). The
+-- machine is sound there, so where a line ends its pieces are those of the line (LineSteps). What is taken from where the scan stands is
+-- taken in each line in which it stands so (Reaching, LineStops). After a line end the machine goes on as it does alone, so the next line is scanned from its own start.
+-- Lines that were passed follow one another (WholeLines). That such lines are the text's next is in Readers/PassedLines,
+-- and where it comes in pieces in Feeds/PassedLines.
 --
 -- The tokens of a whole line (proofs/LineTokens): they are read from its text alone, piece by piece, and so for all pieces
 -- that the text spells. Each class of pieces begins with other bytes. A word, a space or a comment is the run of bytes that
@@ -61,13 +56,6 @@
 -- reading no other piece stands there. So what was read is always the first part of the line's pieces, and at the end all of them.
 --
 -- Bytes that open or close something (proofs/SpecialBytes) are found by masks of 64 bytes.
---
--- Simple lines (proofs/SimpleLines) are passed over from one such byte to the next. After each step (Passing) the machine that finds
--- the pieces has gone through the line so far, and a piece is open that goes on or ends there; the word that the bytes end with is
--- known from the bytes alone. Where marks alone show the end of a string or a comment, its bytes are known from them
--- (MarkedPieces). The open brackets are kept as frames, as the scan keeps them (LineScan/BracketStack). After a line end outside brackets
--- the line is whole, and the machine begins the next one (Lines). That such lines are the text's next is in Readers/PassedLines,
--- and where it comes in pieces in Feeds/PassedLines.
 --
 -- The reader (proofs/Readers) puts these together for one call: a line, a fault or the end.
 --
@@ -80,9 +68,9 @@
 -- with the other. An operator ends with its first character, whatever follows. What is open in a text is defined
 -- (specs/OpenFields.antt); proofs/OpenFields shows it by rows.
 --
--- Texts without a prefix of strings with fields before a quote (proofs/Elsewhere): the machine without fields goes through exactly
--- those that are live without fields, and there it goes as the scanning machine does. So such a text is live with fields exactly
--- if it is live without. Nothing that is open in it is a string with fields, so its fault is the same, and its lexing.
+-- Texts without a prefix of strings with fields before a quote (proofs/Elsewhere): the machine opens no string with fields in such a text, and
+-- none in what closes all that is open. So the text is live with fields exactly if it is live without. Nothing that is open in it is a string with
+-- fields, so its fault is the same, and its lexing.
 --
 -- proofs/Text has characters, the bytes that spell them, and vectors of bytes (Lanes). Files named WorkedRows
 -- are rows worked out by hand, which are proved of the definitions.
@@ -96,7 +84,6 @@ pub mod OpenFields
 pub mod Machine
 pub mod FieldMachine
 pub mod FieldSoundness
-pub mod ScanMachine
 pub mod FieldScans
 pub mod Faults
 pub mod LogicalLines
@@ -105,6 +92,6 @@ pub mod Elsewhere
 pub mod LineScan
 pub mod LineTokens
 pub mod SpecialBytes
-pub mod SimpleLines
+pub mod PassedPieces
 pub mod Readers
 pub mod Feeds

@@ -1,8 +1,4 @@
--- The scan of one logical line, which goes as both machines do: where it may end, and what pieces it has.
-pub mod BracketStack
-pub mod StringSteps
-pub mod PieceEnd
-pub mod NextCharacter
+-- The scan of logical lines: where each may end, and what pieces it has.
 pub mod LineSteps
 pub mod TextSteps
 pub mod LineCount
@@ -11,6 +7,6 @@ pub mod Spans
 pub mod AsciiRuns
 pub mod ClassStarts
 pub mod PlainStrings
-pub mod WholeStrings
 pub mod LineStops
-pub mod WholePieces
+pub mod WholeLines
+pub mod Reaching

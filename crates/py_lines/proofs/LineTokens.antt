@@ -2,6 +2,8 @@
 pub mod Spellings
 pub mod FirstCharacters
 pub mod FirstPieces
+pub mod Depths
+pub mod StringRuns
 pub mod FirstString
 pub mod Strings
 pub mod Lines

@@ -3,7 +3,6 @@ pub mod Starts
 pub mod Spellings
 pub mod PieceSteps
 pub mod StringSteps
-pub mod ReadingSteps
 pub mod OpenPieces
 pub mod Soundness
 pub mod LiveTexts

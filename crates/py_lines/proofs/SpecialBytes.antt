@@ -1,4 +1,4 @@
--- Marks of the bytes of a text at which its outline stops: how they are found, and which are left.
+-- Marks of the bytes of a text that aren't plain: how they are found, and which are left.
 pub mod LookUps
 pub mod Bits
 pub mod Places

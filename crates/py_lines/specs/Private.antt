@@ -1,9 +1,8 @@
--- What contracts of private functions alone cite: the machines that go through a text, the scan of one logical line,
+-- What contracts of private functions alone cite: the machine that goes through a text, the scan of logical lines,
 -- and the reader of lines. No public contract names a word of these files.
 pub mod Mode
 pub mod Machine
 pub mod FieldMachine
-pub mod ScanMachine
 pub mod FieldFaults
 pub mod Frames
 pub mod Scan
@@ -15,7 +14,7 @@ pub mod LineTokens
 pub mod Source
 pub mod Run
 pub mod Marks
-pub mod Outline
 pub mod Passing
-pub mod WholePieces
+pub mod TakenPieces
+pub mod WholeLines
 pub mod Feed

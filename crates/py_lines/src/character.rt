@@ -2,7 +2,7 @@
 
 ghost use Rattle.std.specs.Prelude.{◌≡◌};
 ghost use Rattle.py_lines.specs.Character.{is_mark, is_space, is_word_character, is_quote};
-ghost use Rattle.py_lines.specs.Character.{is_break, is_backslash};
+ghost use Rattle.py_lines.specs.Character.{is_break};
 ghost use Rattle.py_lines.specs.Character.{is_brace};
 ghost use Rattle.py_lines.specs.Balance.{is_opening, is_closing};
 
@@ -50,14 +50,6 @@ pub fn is_break(c: char) -> bool
     ensures { result ≡ is_break c }
 {
     matches!(c, '\n' | '\r')
-}
-
-/// What joins lines, and escapes in strings.
-#[tactic(auto, unfolding(crate::specs::Character::is_backslash))]
-pub fn is_backslash(c: char) -> bool
-    ensures { result ≡ is_backslash c }
-{
-    c == '\\'
 }
 
 /// `{` and `}`.

@@ -4,13 +4,12 @@ ghost use Rattle.std.specs.Prelude.{◌≡◌, ℕ, ◌+◌, ◌-◌, ◌<◌, �
 ghost use Rattle.std.specs.Prelude.{drop, take, length, Option, OnOk, OnErr};
 ghost use Rattle.py_lines.specs.Private.Feed.{TellsHopeless};
 ghost use Rattle.py_lines.specs.Private.LineTokens.{IsLineText};
-ghost use Rattle.py_lines.specs.Private.Outline.{BeginWithLines};
+ghost use Rattle.py_lines.specs.Private.WholeLines.{BeginWithLines};
 ghost use Rattle.py_lines.specs.ScannerState.{HoldsAfterLines, LacksBoth};
 
 use crate::fault::{Fault, FaultKind, LexError};
 use crate::line_ends::line_ends;
 use crate::line_state::LineState;
-use crate::outline::simple_lines;
 use crate::scan::Stop;
 use crate::unit::Unit;
 use memchr::memmem;
@@ -370,8 +369,8 @@ impl Feed {
         begins && self.ready.is_none() && !self.ended && self.state.fault.is_none()
     }
 
-    /// Passes over the logical lines that these bytes begin with, as long as they are simple and end at this byte of them or before it: how
-    /// many bytes they have. The bytes begin with what is held.
+    /// Passes over the logical lines that these bytes begin with, as long as they end at this byte of them or before it: how many bytes they
+    /// have. The bytes begin with what is held.
     pub fn pass_lines(&mut self, bytes: &[u8], before: usize) -> usize
         requires sound { IsSoundFeed self.old }
         requires fits { self.old.state.place + length bytes.now ≤ 2 ^ 62 }
@@ -383,7 +382,7 @@ impl Feed {
             return 0;
         }
         let clear = &bytes[..before.min(bytes.len())];
-        let lines = simple_lines(&mut self.state.scan.frames, clear);
+        let lines = self.state.scan.pass_lines(clear);
         if !hold_after_lines(&mut self.held, clear, lines.len) {
             self.state.restart();
             return 0;

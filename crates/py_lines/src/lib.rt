@@ -15,10 +15,7 @@ mod line_tokens;
 mod lines;
 mod marks;
 mod mode;
-mod outline;
 mod passing;
-mod plain_strings;
-mod prefix;
 mod run;
 mod scan;
 mod scanner;
@@ -27,7 +24,6 @@ mod string_text;
 mod token;
 mod unit;
 mod utf8;
-mod whole_pieces;
 mod whole_strings;
 
 pub use fault::{Fault, FaultKind, LexError};

@@ -4,7 +4,7 @@ ghost use Rattle.std.specs.Prelude.{◌≡◌, ℕ, ◌≤◌, List, length, enc
 ghost use Rattle.std.specs.List.{count_by, list_any};
 ghost use Rattle.py_lines.specs.Character.{is_line_feed, is_return};
 ghost use Rattle.py_lines.specs.LogicalLine.{line_ends};
-ghost use Rattle.py_lines.specs.Private.LineEnds.{lone_returns};
+ghost use Rattle.py_lines.specs.Private.LineEnds.{HasOuterEnd, lone_returns};
 
 /// So many bytes are counted at once.
 const BLOCK: usize = 128;
@@ -28,7 +28,7 @@ fn few_line_feeds(bytes: &[u8]) -> (u8, bool)
 }
 
 /// How many of these bytes are LF, and whether one is CR.
-fn line_feeds(bytes: &[u8]) -> (u64, bool)
+pub fn line_feeds(bytes: &[u8]) -> (u64, bool)
     ensures feeds { result.0 ≡ count_by is_line_feed bytes.now }
     ensures returned { result.1 ≡ list_any is_return bytes.now }
 {
@@ -73,4 +73,20 @@ pub fn line_ends(bytes: &[u8]) -> u64
     } else {
         feeds
     }
+}
+
+/// How many bytes the line end has that the bytes begin with (Python Language Reference, 2.1.2). CR at their end is none: LF may follow.
+pub fn outer_end_len(bytes: &[u8]) -> Option<usize>
+    ensures { HasOuterEnd bytes.now result }
+{
+    if bytes.is_empty() {
+        return None;
+    }
+    if bytes[0] == b'\n' {
+        return Some(1);
+    }
+    if bytes.len() < 2 || bytes[0] != b'\r' {
+        return None;
+    }
+    if bytes[1] == b'\n' { Some(2) } else { Some(1) }
 }

@@ -5,22 +5,20 @@ ghost use Rattle.std.specs.Char.{is_ascii_digit};
 ghost use Rattle.py_lines.specs.Character.{is_break, is_quote, is_space};
 ghost use Rattle.py_lines.specs.Piece.{Piece, begins};
 ghost use Rattle.py_lines.specs.Private.Run.{IsRunOf, is_wide_word, word_spelling};
-ghost use Rattle.py_lines.specs.Private.ScanMachine.{is_field_spelling};
+ghost use Rattle.py_lines.specs.Private.Machine.{is_field_spelling};
 ghost use Rattle.py_lines.specs.Private.LineTokens.{AddsPiece, BeginWithPiece, BeginWithString, HaveRead};
 ghost use Rattle.py_lines.specs.Private.LineTokens.{HoldsTokens, IsFirstPiece, IsFirstString, IsLineAfter, IsLineText};
 ghost use Rattle.py_lines.specs.Private.LineTokens.{ends_prefix, is_prefix_word, kind_with, line_end_len, mark_len, token_piece, word_kind};
 
 use crate::character::{is_quote, is_space};
 use crate::class::Class;
-use crate::line_ends::line_ends;
+use crate::line_ends::{line_ends, outer_end_len};
 use crate::mode::{Mode, Spelling};
-use crate::outline::outer_end_len;
-use crate::plain_strings::plain_string;
 use crate::run::{ByteRun, comment_run};
 use crate::scan::Scan;
 use crate::token::{TokKind, Token};
 use crate::unit::UnitKind;
-use crate::whole_strings::quoted_text_len;
+use crate::whole_strings::whole_plain_string;
 use std::alloc::{AllocError, Global};
 
 /// What a piece is to its line.
@@ -66,8 +64,8 @@ fn whole_line_end(bytes: &[u8]) -> usize
     outer_end_len(bytes).unwrap_or(1)
 }
 
-/// The string that the bytes begin with, with fields or without, whose prefix has so many of them, or none. Where it is simple, it is
-/// passed at once, and else this scan goes through it.
+/// The string that the bytes begin with, with fields or without, whose prefix has so many of them, or none. Most are short and simple, and
+/// are passed at once. This scan goes through the others.
 fn string(scan: &mut Scan, bytes: &[u8], prefix: usize, has_fields: bool) -> LinePiece
     requires quote { begins is_quote (drop prefix bytes.now) ≡ true }
     requires prefix { is_prefix_word (take prefix bytes.now) ≡ true }
@@ -75,15 +73,14 @@ fn string(scan: &mut Scan, bytes: &[u8], prefix: usize, has_fields: bool) -> Lin
     requires string { BeginWithString bytes.now }
     ensures { IsFirstString bytes.now result }
 {
-    let quoted = &bytes[prefix..];
     let simple = if has_fields {
-        quoted_text_len(quoted)
+        None
     } else {
-        plain_string(quoted)
+        whole_plain_string(&bytes[prefix..])
     };
     let len = match simple {
-        Some(len) if len > 2 => prefix + len,
-        _ => {
+        Some(len) => prefix + len,
+        None => {
             scan.restart(Mode::Free);
             scan.take_first(bytes);
             scan.stop

@@ -1,8 +1,7 @@
 //! What is open at a place of a line.
 
 ghost use Rattle.std.specs.Prelude.{◌≡◌, ◌<◌, length};
-ghost use Rattle.py_lines.specs.Private.Machine.{first_spelling, spelling_with};
-ghost use Rattle.py_lines.specs.Private.ScanMachine.{is_field_spelling, is_raw_spelling, begins_string};
+ghost use Rattle.py_lines.specs.Private.Machine.{begins_string, first_spelling, is_field_spelling, is_raw_spelling, spelling_with};
 ghost use Rattle.py_lines.specs.Private.Run.{word_spelling};
 ghost use Rattle.py_lines.specs.Private.Scan.{grown, is_free_mode, is_text, string_mode};
 

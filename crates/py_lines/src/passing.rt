@@ -1,19 +1,19 @@
 //! Bytes of a line that are passed over at once, from one that isn't plain to the next.
 
-ghost use Rattle.std.specs.Prelude.{◌≡◌, ℕ, ◌+◌, ◌<◌, ◌≤◌, ◌^◌, Bool, false, true, IsTrue, List, length, slice_index};
+ghost use Rattle.std.specs.Prelude.{◌≡◌, ℕ, ◌+◌, ◌-◌, ◌<◌, ◌≤◌, ◌^◌, ◌==◌, true, false, IsTrue, length, take, slice_index};
 ghost use Rattle.py_lines.specs.Character.{is_hash, is_quote, is_return};
-ghost use Rattle.py_lines.specs.Private.Marks.{HasMarks, is_of_class};
-ghost use Rattle.py_lines.specs.Private.Passing.{IsLineEndAt, PassesMarked, PassesSpecial};
-ghost use Rattle.py_lines.specs.Private.Passing.{nothing_passed, passed_to};
-ghost use Rattle.py_lines.specs.declared.marks.Marks.{Marks};
+ghost use Rattle.py_lines.specs.Private.Marks.{FindsNext, HasMarks};
+ghost use Rattle.py_lines.specs.Private.Passing.{IsWordBefore, PassesPiece, PassesSpecial};
+ghost use Rattle.py_lines.specs.Private.Passing.{CountsOn, begins_escape, line_end_special, nothing_passed, passed_line_end, tail_of};
+ghost use Rattle.py_lines.specs.Private.Run.{is_text_byte};
 
 use crate::character::is_break;
 use crate::class::Class;
 use crate::frames::Frames;
+use crate::line_ends::line_feeds;
 use crate::marks::Marks;
-use crate::outline::piece;
-use crate::prefix::word_before;
-use crate::whole_strings::MAX_DEPTH_AROUND_STRING;
+use crate::mode::Spelling;
+use crate::run::is_ascii_word;
 
 /// What a byte that isn't plain came to.
 #[derive(Clone, Copy)]
@@ -26,13 +26,54 @@ pub enum Special {
     Unpassed,
 }
 
+/// Whether the byte stands for itself in a short string of this quote, and is ASCII.
+#[inline(always)]
+fn is_text_byte(quote: u8, b: u8) -> bool
+    ensures { result ≡ is_text_byte quote b }
+{
+    b < 128 && b != quote && b != b'\\' && !is_break(b as char)
+}
+
+/// Whether a backslash stands at this byte, and after it ASCII that is no line end.
+#[inline(always)]
+fn begins_escape(bytes: &[u8], at: usize) -> bool
+    requires { at < length bytes.now }
+    ensures { result ≡ begins_escape bytes.now at }
+{
+    bytes[at] == b'\\'
+        && at + 1 < bytes.len()
+        && bytes[at + 1] < 128
+        && !is_break(bytes[at + 1] as char)
+}
+
+/// How the word of ASCII is spelled that ends at this byte, if one does. Mostly none does. A word of three bytes and more is no prefix
+/// (Python Language Reference, 2.4.1).
+#[inline(always)]
+fn word_before(bytes: &[u8], at: usize) -> Option<Spelling>
+    requires { at ≤ length bytes.now }
+    ensures { IsWordBefore result (tail_of (take at bytes.now)) }
+{
+    if at == 0 || !is_ascii_word(bytes[at - 1]) {
+        return None;
+    }
+    if at == 1 || !is_ascii_word(bytes[at - 2]) {
+        return Some(Spelling::of_word(&bytes[at - 1..at]));
+    }
+    if at == 2 || !is_ascii_word(bytes[at - 3]) {
+        return Some(Spelling::of_word(&bytes[at - 2..at]));
+    }
+    Some(Spelling::Name)
+}
+
 /// How far bytes were passed.
 #[derive(Drop)]
 pub struct Passing {
     /// How many were passed.
     pub all: usize,
-    /// How many line ends they hold.
-    pub line_ends: u64,
+    /// How many of them are LF, where none is CR.
+    pub feeds: u64,
+    /// Whether one may be CR.
+    pub returned: bool,
     /// The bytes after them that are not plain.
     pub marks: Marks,
 }
@@ -46,33 +87,38 @@ impl Passing {
     {
         Passing {
             all: 0,
-            line_ends: 0,
+            feeds: 0,
+            returned: false,
             marks: Marks::at(bytes, 0),
         }
     }
 
-    /// Passes the bytes up to this one, with so many line ends.
-    #[inline(always)]
-    fn pass_to(&mut self, to: usize, line_ends: u64)
-        requires { self.old.line_ends + line_ends < 2 ^ 64 }
-        ensures { self.new ≡ passed_to self.old to line_ends }
+    /// Passes the bytes up to this one.
+    pub fn pass_to(&mut self, bytes: &[u8], to: usize)
+        requires further { self.old.all ≤ to }
+        requires within { to ≤ length bytes.now }
+        requires few { self.old.feeds ≤ self.old.all }
+        ensures all { self.new.all ≡ to }
+        ensures counts { CountsOn bytes.now self.old self.new }
+        ensures marked { HasMarks bytes.now to self.new.marks }
     {
+        let (feeds, returned) = line_feeds(&bytes[self.all..to]);
+        self.feeds += feeds;
+        self.returned = self.returned || returned;
         self.all = to;
-        self.line_ends += line_ends;
+        self.marks = Marks::at(bytes, to);
     }
 
-    /// Passes the line end of so many bytes at this byte, where the bytes after it are marked.
+    /// Passes the line end of so many bytes at this byte: in brackets the line goes on.
     #[inline(always)]
     fn pass_line_end(&mut self, frames: &Frames, at: usize, len: usize) -> Special
-        requires some { 0 < len }
         requires fits { at + len < 2 ^ 64 }
-        requires few { self.old.line_ends ≤ at }
-        ensures { (bytes : List ℕ) (place : ℕ) (marks : Marks)
-            → IsLineEndAt bytes at len → HasMarks bytes (at + len) self.old.marks
-            → PassesSpecial bytes at place (record self.old { marks = marks }) frames.now result
-            self.new frames.now }
+        requires few { self.old.feeds < at + len }
+        ensures special { result ≡ line_end_special (length frames.now == 0) len }
+        ensures passed { self.new ≡ passed_line_end self.old (at + len) }
     {
-        self.pass_to(at + len, 1);
+        self.all = at + len;
+        self.feeds += 1;
         if frames.is_empty() {
             Special::LineEnd(len)
         } else {
@@ -83,16 +129,18 @@ impl Passing {
     /// Passes the CR at this byte, and LF after it, if a byte follows.
     #[inline(always)]
     fn pass_return(&mut self, frames: &Frames, bytes: &[u8], at: usize) -> Special
+        requires next { FindsNext bytes.now self.old.all at self.old.marks }
         requires within { at < length bytes.now }
         requires returns { is_return (slice_index bytes.now at) ≡ true }
-        requires marked { HasMarks bytes.now (at + 1) self.old.marks }
-        requires few { self.old.line_ends ≤ at }
-        ensures { (place : ℕ)
+        requires few { self.old.feeds ≤ self.old.all }
+        ensures passes { (place : ℕ)
             → PassesSpecial bytes.now at place self.old frames.now result self.new frames.now }
+        ensures counts { CountsOn bytes.now self.old self.new }
     {
         if at + 1 == bytes.len() {
             return Special::Unpassed;
         }
+        self.returned = true;
         if bytes[at + 1] != b'\n' {
             return self.pass_line_end(frames, at, 1);
         }
@@ -100,41 +148,50 @@ impl Passing {
         self.pass_line_end(frames, at, 2)
     }
 
-    /// Passes the string that the quote at this byte begins, if it has no fields and the next byte that isn't plain closes it: whether
+    /// Passes the string that the quote at this byte begins, if it is short, holds something, and is ASCII on one line with no field: whether
     /// it is so. Most strings are.
     #[inline(always)]
-    fn pass_plain_string(&mut self, bytes: &[u8], at: usize) -> bool
+    fn pass_string(&mut self, bytes: &[u8], at: usize) -> bool
+        requires next { FindsNext bytes.now self.old.all at self.old.marks }
         requires within { at < length bytes.now }
         requires quote { is_quote (slice_index bytes.now at) ≡ true }
-        requires marked { HasMarks bytes.now (at + 1) self.old.marks }
-        requires few { self.old.line_ends ≤ at }
-        ensures passed { IsTrue result → PassesMarked bytes.now at self.old self.new }
+        ensures passed { IsTrue result → PassesPiece bytes.now at self.old self.new }
         ensures same { result ≡ false → self.new ≡ self.old }
+        ensures counts { CountsOn bytes.now self.old self.new }
     {
+        let quote = bytes[at];
         let mut marks = self.marks;
-        let end = marks.next(bytes);
-        if end >= bytes.len() || bytes[end] != bytes[at] || end == at + 1 {
+        let mut end = marks.next(bytes);
+        'specials: while end < bytes.len() {
+            if begins_escape(bytes, end) {
+                marks.pass(bytes, end + 2);
+            } else if !is_text_byte(quote, bytes[end]) {
+                break;
+            }
+            end = marks.next(bytes);
+        }
+        if end >= bytes.len() || bytes[end] != quote || end == at + 1 {
             return false;
         }
-        if let Some(spelling) = word_before(bytes, at) {
+        if let Some(spelling) = word_before(&bytes[self.all..], at - self.all) {
             if spelling.has_fields() || !spelling.is_prefix() {
                 return false;
             }
         }
+        self.all = end + 1;
         self.marks = marks;
-        self.pass_to(end + 1, 0);
         true
     }
 
     /// Passes the comment that the `#` at this byte begins, if it is ASCII and a line end follows it: whether it is so.
     #[inline(always)]
-    fn pass_ascii_comment(&mut self, bytes: &[u8], at: usize) -> bool
+    fn pass_comment(&mut self, bytes: &[u8], at: usize) -> bool
+        requires next { FindsNext bytes.now self.old.all at self.old.marks }
         requires within { at < length bytes.now }
         requires hash { is_hash (slice_index bytes.now at) ≡ true }
-        requires marked { HasMarks bytes.now (at + 1) self.old.marks }
-        requires few { self.old.line_ends ≤ at }
-        ensures passed { IsTrue result → PassesMarked bytes.now at self.old self.new }
+        ensures passed { IsTrue result → PassesPiece bytes.now at self.old self.new }
         ensures same { result ≡ false → self.new ≡ self.old }
+        ensures counts { CountsOn bytes.now self.old self.new }
     {
         let mut marks = self.marks;
         let mut end = marks.next(bytes);
@@ -145,63 +202,41 @@ impl Passing {
             return false;
         }
         marks.keep(end);
+        self.all = end;
         self.marks = marks;
-        self.pass_to(end, 0);
         true
     }
 
-    /// Passes the comment, the join or the string that begins at this byte, where so few brackets are open that there is room for
-    /// all that a string with fields opens.
+    /// Passes the byte at this place, which is not plain, or the piece that it begins, with the plain bytes before it. In its line it
+    /// stands at the byte `place`.
     #[inline(always)]
-    fn pass_piece(&mut self, frames: &Frames, bytes: &[u8], class: Class, at: usize) -> Special
+    pub fn pass(&mut self, frames: &mut Frames, bytes: &[u8], at: usize, place: usize) -> Special
+        requires next { FindsNext bytes.now self.old.all at self.old.marks }
         requires within { at < length bytes.now }
-        requires class { is_of_class class (slice_index bytes.now at) ≡ true }
-        requires marked { HasMarks bytes.now (at + 1) self.old.marks }
-        requires few { self.old.line_ends ≤ at }
-        ensures { (place : ℕ)
-            → PassesSpecial bytes.now at place self.old frames.now result self.new frames.now }
+        requires few { self.old.feeds ≤ self.old.all }
+        ensures passes { PassesSpecial bytes.now at place self.old frames.old result
+            self.new frames.new }
+        ensures counts { CountsOn bytes.now self.old self.new }
     {
-        if frames.len() > MAX_DEPTH_AROUND_STRING {
-            return Special::Unpassed;
-        }
-        let passed = match class {
-            Class::Quote => self.pass_plain_string(bytes, at),
-            Class::Hash => self.pass_ascii_comment(bytes, at),
+        let passed = match Class::of(bytes[at]) {
+            Class::LineFeed => return self.pass_line_end(frames, at, 1),
+            Class::Return => return self.pass_return(frames, bytes, at),
+            Class::Quote => self.pass_string(bytes, at),
+            Class::Hash => self.pass_comment(bytes, at),
+            Class::Opening if frames.open(bytes[at] as char, place) => {
+                self.all = at + 1;
+                true
+            }
+            Class::Closing if frames.close(bytes[at] as char) => {
+                self.all = at + 1;
+                true
+            }
             _ => false,
         };
         if passed {
-            return Special::Passed;
+            Special::Passed
+        } else {
+            Special::Unpassed
         }
-        let Some(piece) = piece(bytes, class, at) else {
-            return Special::Unpassed;
-        };
-        let to = at + piece.len;
-        self.marks.pass(bytes, to);
-        self.pass_to(to, piece.line_ends);
-        Special::Passed
-    }
-
-    /// Passes the byte at this place, which is not plain, or the piece that it begins. In its line it stands at the byte `place`.
-    #[inline(always)]
-    pub fn pass(&mut self, frames: &mut Frames, bytes: &[u8], at: usize, place: usize) -> Special
-        requires within { at < length bytes.now }
-        requires marked { HasMarks bytes.now (at + 1) self.old.marks }
-        requires few { self.old.line_ends ≤ at }
-        ensures { PassesSpecial bytes.now at place self.old frames.old result
-            self.new frames.new }
-    {
-        let class = Class::of(bytes[at]);
-        let met = match class {
-            Class::LineFeed => return self.pass_line_end(frames, at, 1),
-            Class::Return => return self.pass_return(frames, bytes, at),
-            Class::Opening => frames.open(bytes[at] as char, place),
-            Class::Closing => frames.close(bytes[at] as char),
-            _ => return self.pass_piece(frames, bytes, class, at),
-        };
-        if !met {
-            return Special::Unpassed;
-        }
-        self.pass_to(at + 1, 0);
-        Special::Passed
     }
 }

@@ -4,11 +4,11 @@ ghost use Rattle.std.specs.Prelude.{◌≡◌, ℕ, ◌<◌, ◌≤◌, ◌==◌
 ghost use Rattle.py_lines.specs.Character.{is_space};
 ghost use Rattle.py_lines.specs.declared.mode.Mode.TheVariants.{Word};
 ghost use Rattle.py_lines.specs.Private.Scan.{HasQuote};
-ghost use Rattle.py_lines.specs.Private.Run.{CountsSet, IsRunOf, IsWholeComment};
+ghost use Rattle.py_lines.specs.Private.Run.{CountsSet, IsRunOf};
 ghost use Rattle.py_lines.specs.Private.Run.{Marks, Spans, is_between, is_in_run, is_ascii_word};
 ghost use Rattle.py_lines.specs.Private.Run.{is_comment_byte, is_body_byte, is_text_byte, is_literal_byte};
 ghost use Rattle.py_lines.specs.Private.Run.{is_long_byte};
-ghost use Rattle.py_lines.specs.Private.Run.{is_code_byte, is_code_sign, is_remark_byte, is_wide_word, stays};
+ghost use Rattle.py_lines.specs.Private.Run.{is_code_byte, is_code_sign, is_wide_word, stays};
 
 use crate::character::is_break;
 use crate::mode::{Mode, Spelling};
@@ -123,8 +123,6 @@ pub enum ByteRun {
     Literal(u8),
     /// Code in a field: words, spaces and the operators that it has mostly.
     Code,
-    /// A comment, as far as it is ASCII.
-    Remark,
 }
 
 impl ByteRun {
@@ -148,10 +146,6 @@ impl ByteRun {
             ByteRun::Code => {
                 let others = between(lanes, b' ', b'!') | equal(lanes, b'=');
                 words(lanes) | (between(lanes, b'*', b'/') | others)
-            }
-            ByteRun::Remark => {
-                let breaks = equal(lanes, b'\n') | equal(lanes, b'\r');
-                equal(breaks, 0) & ascii(lanes)
             }
         }
     }
@@ -210,27 +204,6 @@ pub fn comment_run(bytes: &[u8]) -> usize
         Some(len) => len,
         None => bytes.len(),
     }
-}
-
-/// How many bytes the comment has that a text begins with, if it is whole characters and a line end follows it.
-#[tactic(auto, using(crate::proofs::LineScan::Spans::ascii_comment))]
-#[inline(always)]
-pub fn whole_comment(bytes: &[u8]) -> Option<usize>
-    ensures { IsWholeComment bytes.now result }
-{
-    let ascii = ByteRun::Remark.len_in(bytes);
-    if ascii == bytes.len() {
-        return None;
-    }
-    if bytes[ascii].is_ascii() {
-        return Some(ascii);
-    }
-    let rest = &bytes[ascii..];
-    let run = comment_run(rest);
-    if run == rest.len() || utf8_len(&rest[..run]) < run {
-        return None;
-    }
-    Some(ascii + run)
 }
 
 /// How many bytes of whole characters a text begins with that are of the second run. Those of ASCII are of the first.

@@ -5,17 +5,17 @@ ghost use Rattle.std.specs.Prelude.{◌≡◌, ◌==◌, ◌+◌, ◌<◌, ◌�
 ghost use Rattle.py_lines.specs.Character.{is_backslash, is_operator, is_quote};
 ghost use Rattle.py_lines.specs.Piece.{begins};
 
-use crate::character::{is_backslash, is_closing, is_mark, is_opening, is_quote};
+use crate::character::{is_closing, is_mark, is_opening, is_quote};
 use crate::class::Class;
 use crate::fault::FaultKind;
 use crate::frames::{Frame, Frames, MAX_DEPTH, OpenField};
 use crate::host::{Region, StringWithFields};
+use crate::line_ends::outer_end_len;
+use crate::line_scan::last_operator_end;
 use crate::mode::{Mode, Spelling};
-use crate::outline::outer_end_len;
 use crate::run::{ByteRun, characters_in};
 use crate::string_text::{TextMove, fields_move, quotes_len, text_move};
 use crate::utf8::{first_character, utf8_prefix};
-use crate::whole_pieces::last_operator_end;
 use crate::whole_strings::{literal_run, text_len};
 
 /// What the next bytes came to.
@@ -72,9 +72,9 @@ impl Scan {
     ghost use Rattle.py_lines.specs.Private.Run.{BeginsWith};
     ghost use Rattle.py_lines.specs.Private.Scan.{DoesText, EndsField, EndsOpen, EndsTextSo, HasPending, HasQuote};
     ghost use Rattle.py_lines.specs.Private.Scan.{HoldsRun, IsInPlace, IsPending, OpensField, Steps, TakesOperator};
-    ghost use Rattle.py_lines.specs.Private.Scan.{begun_at, ended_in, ends_before, is_settled, is_text};
+    ghost use Rattle.py_lines.specs.Private.Scan.{begun_at, ended_in, ends_before, is_in_code, is_settled, is_text};
     ghost use Rattle.py_lines.specs.Private.Scan.{line_end_progress, mode_from, opened_at, passed, wrong_here};
-    ghost use Rattle.py_lines.specs.declared.mode.Mode.TheVariants.{Fields, Free};
+    ghost use Rattle.py_lines.specs.declared.mode.Mode.TheVariants.{Free};
     ghost use Rattle.py_lines.specs.declared.frames.Frame.{Frame};
     ghost use Rattle.py_lines.specs.declared.scan.Progress.TheVariants.{Going};
 
@@ -105,6 +105,14 @@ impl Scan {
         ensures { result ≡ is_settled self.now }
     {
         self.mode.is_free() && self.frames.is_empty()
+    }
+
+    /// Whether no piece is open and no field, so that code of the line goes on.
+    #[inline(always)]
+    pub fn is_in_code(&self) -> bool
+        ensures { result ≡ is_in_code self.now }
+    {
+        self.mode.is_free() && !self.frames.has_field()
     }
 
     /// Whether so many more brackets and fields may open.
@@ -421,94 +429,40 @@ impl Scan {
         &bytes[len..]
     }
 
-    /// What is wrong where the text ends with these characters in the text of this string with fields, which is open.
-    fn unfinished_fields(
-        &self,
-        host: StringWithFields,
-        region: Region,
-        named: bool,
-        bytes: &[u8],
-    ) -> LineFault
-        requires mode { self.now.mode ≡ Fields host region named }
-        requires pending { IsPending self.now.mode bytes.now }
-        ensures { EndsOpen self.now bytes.now (Some result) }
-    {
-        if let Region::Specification = region {
-            return LineFault {
-                kind: FaultKind::OpenField,
-                place: self.frames.last_place(),
-            };
-        }
-        // A `{` would open a field, if there is room.
-        if !named && bytes.len() == 1 && bytes[0] == b'{' {
-            let kind = if self.has_room(1) {
-                FaultKind::OpenField
-            } else {
-                FaultKind::TooDeep
-            };
-            return LineFault {
-                kind,
-                place: self.stop,
-            };
-        }
-        let kind = if host.is_long {
-            FaultKind::OpenTriple
-        } else {
-            FaultKind::OpenString
-        };
-        LineFault {
-            kind,
-            place: self.start,
-        }
-    }
-
-    /// What is wrong where the text ends with these characters and no string's text is open, if anything is: a string that they begin, a
-    /// backslash, or else a bracket or a field is open.
-    fn unfinished_code(&self, bytes: &[u8]) -> Option<LineFault>
-        requires code { is_text self.now.mode ≡ false }
-        requires pending { IsPending self.now.mode bytes.now }
-        ensures { EndsOpen self.now bytes.now result }
-    {
-        if bytes.len() == 1 && is_quote(bytes[0] as char) {
-            let place = match self.mode {
-                Mode::Word(spelling) if spelling.is_prefix() => self.start,
-                _ => self.stop,
-            };
-            return Some(LineFault {
-                kind: FaultKind::OpenString,
-                place,
-            });
-        }
-        if bytes.len() == 1 && is_backslash(bytes[0] as char) {
-            return Some(LineFault {
-                kind: FaultKind::BadJoin,
-                place: self.stop,
-            });
-        }
-        let (kind, place) = match self.frames.innermost()? {
-            Frame::Bracket(_, place) => (FaultKind::OpenBracket, place),
-            Frame::Field(field) => (FaultKind::OpenField, field.place),
-        };
-        Some(LineFault { kind, place })
-    }
-
     /// What is wrong where the text ends with these characters, if anything is.
     fn unfinished(&self, bytes: &[u8]) -> Option<LineFault>
         requires pending { IsPending self.now.mode bytes.now }
         ensures { EndsOpen self.now bytes.now result }
     {
-        let kind = match self.mode {
-            Mode::Short(_) => FaultKind::OpenString,
-            Mode::Long(_) => FaultKind::OpenTriple,
-            Mode::Fields(host, region, named) => {
-                return Some(self.unfinished_fields(host, region, named, bytes));
+        let lone = if bytes.len() == 1 { bytes[0] } else { 0 };
+        let (kind, place) = match self.mode {
+            Mode::Short(_) => (FaultKind::OpenString, self.start),
+            Mode::Long(_) => (FaultKind::OpenTriple, self.start),
+            Mode::Fields(_, Region::Specification, _) => {
+                (FaultKind::OpenField, self.frames.last_place())
             }
-            _ => return self.unfinished_code(bytes),
+            // A `{` would open a field, if there is room.
+            Mode::Fields(_, Region::Literal, false) if lone == b'{' => {
+                if self.has_room(1) {
+                    (FaultKind::OpenField, self.stop)
+                } else {
+                    (FaultKind::TooDeep, self.stop)
+                }
+            }
+            Mode::Fields(host, _, _) if host.is_long => (FaultKind::OpenTriple, self.start),
+            Mode::Fields(_, _, _) => (FaultKind::OpenString, self.start),
+            // A quote begins a string, with this word as its prefix or without one.
+            Mode::Word(spelling) if is_quote(lone as char) && spelling.is_prefix() => {
+                (FaultKind::OpenString, self.start)
+            }
+            _ if is_quote(lone as char) => (FaultKind::OpenString, self.stop),
+            _ if lone == b'\\' => (FaultKind::BadJoin, self.stop),
+            _ => match self.frames.innermost()? {
+                Frame::Bracket(_, place) => (FaultKind::OpenBracket, place),
+                Frame::Field(field) => (FaultKind::OpenField, field.place),
+            },
         };
-        Some(LineFault {
-            kind,
-            place: self.start,
-        })
+        Some(LineFault { kind, place })
     }
 
     /// Ends the text with these bytes, before which the scan stops: how many bytes the line end of its last line has, or what is wrong

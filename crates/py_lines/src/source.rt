@@ -5,7 +5,6 @@ ghost use Rattle.std.specs.Str.{IsCharBoundary, StartsWithNoChar};
 
 use crate::fault::LexError;
 use crate::line_state::LineState;
-use crate::outline::simple_lines;
 use crate::scan::{LineFault, Stop};
 use crate::unit::Unit;
 use crate::utf8::utf8_prefix;
@@ -153,7 +152,7 @@ impl<'t> Source<'t> {
         }
     }
 
-    /// Passes over the next logical lines, as long as they are simple and end at this byte or before it: how many bytes they have.
+    /// Passes over the next logical lines, as long as they end at this byte or before it: how many bytes they have.
     pub fn pass_lines(&mut self, before: usize) -> usize
         ensures { PassesUpTo (reader_of self.old) before result (reader_of self.new) }
     {
@@ -162,7 +161,7 @@ impl<'t> Source<'t> {
             return 0;
         }
         let bytes = &self.characters.as_bytes()[place..before];
-        let lines = simple_lines(&mut self.state.scan.frames, bytes);
+        let lines = self.state.scan.pass_lines(bytes);
         let line = self.state.line + lines.line_ends;
         self.state.pass(lines.len, line);
         lines.len

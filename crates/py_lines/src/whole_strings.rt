@@ -1,26 +1,23 @@
 //! Strings that bytes hold whole, where they are short and simple: the machine need not go through them.
 
-ghost use Rattle.std.specs.Prelude.{◌≡◌, ◌<◌, ◌==◌, false, true, length, slice_index};
+ghost use Rattle.std.specs.Prelude.{◌≡◌, ◌<◌, ◌==◌, false, true};
 ghost use Rattle.std.specs.Str.{byte};
 ghost use Rattle.py_lines.specs.FieldStrings.{begins_open};
 ghost use Rattle.py_lines.specs.Character.{is_quote};
 ghost use Rattle.py_lines.specs.Piece.{begins};
 ghost use Rattle.py_lines.specs.Private.Run.{BeginsPlainString, HasWholePlainString, IsRunOf, is_literal_byte};
 ghost use Rattle.py_lines.specs.Private.FieldText.{HasSimpleCode, HasBracketed, HasCode, HasField, HasPart};
-ghost use Rattle.py_lines.specs.Private.FieldText.{HasQuotedText, HasSpecification, HasText};
+ghost use Rattle.py_lines.specs.Private.FieldText.{HasSpecification, HasText};
 ghost use Rattle.py_lines.specs.Private.FieldText.{is_code_bracket, is_escaped};
 
 use crate::character::{is_brace, is_break, is_quote};
 use crate::frames::closing_of;
 use crate::run::{ByteRun, is_ascii_word};
 
-/// How many brackets may be open round a string that is taken or passed over at once.
-pub const MAX_DEPTH_AROUND_STRING: usize = 100;
-
 /// How many bytes the string has that the bytes begin with, where it has no prefix, is short, holds something, and is ASCII with no
 /// escape.
 #[inline(always)]
-fn whole_plain_string(bytes: &[u8]) -> Option<usize>
+pub fn whole_plain_string(bytes: &[u8]) -> Option<usize>
     requires begins { begins is_quote bytes.now ≡ true }
     ensures { HasWholePlainString bytes.now result }
 {
@@ -174,20 +171,4 @@ pub fn text_len(quote: u8, bytes: &[u8]) -> usize
         len += literal_run(quote, &bytes[len..]);
     }
     len
-}
-
-/// How many bytes a short string with fields has from its first quote on, with which the bytes begin, where it holds something and its
-/// text is simple.
-pub fn quoted_text_len(bytes: &[u8]) -> Option<usize>
-    requires some { 0 < length bytes.now }
-    requires quote { is_quote (slice_index bytes.now 0) ≡ true }
-    ensures { HasQuotedText bytes.now result }
-{
-    let quote = bytes[0];
-    let text = &bytes[1..];
-    let len = text_len(quote, text);
-    if len == 0 || len == text.len() || text[len] != quote {
-        return None;
-    }
-    Some(len + 2)
 }

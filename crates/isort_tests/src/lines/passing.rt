@@ -90,6 +90,8 @@ static STRINGS: &[Passing] = &[
 static SHORT: &[Passing] = &[
     Passing("a\n'b\\n'\n", 8, 6, (8, 3)),
     Passing("a\nb = \\\n c\n", 11, 9, (11, 4)),
+    // A word before a string that is no prefix.
+    Passing("a\nbar'c'\n", 9, 7, (9, 3)),
     // Short strings with fields.
     Passing("a\nf'{b}'\n", 9, 7, (9, 3)),
     Passing("a\nb = rF\"{c(d)[0]:>9} {{}} \\t{e!r}\"\n", 36, 34, (36, 3)),
@@ -101,10 +103,8 @@ static SHORT: &[Passing] = &[
 
 /// Lines that are not passed over.
 static LEFT: &[Passing] = &[
-    // What is left to the scan: a word before a string, and a backslash before a space.
-    Passing("a\nbar'c'\n", 9, 0, (2, 2)),
+    // A fault: a backslash before a space, a bracket that closes none, a character that begins nothing, and strings that aren't closed.
     Passing("a\nb = \\ \n", 9, 0, (2, 2)),
-    // A fault: a bracket that closes none, a character that begins nothing, and strings that aren't closed.
     Passing("a\nb = (c]\n", 10, 0, (2, 2)),
     Passing("a\nb = c?\n", 9, 0, (2, 2)),
     Passing("a\nb = 'c\n", 9, 0, (2, 2)),
@@ -144,10 +144,10 @@ static RETURNS: &[Passing] = &[
     Passing("a\nb = \\\r c\n", 11, 9, (11, 4)),
     // At the byte LF may follow.
     Passing("a\nb\nc\rd", 6, 2, (4, 3)),
-    // What is left to the scan: a line end after a backslash in a short string.
-    Passing("a\n'b\\\nc'\r\n", 10, 0, (2, 2)),
-    Passing("a\n'b\\\rc'\n", 9, 0, (2, 2)),
-    Passing("a\n'b\\\r\nc'\r\n", 11, 0, (2, 2)),
+    // After a backslash in a short string.
+    Passing("a\n'b\\\nc'\r\n", 10, 8, (10, 4)),
+    Passing("a\n'b\\\rc'\n", 9, 7, (9, 4)),
+    Passing("a\n'b\\\r\nc'\r\n", 11, 9, (11, 4)),
 ];
 
 static CHARACTERS: &[Passing] = &[
@@ -159,21 +159,21 @@ static CHARACTERS: &[Passing] = &[
     Passing("a\n'c\u{e9}\\n'\n", 10, 8, (10, 3)),
     Passing("a\n\"\"\"\u{e4}\n\"\u{e4}\"\"\"\n", 15, 13, (15, 4)),
     Passing("a\n'\\\u{e4}'\n", 8, 6, (8, 3)),
-    // What is left to the scan: such a word, and a string with fields that holds one.
-    Passing("a\nb = \u{e4}\n", 9, 0, (2, 2)),
-    Passing("a\nf'\u{e4}'\n", 8, 0, (2, 2)),
+    // In a word, and in a string with fields.
+    Passing("a\nb = \u{e4}\n", 9, 7, (9, 3)),
+    Passing("a\nf'\u{e4}'\n", 8, 6, (8, 3)),
 ];
 
-/// What is left to the scan: strings with fields that are empty or have three quotes, and those with a field in another, in a
-/// specification or over lines, with a name, with CR, or that aren't closed.
+/// Strings with fields that are empty or have three quotes, and those with a field in another, in a specification or over lines, with a
+/// name, and with CR; and one that isn't closed.
 static FIELDS: &[Passing] = &[
-    Passing("a\nRT\"\"\n", 7, 0, (2, 2)),
-    Passing("a\nf'''{b}'''\n", 13, 0, (2, 2)),
-    Passing("a\nf\"\"\"b\n{c!r:>9}\n\"\"\"\n", 21, 0, (2, 2)),
-    Passing("a\nf'{b:{c}}'\n", 13, 0, (2, 2)),
-    Passing("a\nf'{f\"{b}\"}'\n", 14, 0, (2, 2)),
-    Passing("a\nf'\\N{b}'\n", 11, 0, (2, 2)),
-    Passing("a\nf'''b\r\nc'''\n", 14, 0, (2, 2)),
+    Passing("a\nRT\"\"\n", 7, 5, (7, 3)),
+    Passing("a\nf'''{b}'''\n", 13, 11, (13, 3)),
+    Passing("a\nf\"\"\"b\n{c!r:>9}\n\"\"\"\n", 21, 19, (21, 5)),
+    Passing("a\nf'{b:{c}}'\n", 13, 11, (13, 3)),
+    Passing("a\nf'{f\"{b}\"}'\n", 14, 12, (14, 3)),
+    Passing("a\nf'\\N{b}'\n", 11, 9, (11, 3)),
+    Passing("a\nf'''b\r\nc'''\n", 14, 12, (14, 4)),
     Passing("a\nf'{b'\n", 8, 0, (2, 2)),
 ];
 
@@ -220,7 +220,7 @@ static PIECES_WITH_RETURNS: &[PassingPiece] = &[
 ];
 
 #[test]
-fn simple_lines_are_passed_over(rt: HostRuntime) -> Result<(), Fail> {
+fn lines_are_passed_over(rt: HostRuntime) -> Result<(), Fail> {
     let alloc = rt.alloc();
     each_holds_again(alloc, &[("FIRST_LINES", FIRST_LINES)])?;
     each_holds_again(

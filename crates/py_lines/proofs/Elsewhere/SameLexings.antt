@@ -11,7 +11,7 @@ use Rattle.py_lines.specs.Dialect.{Dialect, fielded_dialect, plain_dialect}
 use Rattle.py_lines.specs.Fields.{Fields}
 use Rattle.py_lines.specs.Reading.{IsReadingIn, Decodes, IsReadPrefixIn}
 use Rattle.py_lines.specs.OpenFields.{Spot, IsOpenStringIn, in_literal, in_specification, AreBegunIn, BeginsListIn, at_start, in_field, StandsOpenIn, IsOpenUpToIn, InOpenShortIn, InOpenLongIn, AfterOpenBackslashIn, InSpecificationIn, InOpenFieldIn}
-use Rattle.py_lines.specs.Faults.{IsLiveIn, DiesAtIn, IsFieldDueIn, IsAtDepthIn, OpensBraceTooDeepIn, BreaksStringIn, OpensTooDeepIn, Cause, brace_too_deep, breaks_string, breaks_join, closes_wrong, opens_too_deep, ends_specification, begins_nothing, ExplainsIn, causes_before, NoneExplainsIn, IsCharacterFaultIn, InOpenBracketIn, Unfinished, open_brace, open_short, open_long, open_join, open_bracket, open_inside, IsOpenAtEndIn, IsFaultAtIn, at_character, at_bytes, at_end, IsLexicalFaultIn}
+use Rattle.py_lines.specs.Faults.{IsLiveIn, DiesAtIn, IsFieldDueIn, IsAtDepthIn, OpensBraceTooDeepIn, Cause, brace_too_deep, breaks_string, breaks_join, closes_wrong, opens_too_deep, ends_specification, begins_nothing, ExplainsIn, causes_before, NoneExplainsIn, IsCharacterFaultIn, InOpenBracketIn, Unfinished, open_brace, open_short, open_long, open_join, open_bracket, open_inside, IsOpenAtEndIn, IsFaultAtIn, at_character, at_bytes, at_end, IsLexicalFaultIn}
 use Rattle.py_lines.proofs.Fields.Parts.{not_nothing}
 use Rattle.py_lines.proofs.Fields.Elsewhere.{later, none_false, no_field_prefix, quotes_begin, read_with, read_without, balanced_with, balanced_without}
 use Rattle.py_lines.proofs.Elsewhere.SameRuns.{live_with, live_without}
@@ -69,14 +69,13 @@ module _ (old new : Dialect) (same : Carries old new) where
   list_starts outside rest depth h (at_start b r d is none) = (is, none)
   list_starts outside rest depth h (in_field b r d earlier_list base pieces front host spot is list begun string may deep) =
       let before : may_have_fields (earlier_list ++ (spelled pieces ++ (front ++ byte "{" ∷ []))) ≡ false = ap may_have_fields (sym is) ∙ earlier outside rest h in
-      let own : may_have_fields (front ++ byte "{" ∷ []) ≡ false = later (spelled pieces) _ (later earlier_list _ before) in
-      absurd (same.none host spot front _ (earlier front _ own) string)
+      absurd (same.none host spot front _ (earlier front _ (later (spelled pieces) _ (later earlier_list _ before))) string)
 
   list_carried : (outside rest : List ℕ) (depth : ℕ) → may_have_fields (outside ++ rest) ≡ false → BeginsListIn old outside rest depth → BeginsListIn new outside rest depth
   list_carried outside rest depth h is = let at = list_starts outside rest depth h is in at_start outside rest depth at.0 at.1
 
   begun_carried : (depth : ℕ) (pieces : List Piece) (rest : List ℕ) → may_have_fields (spelled pieces ++ rest) ≡ false → AreBegunIn old depth pieces rest → AreBegunIn new depth pieces rest
-  begun_carried depth pieces rest h is = record { fit = same.fit pieces rest h is.fit; others = is.others; balanced = is.balanced; inside = is.inside }
+  begun_carried depth pieces rest h is = search (is, same.fit pieces rest h is.fit)
 
   -- a piece that is open
   stands_carried : (Open Other : List ℕ → Type 0) → ((front : List ℕ) → may_have_fields front ≡ false → Open front → Other front) → (characters start : List ℕ) → may_have_fields characters ≡ false → StandsOpenIn old Open characters start → StandsOpenIn new Other characters start
@@ -84,17 +83,12 @@ module _ (old new : Dialect) (same : Carries old new) where
       let whole : may_have_fields (is.outside ++ (spelled is.pieces ++ is.front)) ≡ false =
       ap may_have_fields (sym (append_assoc is.outside (spelled is.pieces) is.front) ∙ ap (λ t. t ++ is.front) is.before ∙ is.spell) ∙ h in
       let own = later is.outside (spelled is.pieces ++ is.front) whole in
-      record {
-        outside = is.outside;
-        depth = is.depth;
-        pieces = is.pieces;
-        front = is.front;
-        list = list_carried is.outside (spelled is.pieces ++ is.front) is.depth whole is.list;
-        begun = begun_carried is.depth is.pieces is.front own is.begun;
-        before = is.before;
-        spell = is.spell;
-        open_yet = carry is.front (later (spelled is.pieces) is.front own) is.open_yet;
-      }
+      search (
+        is,
+        list_carried is.outside (spelled is.pieces ++ is.front) is.depth whole is.list,
+        begun_carried is.depth is.pieces is.front own is.begun,
+        carry is.front (later (spelled is.pieces) is.front own) is.open_yet,
+      )
 
   -- it is no string with fields
   no_string : (host : Host) (spot : Spot) (front : List ℕ) → may_have_fields front ≡ false → ¬ (IsOpenUpToIn old host spot front)
@@ -130,38 +124,28 @@ module _ (old new : Dialect) (same : Carries old new) where
   depth_carried before c depth h is =
       let whole : may_have_fields (is.outside ++ (spelled is.pieces ++ c ∷ [])) ≡ false =
       ap may_have_fields (sym (append_assoc is.outside (spelled is.pieces) (c ∷ [])) ∙ ap (λ t. t ++ c ∷ []) is.spell) ∙ h in
-      record {
-        outside = is.outside;
-        base = is.base;
-        pieces = is.pieces;
-        list = list_carried is.outside (spelled is.pieces ++ c ∷ []) is.base whole is.list;
-        begun = begun_carried is.base is.pieces (c ∷ []) (later is.outside (spelled is.pieces ++ c ∷ []) whole) is.begun;
-        spell = is.spell;
-        deep = is.deep;
-      }
-
-  string_carried : (before : List ℕ) (c offset : ℕ) → may_have_fields before ≡ false → BreaksStringIn old before c offset → BreaksStringIn new before c offset
-  string_carried before c offset h is = record {
-    start = is.start;
-    breaks = is.breaks;
-    inside = ⊎_elim (λ short. inl (in_short_carried before is.start h short)) (λ other. absurd (no_specification other.host before other.field h other.inside)) is.inside;
-    place = is.place;
-  }
-
-  deep_carried : (before : List ℕ) (c offset : ℕ) → may_have_fields (before ++ c ∷ []) ≡ false → OpensTooDeepIn old before c offset → OpensTooDeepIn new before c offset
-  deep_carried before c offset h is = record {
-    opens = is.opens;
-    deep = ⊎_elim (λ at. inl (depth_carried before c 200 h at)) (λ due. absurd (no_field _ _ before [] (earlier before (c ∷ []) h) due.1)) is.deep;
-    place = is.place;
-  }
+      search (
+        is,
+        list_carried is.outside (spelled is.pieces ++ c ∷ []) is.base whole is.list,
+        begun_carried is.base is.pieces (c ∷ []) (later is.outside (spelled is.pieces ++ c ∷ []) whole) is.begun,
+      )
 
   -- why a character is refused
   explains_carried : (cause : Cause) (before : List ℕ) (c offset : ℕ) → may_have_fields (before ++ c ∷ []) ≡ false → ExplainsIn old cause before c offset → ExplainsIn new cause before c offset
   explains_carried brace_too_deep before c offset h is = absurd (no_brace before (c ∷ []) offset (earlier before (c ∷ []) h) is)
-  explains_carried breaks_string before c offset h is = string_carried before c offset (earlier before (c ∷ []) h) is
+  explains_carried breaks_string before c offset h is = record {
+    start = is.start;
+    breaks = is.breaks;
+    place = is.place;
+    inside = ⊎_elim (λ short. inl (in_short_carried before is.start (earlier before (c ∷ []) h) short)) (λ other. absurd (no_specification other.host before other.field (earlier before (c ∷ []) h) other.inside)) is.inside;
+  }
   explains_carried breaks_join before c offset h is = record { start = is.start; after = backslash_carried before is.start (earlier before (c ∷ []) h) is.after; place = is.place }
   explains_carried closes_wrong before c offset h is = is
-  explains_carried opens_too_deep before c offset h is = deep_carried before c offset h is
+  explains_carried opens_too_deep before c offset h is = record {
+    opens = is.opens;
+    place = is.place;
+    deep = ⊎_elim (λ at. inl (depth_carried before c 200 h at)) (λ due. absurd (no_field _ _ before [] (earlier before (c ∷ []) h) due.1)) is.deep;
+  }
   explains_carried ends_specification before c offset h is = absurd (no_specification is.host before is.start (earlier before (c ∷ []) h) is.inside)
   explains_carried begins_nothing before c offset h is = is
 
@@ -170,19 +154,11 @@ module _ (old new : Dialect) (same : Carries old new) where
   bracket_carried characters start h is =
       let ps : List Piece = is.outer ++ is.opener ∷ is.inner in
       let whole : may_have_fields (is.outside ++ spelled ps) ≡ false = ap may_have_fields is.spell ∙ h in
-      record {
-        outside = is.outside;
-        depth = is.depth;
-        outer = is.outer;
-        opener = is.opener;
-        inner = is.inner;
-        list = list_carried is.outside (spelled ps) is.depth whole is.list;
-        begun = begun_carried is.depth ps [] (ap may_have_fields (append-nil (spelled ps)) ∙ later is.outside (spelled ps) whole) is.begun;
-        opens = is.opens;
-        balanced = is.balanced;
-        spell = is.spell;
-        before = is.before;
-      }
+      search (
+        is,
+        list_carried is.outside (spelled ps) is.depth whole is.list,
+        begun_carried is.depth ps [] (ap may_have_fields (append-nil (spelled ps)) ∙ later is.outside (spelled ps) whole) is.begun,
+      )
 
 -- the characters of the text, however it was decoded
 none_in : (text characters tail : List ℕ) → HasNoFields text → Decodes text characters tail → may_have_fields characters ≡ false
@@ -204,15 +180,12 @@ module _ (old new : Dialect) (there : Carries old new) (back : Carries new old) 
   character_carried : (kind : FaultKind) (characters : List ℕ) (offset : ℕ) → may_have_fields characters ≡ false → IsCharacterFaultIn old kind characters offset → IsCharacterFaultIn new kind characters offset
   character_carried kind characters offset h is =
       let here = through is.before is.dies.after characters is.c is.dies.spell h in
-      record {
-        cause = is.cause;
-        before = is.before;
-        c = is.c;
-        is = is.is;
-        dies = dies_carried characters is.before is.c h is.dies;
-        fits = explains_carried old new there is.cause is.before is.c offset here is.fits;
-        first = none_carried (causes_before is.cause) is.before is.c here is.first;
-      }
+      search (
+        is,
+        dies_carried characters is.before is.c h is.dies,
+        explains_carried old new there is.cause is.before is.c offset here is.fits,
+        none_carried (causes_before is.cause) is.before is.c here is.first,
+      )
 
   -- what is open at the end
   open_carried : (unfinished : Unfinished) (characters : List ℕ) (offset : ℕ) → may_have_fields characters ≡ false → IsOpenAtEndIn old unfinished characters offset → IsOpenAtEndIn new unfinished characters offset
@@ -225,9 +198,9 @@ module _ (old new : Dialect) (there : Carries old new) (back : Carries new old) 
 
   fault_carried : (kind : FaultKind) (characters tail : List ℕ) (offset : ℕ) → may_have_fields characters ≡ false → IsFaultAtIn old kind characters tail offset → IsFaultAtIn new kind characters tail offset
   fault_carried kind characters tail offset h (at_character is) = at_character (character_carried kind characters offset h is)
-  fault_carried kind characters tail offset h (at_bytes is) = at_bytes (record { is = is.is; bad = is.bad; live = there.live characters h is.live; place = is.place })
+  fault_carried kind characters tail offset h (at_bytes is) = at_bytes (search (is, there.live characters h is.live))
   fault_carried kind characters tail offset h (at_end is) =
-      at_end (record { unfinished = is.unfinished; is = is.is; whole = is.whole; live = there.live characters h is.live; ends_in = open_carried is.unfinished characters offset h is.ends_in })
+      at_end (search (is, there.live characters h is.live, open_carried is.unfinished characters offset h is.ends_in))
 
   lexical_carried : (characters tail : List ℕ) (fault : Fault) → may_have_fields characters ≡ false → IsLexicalFaultIn old characters tail fault → IsLexicalFaultIn new characters tail fault
   lexical_carried characters tail fault h is = record {
@@ -248,25 +221,10 @@ module _ (old new : Dialect) (there : Carries old new) (back : Carries new old) 
       }
 
   lexed_carried : (text : List ℕ) (lines : List LogicalLine) (end : Option Fault) → HasNoFields text → IsLexedIn old text lines end → IsLexedIn new text lines end
-  lexed_carried text lines None free is =
-      record {
-        characters = is.characters;
-        pieces = is.pieces;
-        decodes = is.decodes;
-        reading = there.reading is.pieces is.characters (none_in text is.characters _ free is.decodes) is.reading;
-        cut = is.cut;
-      }
+  lexed_carried text lines None free is = search (is, there.reading is.pieces is.characters (none_in text is.characters _ free is.decodes) is.reading)
   lexed_carried text lines (Some fault) free is =
       let h = none_in text is.characters is.tail free is.decodes in
-      record {
-        characters = is.characters;
-        tail = is.tail;
-        pieces = is.pieces;
-        decodes = is.decodes;
-        prefix = prefix_carried is.pieces is.characters h is.prefix;
-        refused = lexical_carried is.characters is.tail fault h is.refused;
-        cut = is.cut;
-      }
+      search (is, prefix_carried is.pieces is.characters h is.prefix, lexical_carried is.characters is.tail fault h is.refused)
 
 pub lexed_with : (text : List ℕ) (lines : List LogicalLine) (end : Option Fault) → HasNoFields text → IsPlainLexed text lines end → IsLexed text lines end
 lexed_with text lines end free is = lexed_carried plain_dialect fielded_dialect to_fielded to_plain text lines end free is

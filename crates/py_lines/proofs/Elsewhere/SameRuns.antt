@@ -1,173 +1,258 @@
--- A text that has no prefix of a string with fields before a quote is live with fields exactly if it is live without: the machine
--- with fields and the one without go alike through it, and what is open can be closed.
-use Rattle.std.proofs.Common.{◌≡◌, ℕ, true, None, Some, List, [], ◌∷◌, ◌++◌, refl, sym, ap, ◌∙◌, subst, append_assoc, append-nil, false, Option, ⊎_elim}
-use Rattle.std.specs.Str.{all_scalars}
-use Rattle.std.specs.Char.{IsScalar}
-use Rattle.std.specs.Prelude.{Option}
-use Rattle.std.proofs.lemmas.Bool.{and_from, eq-eqb, cases_Bool}
-use Rattle.py_lines.specs.Piece.{operator, comment, line_end, Piece, spelled}
-use Rattle.py_lines.specs.Balance.{closing_of, depth_through}
-use Rattle.py_lines.specs.LogicalLine.{byte_len}
-use Rattle.py_lines.specs.Dialect.{plain_dialect, fielded_dialect}
-use Rattle.py_lines.specs.WithoutFields.{IsPlainReading}
-use Rattle.py_lines.specs.Faults.{IsLiveIn}
-use Rattle.py_lines.specs.Private.Machine.{Mode}
-use Rattle.py_lines.specs.Private.Mode as modes
-use Rattle.py_lines.specs.Private.Machine.{Scanned, fresh, text_start, class_of, started, moved, step, move_from, steps_from, is_final, Holds, IsSound, Bracket, brackets_of, move_of, is_prefix_spelling}
-use Rattle.py_lines.proofs.Pieces.PieceLists.{piece}
-use Rattle.py_lines.proofs.Pieces.OpenBrackets.{closer_pops, balanced-from_stack, stack-from_balanced, stack_before, stack_push}
-use Rattle.py_lines.proofs.Machine.Starts.{start-operator}
-use Rattle.py_lines.proofs.Machine.PieceSteps.{scanned, pieces_at, steps_by-append, run_before}
-use Rattle.py_lines.proofs.Machine.ReadingSteps.{reach}
-use Rattle.py_lines.proofs.Machine.Soundness.{SoundIf, step_sound, end_sound}
-use Rattle.py_lines.proofs.Machine.EarlierPieces.{GoesBy, stack_at, closed_grows}
-use Rattle.py_lines.proofs.ScanMachine.Follows.{closing_neutral}
-use Rattle.py_lines.proofs.Machine.LiveTexts.{keeps, stack_closed, IsReady, ready-free, closing-operator, comment-breaks, feed-starts, closing_of-closing, closing-scalar, completes}
-use Rattle.py_lines.proofs.Machine.Spellings.{word_tells, other_begins}
-use Rattle.py_lines.proofs.ScanMachine.Reaching.{live_runs, runs_live}
-use Rattle.py_lines.proofs.Fields.Elsewhere.{later, no_field_prefix, none_false}
-use Rattle.py_lines.specs.Character.{is_quote}
+-- A text that has no prefix of a string with fields before a quote is live with fields exactly if it is live without: the machine goes
+-- through it and opens no string with fields, and nor does what closes all that is open.
+use Rattle.std.proofs.Common.{◌≡◌, ℕ, true, false, Option, None, Some, List, [], ◌∷◌, ◌++◌, refl, sym, ap, ◌∙◌, subst, inl, inr, append_assoc, append-nil}
+use Rattle.std.proofs.lemmas.Bool.{and_parts, both_ways, false_from_ne_true}
+use Rattle.std.proofs.lemmas.List.{append_cancel_left}
+use Rattle.py_lines.specs.Character.{is_mark, is_quote}
+use Rattle.py_lines.specs.Piece.{Class, mark, string, operator, line_end, Piece, begins, spelled}
+use Rattle.py_lines.specs.PieceGrammar.{IsPrefix, InPlainClass, MayPrecedePlain, AreReadPlain}
+use Rattle.py_lines.specs.Balance.{IsBalanced, IsShallowPlain, OpensShallow}
+use Rattle.py_lines.specs.Fields.{Fields, ShallowFields}
 use Rattle.py_lines.specs.FieldStrings.{is_field_prefix, may_have_fields}
-use Rattle.py_lines.specs.declared.mode.Spelling.{Spelling}
-use Rattle.py_lines.specs.Private.Machine.{Move}
-use Rattle.py_lines.specs.Private.ScanMachine.{is_field_spelling, quote_move, meet_of, move_in, scan_steps}
+use Rattle.py_lines.specs.Dialect.{plain_dialect, fielded_dialect}
+use Rattle.py_lines.specs.Faults.{IsLiveIn}
+use Rattle.py_lines.specs.Private.Mode as modes
+use Rattle.py_lines.specs.Private.Machine.{Mode, Move, Start, class_of, closed, move_of, start_of, first_spelling}
+use Rattle.py_lines.specs.Private.Machine.{Move as moves, Start as starts}
+use Rattle.py_lines.specs.Private.FieldMachine.{FieldMode, plain, plain_move, begins_host, Level, FieldScanned, field_state, field_text_start, field_pieces, field_moved, field_started, field_step, after_operator, openers_with, openers_through}
+use Rattle.py_lines.proofs.Text.Splits.{Either, either}
+use Rattle.py_lines.proofs.Text.CharacterTests.{prefix_word}
+use Rattle.py_lines.proofs.Pieces.PieceLists.{piece, AreReadIn-first, AreReadIn-second}
+use Rattle.py_lines.proofs.Pieces.OpenBrackets.{EachAtDepth-parts, some_before}
+use Rattle.py_lines.proofs.Machine.Starts.{start-mark, start-quote, start-word, opens_no}
+use Rattle.py_lines.proofs.Machine.PieceSteps.{Grown, EndsWith, ends_before, ends_at, ends_after, IsRead, at_once, opened, is_read}
+use Rattle.py_lines.proofs.Machine.StringSteps.{grown-prefix, short_ends, long_ends}
+use Rattle.py_lines.proofs.FieldMachine.Runs.{MayBegin, BelowLimit, Goes, goes-grows, goes-begins, goes-to, steps_of, room_of}
+use Rattle.py_lines.proofs.FieldMachine.ListBrackets.{openers_through-append, balanced_openers}
+use Rattle.py_lines.proofs.FieldMachine.PlainSteps.{plain_moves}
+use Rattle.py_lines.proofs.FieldMachine.WholeRuns.{RunsFrom, Reaches, live_runs, runs_live, runs_sound, runs_both, runs_parts, runs_on, one_runs, roomy_parts, reading_at, reach_open}
+use Rattle.py_lines.proofs.FieldSoundness.Holds.{BeginsPlain, IsFieldSound}
+use Rattle.py_lines.proofs.FieldSoundness.CodeSteps.{begins_plain-more}
+use Rattle.py_lines.proofs.FieldSoundness.HostSteps.{start_is_sound}
+use Rattle.py_lines.proofs.FieldSoundness.WholeTexts.{two_hundred}
+use Rattle.py_lines.proofs.FieldSoundness.LiveTexts.{host_at, BeginsNone, state_finishes}
+use Rattle.py_lines.proofs.Fields.Parts.{not_nothing}
+use Rattle.py_lines.proofs.Fields.OneReading.{read_before, read_nothing}
+use Rattle.py_lines.proofs.Fields.Elsewhere.{later, no_field_prefix, AreUnfielded, unfielded-push, plain_unfielded, read_unfielded, read_with, shallow_with, shallow_without}
 
--- from one state, the machine goes over these characters to another, with these brackets open
-abbrev pub PlainGoesTo : Scanned → List ℕ → Scanned → List Bracket → Type 0
-PlainGoesTo from characters to brackets = GoesBy move_from from characters to brackets
+-- no string with fields begins in such a text
+no_host_in : (m : Mode) (held : List ℕ) (c : ℕ) (cs : List ℕ) → may_have_fields (held ++ c ∷ cs) ≡ false → begins_host m held c ≡ false
+no_host_in (modes.Word s) held c cs h =
+    false_from_ne_true _ (λ both. let parts = and_parts (is_field_prefix held) (is_quote c) both in both_ways _ (no_field_prefix held c cs parts.1 h) parts.0)
+no_host_in m held c cs h = refl
 
--- from the text's start
-abbrev pub PlainRunsTo : List ℕ → Scanned → List Bracket → Type 0
-PlainRunsTo characters to brackets = PlainGoesTo text_start characters to brackets
+-- no string with fields is open, and none is finished
+abbrev IsPlainIn : List Level → FieldMode → List Piece → Type 0
+IsPlainIn [] (plain m) done = AreUnfielded Fields done
+IsPlainIn outer m done = ⊥
 
--- the machine goes through a live text
-pub plain_live_runs : (cs : List ℕ) → IsLiveIn plain_dialect cs → (s : Scanned) × (st : List Bracket) × PlainRunsTo cs s st
-plain_live_runs cs live =
-    let found = reach live.pieces [] live.reading.reads.fit in
-    let through = run_before move_from (Some text_start) cs live.more found.to (ap (steps_from (Some text_start)) (sym live.reading.reads.spell) ∙ found.steps) in
-    let grown = closed_grows found.to.mode found.to.done found.to.held in
-    let last = stack_before found.to.done grown.0 [] (ap brackets_of (sym grown.1 ∙ found.pieces_are) ∙ stack-from_balanced live.pieces live.reading.balanced live.reading.shallow) in
-    let stack = stack_at {move = move_from} {s = through.0} {t = found.to} {cs = live.more} {st = last.0} (record { run = through.2; stack = last.1 }) in
-    (through.0, stack.0, record { run = through.1; stack = stack.1 })
+abbrev IsPlain : FieldScanned → Type 0
+IsPlain t = IsPlainIn t.outer t.mode t.done
 
--- where the machine goes to from the start is sound
-run_sound : (cs : List ℕ) (o : Option Scanned) (read : List ℕ) → SoundIf o read → SoundIf (steps_from o cs) (read ++ cs)
-run_sound cs None read sound = tt
-run_sound [] (Some s) read sound = subst (IsSound s) (sym (append-nil read)) sound
-run_sound (c ∷ cs) (Some s) read sound =
-    subst (SoundIf (steps_from (step s c) cs)) (append_assoc read (c ∷ []) cs) (run_sound cs (step s c) (read ++ c ∷ []) (step_sound s.done s.mode s.held read c sound))
+abbrev PlainIf : Option FieldScanned → Type 0
+PlainIf None = Unit {0}
+PlainIf (Some t) = IsPlain t
 
-pub start_is_sound : IsSound text_start []
-start_is_sound = record { spell = refl; holds = (refl, refl); fit = λ more. tt }
+-- pieces, with the open one
+plain_closed : (m : Mode) (done : List Piece) (held : List ℕ) → AreUnfielded Fields done → (class_of m ≡ string → BeginsPlain held) → AreUnfielded Fields (closed m done held)
+plain_closed modes.Start done held own quoted = own
+plain_closed modes.Free done held own quoted = own
+plain_closed m done held own quoted = unfielded-push Fields done (piece (class_of m) held) own (λ is. plain_unfielded Fields held (quoted is))
 
-sound_at : (cs : List ℕ) (s : Scanned) → steps_from (Some text_start) cs ≡ Some s → IsSound s cs
-sound_at cs s steps = subst (λ o. SoundIf o cs) steps (run_sound cs (Some text_start) [] start_is_sound)
+-- what a character does that begins none
+plain_started : (done : List Piece) (os : List ℕ) (c : ℕ) (x : Start) → AreUnfielded Fields done → PlainIf (field_started [] done os c x)
+plain_started done os c (starts.Open m) own = own
+plain_started done os c starts.Operator own = go (openers_with os c)
+  where
+    go : (o : Option (List ℕ)) → PlainIf (after_operator [] done c o)
+    go None = tt
+    go (Some after) = unfielded-push Fields done (piece operator (c ∷ [])) own (λ is. absurd (cc))
+plain_started done os c starts.LineEnd own = unfielded-push Fields done (piece line_end (c ∷ [])) own (λ is. absurd (cc))
+plain_started done os c starts.Nothing own = tt
 
--- a run to an end at which no bracket is open is a reading
-reading_at : (cs : List ℕ) (s : Scanned) → PlainRunsTo cs s [] → is_final s.mode ≡ true → IsPlainReading (pieces_at s) cs
-reading_at cs s to may =
-    let at_end = end_sound s.done s.mode s.held cs (sound_at cs s to.run) may in
-    let balanced = balanced-from_stack (pieces_at s) (stack_closed s.mode s.done s.held [] to.stack) in
-    record { reads = record { spell = at_end.0; fit = at_end.1 }; balanced = balanced.0; shallow = balanced.1 }
+plain_moved : (done : List Piece) (os : List ℕ) (m : Mode) (held : List ℕ) (c : ℕ) (v : Move) → AreUnfielded Fields done → (class_of m ≡ string → BeginsPlain held) → PlainIf (field_moved (field_state [] done os (plain m) held) c (plain_move v))
+plain_moved done os m held c (moves.Grows n) own quoted = own
+plain_moved done os m held c moves.Closes own quoted = unfielded-push Fields done (piece (class_of m) (held ++ c ∷ [])) own (λ is. plain_unfielded Fields (held ++ c ∷ []) (begins_plain-more held c (quoted is)))
+plain_moved done os m held c moves.Breaks own quoted = plain_started (closed m done held) os c (start_of c) (plain_closed m done held own quoted)
+plain_moved done os m held c moves.Refused own quoted = tt
 
--- a text that leads to an end at which no bracket is open
-record Finishes (s : Scanned) : Type 0 where
-  more : List ℕ
-  to : Scanned
-  scalars : all_scalars more ≡ true
-  goes : PlainGoesTo s more to []
-  ends : is_final to.mode ≡ true
+plain_step : (outer : List Level) (done : List Piece) (os : List ℕ) (n : FieldMode) (held read : List ℕ) (c : ℕ) → IsFieldSound two_hundred (field_state outer done os n held) read → IsPlainIn outer n done → host_at n held c ≡ false → PlainIf (field_step (field_state outer done os n held) c)
+plain_step [] done os (plain m) held read c sound own none =
+    subst PlainIf (ap (field_moved (field_state [] done os (plain m) held) c) (sym (plain_moves m held c none))) (plain_moved done os m held c (move_of m c) own sound.mode.1)
+plain_step outer done os n held read c sound own none = absurd own
 
--- one character first
-finishes_after : (s t : Scanned) (c : ℕ) → IsScalar c → step s c ≡ Some t → Finishes t → Finishes s
-finishes_after s t c scalar next later = record {
-  more = c ∷ later.more;
-  to = later.to;
-  scalars = and_from _ _ scalar later.scalars;
-  goes = record { run = ap (λ o. steps_from o later.more) next ∙ later.goes.run; stack = later.goes.stack };
-  ends = later.ends;
-}
+-- and characters that begin none
+plain_run : (cs : List ℕ) (t u : FieldScanned) (read : List ℕ) → IsFieldSound two_hundred t read → IsPlain t → BeginsNone t cs → RunsFrom t cs u → IsPlain u
+plain_run [] t u read sound own none runs = subst PlainIf runs.0 own
+plain_run (c ∷ cs) t u read sound own none runs =
+    let (n, one, rest) = runs_parts t (c ∷ []) cs u runs in
+    let step = (roomy_parts _ _ n (one_runs t c n one)).1 in
+    plain_run cs n u (read ++ c ∷ []) (runs_on t read (c ∷ []) n sound one) (subst PlainIf step (plain_step t.outer t.done t.openers t.mode t.held read c sound own none.0)) (none.1 n step) rest
 
--- all brackets can be closed
-closes_all : (st : List Bracket) (s : Scanned) → IsReady s.mode → brackets_of s.done ≡ Some st → Finishes s
-closes_all [] s ready stack = record { more = []; to = s; scalars = refl; goes = record { run = refl; stack = stack }; ends = ready.ends }
-closes_all (b ∷ bs) s ready stack =
-    let c = closing_of b.opener in
-    let is = closing_of-closing b.opener in
-    let before = pieces_at s in
-    let p = piece operator (c ∷ []) in
-    finishes_after s (fresh (before ++ p ∷ [])) c (closing-scalar c is) (ap (moved s c) (ready.breaks c is) ∙ ap (started before c) (start-operator c (closing-operator c is)))
-    (closes_all bs (fresh (before ++ p ∷ [])) ready-free
-    (stack_push before p (b ∷ bs) (stack_closed s.mode s.done s.held (b ∷ bs) stack) ∙ closer_pops bs (byte_len (spelled before)) b p is (eq-eqb c c refl)))
+-- so do those of such a text
+text_none : (outer : List Level) (done : List Piece) (os : List ℕ) (n : FieldMode) (held read : List ℕ) (c : ℕ) (cs : List ℕ) → IsFieldSound two_hundred (field_state outer done os n held) read → IsPlainIn outer n done → may_have_fields (read ++ c ∷ cs) ≡ false → host_at n held c ≡ false
+text_none [] done os (plain m) held read c cs sound own h =
+    no_host_in m held c cs (later (spelled done) (held ++ c ∷ cs) (ap may_have_fields (sym (append_assoc (spelled done) held (c ∷ cs)) ∙ ap (λ x. x ++ c ∷ cs) sound.spell) ∙ h))
+text_none outer done os n held read c cs sound own h = absurd own
 
--- the open piece, if there is one, can be closed, and then they
-module _ (done : List Piece) (st : List Bracket) (stack : brackets_of done ≡ Some st) where
-  commented : (held : List ℕ) → Finishes (scanned done modes.Comment held)
-  commented held =
-      let before = done ++ piece comment held ∷ [] in
-      finishes_after (scanned done modes.Comment held) (fresh (before ++ piece line_end (10 ∷ []) ∷ [])) 10 refl
-      (ap (moved (scanned done modes.Comment held) 10) comment-breaks ∙ ap (started before 10) feed-starts)
-      (closes_all st _ ready-free (keeps before (piece line_end (10 ∷ [])) st refl refl (keeps done (piece comment held) st refl refl stack)))
+begins_none : (cs : List ℕ) (t u : FieldScanned) (read : List ℕ) → IsFieldSound two_hundred t read → IsPlain t → may_have_fields (read ++ cs) ≡ false → RunsFrom t cs u → BeginsNone t cs
+begins_none [] t u read sound own h runs = tt
+begins_none (c ∷ cs) t u read sound own h runs =
+    let (n, one, rest) = runs_parts t (c ∷ []) cs u runs in
+    let step = (roomy_parts _ _ n (one_runs t c n one)).1 in
+    let none = text_none t.outer t.done t.openers t.mode t.held read c cs sound own h in
+    let after = begins_none cs n u (read ++ c ∷ []) (runs_on t read (c ∷ []) n sound one) (subst PlainIf step (plain_step t.outer t.done t.openers t.mode t.held read c sound own none)) (ap may_have_fields (append_assoc read (c ∷ []) cs) ∙ h) rest in
+    (none, λ next is. subst (λ (o : Option FieldScanned). NoneIf o) (sym step ∙ is) after)
+  where
+    NoneIf : Option FieldScanned → Type 0
+    NoneIf None = Unit {0}
+    NoneIf (Some x) = BeginsNone x cs
 
-  piece_finishes : (m : Mode) (held : List ℕ) → Holds m done held → Finishes (scanned done m held)
-  piece_finishes m held holds =
-      completes (λ n text. Finishes (scanned done n text)) (λ n text ready. closes_all st (scanned done n text) ready stack)
-      (λ n next text c open_yet scalar move later. finishes_after (scanned done n text) (scanned done next (text ++ c ∷ [])) c scalar (ap (moved (scanned done n text) c) move) later)
-      (λ n text c open_yet scalar move.
-      let p = piece (class_of n) (text ++ c ∷ []) in
-      let neutral = closing_neutral n (text ++ c ∷ []) c move in
-      finishes_after (scanned done n text) (fresh (done ++ p ∷ [])) c scalar (ap (moved (scanned done n text) c) move)
-      (closes_all st (fresh (done ++ p ∷ [])) ready-free (keeps done p st neutral.0 neutral.1 stack)))
-      commented m done held holds
+-- the pieces at the end
+plain_pieces : (outer : List Level) (done : List Piece) (os : List ℕ) (n : FieldMode) (held read : List ℕ) → IsFieldSound two_hundred (field_state outer done os n held) read → IsPlainIn outer n done → AreUnfielded Fields (field_pieces (field_state outer done os n held))
+plain_pieces [] done os (plain m) held read sound own = plain_closed m done held own sound.mode.1
+plain_pieces outer done os n held read sound own = absurd own
 
--- and a text that the machine goes through is live
-pub plain_runs_live : (cs : List ℕ) (s : Scanned) (st : List Bracket) → PlainRunsTo cs s st → IsLiveIn plain_dialect cs
-plain_runs_live cs s st to =
-    let end = piece_finishes s.done st to.stack s.mode s.held (sound_at cs s to.run).holds in
-    let run = steps_by-append move_from (Some text_start) cs end.more ∙ ap (λ o. steps_from o end.more) to.run ∙ end.goes.run in
-    record { more = end.more; pieces = pieces_at end.to; scalars = end.scalars; reading = reading_at (cs ++ end.more) end.to (record { run = run; stack = end.goes.stack }) end.ends }
-
--- what follows a word, which is no prefix of a string with fields where that is a quote
-same_word : (s : Spelling) (c : ℕ) → (is_quote c ≡ true → is_field_spelling s ≡ false) → meet_of (modes.Word s) c ≡ move_of (modes.Word s) c
-unfolding meet_of move_of quote_move
-same_word s c none =
-    ⊎_elim
-    (λ (quotes : is_quote c ≡ true).
-    rw (quotes, none quotes, other_begins s (none quotes)) (⊎_elim (λ (b : is_prefix_spelling s ≡ true). rw b) (λ (b : is_prefix_spelling s ≡ false). rw b) (cases_Bool (is_prefix_spelling s))))
-    (λ (other : is_quote c ≡ false). rw (other, none_false (is_prefix_spelling s)))
-    (cases_Bool (is_quote c))
-
--- one character
-same_move : (m : Mode) (done : List Piece) (depth : ℕ) (held : List ℕ) (c : ℕ) (cs : List ℕ) → Holds m done held → may_have_fields (held ++ c ∷ cs) ≡ false → move_in m depth held c ≡ move_of m c
-unfolding meet_of
-same_move (modes.Word s) done depth held c cs holds h =
-    let told : is_field_prefix held ≡ is_field_spelling s = ap is_field_prefix holds.2 ∙ (word_tells holds.0 holds.1).0 ∙ ap is_field_spelling (sym holds.5) in
-    same_word s c (λ quotes. sym told ∙ no_field_prefix held c cs quotes h)
-same_move (modes.FieldOpened k) done depth held c cs holds h = absurd holds
-same_move (modes.FieldEmpty k) done depth held c cs holds h = absurd holds
-same_move modes.Fielded done depth held c cs holds h = absurd holds
-same_move m done depth held c cs holds h = refl
-
--- characters, one after another
-same_runs : (cs : List ℕ) (o : Option Scanned) (read : List ℕ) → SoundIf o read → may_have_fields (read ++ cs) ≡ false → scan_steps o cs ≡ steps_from o cs
-same_runs cs None read sound h = refl
-same_runs [] (Some s) read sound h = refl
-same_runs (c ∷ cs) (Some s) read sound h =
-    let whole : may_have_fields (spelled s.done ++ (s.held ++ c ∷ cs)) ≡ false =
-    ap may_have_fields (sym (append_assoc (spelled s.done) s.held (c ∷ cs)) ∙ ap (λ t. t ++ c ∷ cs) sound.spell) ∙ h in
-    ap (λ (v : Move). scan_steps (moved s c v) cs) (same_move s.mode s.done (depth_through 0 s.done) s.held c cs sound.holds (later (spelled s.done) (s.held ++ c ∷ cs) whole))
-    ∙ same_runs cs (step s c) (read ++ c ∷ []) (step_sound s.done s.mode s.held read c sound) (ap may_have_fields (append_assoc read (c ∷ []) cs) ∙ h)
-
-from_start : (cs : List ℕ) → may_have_fields cs ≡ false → scan_steps (Some text_start) cs ≡ steps_from (Some text_start) cs
-from_start cs h = same_runs cs (Some text_start) [] start_is_sound h
-
--- so a text is live with fields exactly if it is live without
-pub live_with : (cs : List ℕ) → may_have_fields cs ≡ false → IsLiveIn plain_dialect cs → IsLiveIn fielded_dialect cs
-live_with cs h live =
-    let (s, st, run) = plain_live_runs cs live in
-    runs_live cs s st (record { run = from_start cs h ∙ run.run; stack = run.stack })
-
+-- such a text is live without fields if it is live with them
 pub live_without : (cs : List ℕ) → may_have_fields cs ≡ false → IsLiveIn fielded_dialect cs → IsLiveIn plain_dialect cs
 live_without cs h live =
-    let (s, st, run) = live_runs cs live in
-    plain_runs_live cs s st (record { run = sym (from_start cs h) ∙ run.run; stack = run.stack })
+    let (t, runs) = live_runs cs live in
+    let sound = runs_sound cs t runs in
+    let start = start_is_sound two_hundred in
+    let own = plain_run cs field_text_start t [] start tt (begins_none cs field_text_start t [] start tt h runs) runs in
+    let end = state_finishes two_hundred BelowLimit t.outer t.done t.openers t.mode t.held cs sound in
+    let more : RunsFrom t end.more end.to = (steps_of BelowLimit t end.to end.more end.goes, room_of t end.to end.more end.goes) in
+    let to = end.to in
+    let last = plain_pieces to.outer to.done to.openers to.mode to.held (cs ++ end.more) (runs_on t cs end.more to sound more) (plain_run end.more t to cs sound own end.none more) in
+    let reading = reading_at (cs ++ end.more) to (runs_both field_text_start cs end.more t to runs more) end.final in
+    record {
+      more = end.more;
+      pieces = field_pieces to;
+      scalars = end.scalars;
+      reading = record {
+        reads = record { spell = reading.reads.spell; fit = read_unfielded Fields (field_pieces to) [] last reading.reads.fit };
+        balanced = reading.balanced;
+        shallow = shallow_without ShallowFields (field_pieces to) 0 reading.shallow;
+      };
+    }
+
+-- Where a text is cut that pieces spell: between two of them, or in one.
+data CutAt (ps : List Piece) (cs : List ℕ) : Type 0 where
+  between : (qs rs : List Piece) → ps ≡ qs ++ rs → spelled qs ≡ cs → CutAt ps cs
+  in_piece : (qs rs : List Piece) (p : Piece) (c : ℕ) (front : List ℕ) (d : ℕ) (back : List ℕ) → ps ≡ qs ++ p ∷ rs → spelled qs ++ c ∷ front ≡ cs
+      → p.text ≡ c ∷ (front ++ d ∷ back) → CutAt ps cs
+
+cut_at : (ps : List Piece) (cs more : List ℕ) → spelled ps ≡ cs ++ more → CutAt ps cs
+cut_at ps [] more is = between [] ps refl refl
+cut_at [] (c ∷ cs) more is = absurd (cc)
+cut_at (p ∷ ps) (c ∷ cs) more is = go (λ k same. cut_at ps k more same) (either p.text (spelled ps) (c ∷ cs) more is)
+  where
+    with_first : (k : List ℕ) → c ∷ cs ≡ p.text ++ k → CutAt ps k → CutAt (p ∷ ps) (c ∷ cs)
+    with_first k one (between qs rs at spell) = between (p ∷ qs) rs (ap (λ l. p ∷ l) at) (ap (λ t. p.text ++ t) spell ∙ sym one)
+    with_first k one (in_piece qs rs q e front d back at spell own) =
+        in_piece (p ∷ qs) rs q e front d back (ap (λ l. p ∷ l) at) (append_assoc p.text (spelled qs) (e ∷ front) ∙ ap (λ t. p.text ++ t) spell ∙ sym one) own
+
+    go : ((k : List ℕ) → spelled ps ≡ k ++ more → CutAt ps k) → Either p.text (c ∷ cs) more → CutAt (p ∷ ps) (c ∷ cs)
+    go after (Either.shorter k one) = with_first k one (after k (append_cancel_left p.text (spelled ps) (k ++ more) (is ∙ ap (λ t. t ++ more) one ∙ append_assoc p.text k more)))
+    go later_cut (Either.longer e k after one two) = in_piece [] ps p c cs e k refl refl one
+
+-- the first characters by which the open piece grows
+grown_first : (m n : Mode) (a b : List ℕ) → Grown m (a ++ b) n → (k : Mode) × Grown m a k
+grown_first m n [] b grown = (m, refl)
+grown_first m n (c ∷ a) b (next, grows, others) = let rest = grown_first next n a b others in (rest.0, (next, grows, rest.1))
+
+front_grown : (class : Class) (m : Mode) (front : List ℕ) (d : ℕ) (back rest : List ℕ) → EndsWith class m (front ++ d ∷ back) rest → (k : Mode) × Grown m front k
+front_grown class m front d back rest (ends_before n grown is stops) = grown_first m n front (d ∷ back) grown
+front_grown class m front d back rest (ends_at n all e cut grown is closing) = go (either front (d ∷ back) all (e ∷ []) cut)
+  where
+    go : Either front all (e ∷ []) → (k : Mode) × Grown m front k
+    go (Either.shorter k one) = grown_first m n front k (subst (λ t. Grown m t n) one grown)
+    go (Either.longer x k after one two) =
+        let left : x ∷ (k ++ d ∷ back) ≡ e ∷ [] = append_cancel_left all _ _ (sym (append_assoc all (x ∷ k) (d ∷ back)) ∙ ap (λ t. t ++ d ∷ back) (sym one) ∙ cut) in
+        absurd (not_nothing k d back (cc))
+
+-- a piece of two characters or more begins with one that opens it
+record Opens (class : Class) (c : ℕ) (cs rest : List ℕ) : Type 0 where
+  mode : Mode
+  starts_as : start_of c ≡ starts.Open mode
+  ends : EndsWith class mode cs rest
+
+string_opens : (prefix : List ℕ) (q : ℕ) (body rest : List ℕ) (c : ℕ) (cs : List ℕ) → c ∷ cs ≡ prefix ++ q ∷ body → IsPrefix prefix → is_quote q ≡ true → EndsWith string (modes.Opened q) body rest → Opens string c cs rest
+string_opens [] q body rest c cs is begun quotes ends =
+    let first : q ≡ c = cc in
+    let others : body ≡ cs = cc in
+    rw (← first, ← others) (record { mode = modes.Opened q; starts_as = start-quote q quotes; ends = ends })
+string_opens (a ∷ bs) q body rest c cs is (inl none) quotes ends = absurd (cc)
+string_opens (a ∷ bs) q body rest c cs is (inr begun) quotes ends =
+    let first : a ≡ c = cc in
+    let others : (bs ++ q ∷ []) ++ body ≡ cs = append_assoc bs (q ∷ []) body ∙ (cc) in
+    rw (← first, ← others) (record {
+      mode = modes.Word (first_spelling a);
+      starts_as = start-word a (prefix_word a bs begun).0;
+      ends = ends_after string _ (modes.Opened q) (bs ++ q ∷ []) body rest (grown-prefix a bs q begun quotes) ends;
+    })
+
+opens_so : (class : Class) (text rest : List ℕ) (c : ℕ) (front : List ℕ) (d : ℕ) (back : List ℕ) → text ≡ c ∷ (front ++ d ∷ back) → InPlainClass class text → MayPrecedePlain class text rest → Opens class c (front ++ d ∷ back) rest
+opens_so mark text rest c front d back spell (x, is, passes) before = absurd (not_nothing front d back (cc))
+opens_so operator text rest c front d back spell (x, is, passes) before = absurd (not_nothing front d back (cc))
+opens_so string text rest c front d back spell (inl short) before =
+    string_opens short.prefix short.quote _ rest c _ (sym spell ∙ short.spell) short.begun short.opens (short_ends text short.prefix short.quote short.items rest short.spell short.begun short.opens short.each before)
+opens_so string text rest c front d back spell (inr long) before =
+    string_opens long.prefix long.quote _ rest c _ (sym spell ∙ long.spell) long.begun long.opens (long_ends long.quote long.items rest long.opens long.each long.first)
+opens_so class text rest c front d back spell is before = go (is_read class text rest tt is before)
+  where
+    go : IsRead class text rest → Opens class c (front ++ d ∷ back) rest
+    go (at_once so feed) = absurd (not_nothing front d back (cc))
+    go (opened e es m at starts_as quiet ends) =
+        let first : e ≡ c = cc in
+        let others : es ≡ front ++ d ∷ back = cc in
+        record { mode = m; starts_as = ap start_of (sym first) ∙ starts_as; ends = subst (λ t. EndsWith class m t rest) others ends }
+
+-- the machine with fields grows alike
+grown_with : (outer : List Level) (done : List Piece) (os : List ℕ) (m n : Mode) (held text : List ℕ) → may_have_fields (held ++ text) ≡ false → Grown m text n → Goes BelowLimit (field_state outer done os (plain m) held) text (field_state outer done os (plain n) (held ++ text))
+grown_with outer done os m n held [] h grown = ap (λ k. field_state outer done os (plain k) held) grown ∙ ap (field_state outer done os (plain n)) (sym (append-nil held))
+grown_with outer done os m n held (c ∷ cs) h (next, grows_so, others) =
+    let here : (held ++ c ∷ []) ++ cs ≡ held ++ c ∷ cs = append_assoc held (c ∷ []) cs in
+    goes-grows BelowLimit _ _ (plain next) c cs (plain_moves m held c (no_host_in m held c cs h) ∙ ap plain_move grows_so)
+    (goes-to BelowLimit _ _ _ cs (grown_with outer done os next n (held ++ c ∷ []) cs (ap may_have_fields here ∙ h) others) (ap (field_state outer done os (plain n)) here))
+
+-- and live with fields if it is live without: the machine goes through its first pieces
+may_stand : (qs : List Piece) (front : List ℕ) → (qs ≡ [] → begins is_mark front ≡ false) → MayBegin qs front
+may_stand [] front unmarked = unmarked refl
+may_stand (q ∷ qs) front unmarked = tt
+
+first_reached : (qs rs : List Piece) (front : List ℕ) → IsBalanced (qs ++ rs) → IsShallowPlain 0 (qs ++ rs) → may_have_fields (spelled qs ++ front) ≡ false → AreReadPlain qs front → (qs ≡ [] → begins is_mark front ≡ false) → (os : List ℕ) × Reaches qs os front
+first_reached qs rs front balanced shallow own fit unmarked =
+    let whole = sym (openers_through-append (Some []) qs rs) ∙ balanced_openers (qs ++ rs) balanced [] in
+    let (os, opens) = some_before (λ o. openers_through o rs) refl (openers_through (Some []) qs) [] whole in
+    (os, reach_open qs os front (read_with Fields qs front own fit) opens (shallow_with ShallowFields qs front 0 own fit (EachAtDepth-parts OpensShallow 0 qs rs shallow).0) (may_stand qs front unmarked))
+
+pub live_with : (cs : List ℕ) → may_have_fields cs ≡ false → IsLiveIn plain_dialect cs → IsLiveIn fielded_dialect cs
+live_with cs h live = go (cut_at live.pieces cs live.more live.reading.reads.spell)
+  where
+    first : (qs rs : List Piece) (front : List ℕ) → live.pieces ≡ qs ++ rs → spelled qs ++ front ≡ cs → AreReadPlain qs front → (qs ≡ [] → begins is_mark front ≡ false) → (os : List ℕ) × Reaches qs os front
+    first qs rs front is spell fit unmarked =
+        first_reached qs rs front (subst IsBalanced is live.reading.balanced) (subst (IsShallowPlain 0) is live.reading.shallow) (ap may_have_fields spell ∙ h) fit unmarked
+
+    go : CutAt live.pieces cs → IsLiveIn fielded_dialect cs
+    go (between qs rs is spell) =
+        let fit = AreReadIn-first _ qs rs [] (subst (λ l. AreReadPlain l []) is live.reading.reads.fit) in
+        let (os, at) = first qs rs [] is (append-nil (spelled qs) ∙ spell) (read_nothing _ qs _ fit) (λ none. refl) in
+        runs_live cs at.to (subst (λ t. RunsFrom field_text_start t at.to) spell at.runs)
+    go (in_piece qs rs p c front d back is spell own) =
+        let all = subst (λ l. AreReadPlain l []) is live.reading.reads.fit in
+        let after : spelled (p ∷ rs) ++ [] ≡ c ∷ ((front ++ d ∷ back) ++ (spelled rs ++ [])) = append_assoc p.text (spelled rs) [] ∙ ap (λ t. t ++ (spelled rs ++ [])) own in
+        let fit = read_before _ qs c _ front (subst (AreReadPlain qs) after (AreReadIn-first _ qs (p ∷ rs) [] all)) in
+        let read = AreReadIn-second _ qs (p ∷ rs) [] all in
+        let opens = opens_so p.class p.text _ c front d back own read.0 read.1 in
+        let (os, at) = first qs (p ∷ rs) (c ∷ front) is spell fit (λ none. false_from_ne_true _ (λ marks. let both : starts.Nothing ≡ starts.Open opens.mode = sym (start-mark c marks) ∙ opens.starts_as in absurd (cc))) in
+        let (k, grown) = front_grown p.class opens.mode front d back _ opens.ends in
+        let to = at.to in
+        let end : FieldScanned = field_state to.outer (field_pieces to) to.openers (plain k) (c ∷ front) in
+        let goes : Goes BelowLimit to (c ∷ front) end =
+        goes-begins BelowLimit to (field_state to.outer (field_pieces to) to.openers (plain opens.mode) (c ∷ [])) end c front at.stops
+        (ap (field_started to.outer (field_pieces to) to.openers c) opens.starts_as)
+        (λ bracket. absurd (both_ways _ (opens_no c (starts.Open opens.mode) opens.starts_as (λ e. cc)) bracket))
+        (grown_with to.outer (field_pieces to) to.openers opens.mode k (c ∷ []) front (later (spelled qs) (c ∷ front) (ap may_have_fields spell ∙ h)) grown) in
+        let runs = runs_both field_text_start (spelled qs) (c ∷ front) to end at.runs (steps_of BelowLimit to end (c ∷ front) goes, room_of to end (c ∷ front) goes) in
+        runs_live cs end (subst (λ t. RunsFrom field_text_start t end) spell runs)

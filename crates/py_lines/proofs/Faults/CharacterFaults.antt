@@ -9,18 +9,19 @@ use Rattle.py_lines.specs.Private.Machine.{Mode}
 use Rattle.py_lines.specs.Private.Mode as modes
 use Rattle.py_lines.specs.Private.Machine.{Move}
 use Rattle.py_lines.specs.Private.Machine.{Holds, move_of, short_move, long_move, start_of}
-use Rattle.py_lines.specs.Private.FieldMachine.{text_place, At, between, after_brace, FieldMode, plain, opened, empty, body, FieldMove, breaks, begins_code, opens_field, ends_field, refused, Level, is_after_brace, body_move, field_move, plain_move, begins_host, in_open_short, after_open_backslash, InSpecificationOf, before, FieldScanned, field_state, field_fresh, field_text_start, field_moved, field_started, field_step, field_steps_from, levels_open, frames, has_room, has_room_at, have_room, grows, closes, field_pieces, opened_level}
+use Rattle.py_lines.specs.Private.FieldMachine.{roomy, room_step, text_place, At, between, after_brace, FieldMode, plain, opened, empty, body, FieldMove, breaks, begins_code, opens_field, ends_field, refused, Level, is_after_brace, body_move, field_move, plain_move, begins_host, in_open_short, after_open_backslash, InSpecificationOf, before, FieldScanned, field_state, field_fresh, field_text_start, field_moved, field_started, field_step, field_steps_from, levels_open, frames, has_room, has_room_at, have_room, grows, closes, field_pieces, opened_level}
 use Rattle.py_lines.specs.Private.FieldFaults.{is_waiting, quotes_specification, cause_in, cause_place}
 use Rattle.py_lines.proofs.FieldSoundness.Holds.{Limit, HoldsMode, IsFieldSound}
 use Rattle.py_lines.proofs.FieldSoundness.BodyMoves.{Moved, body_moves}
 use Rattle.py_lines.proofs.FieldSoundness.Lists.{not_specification}
 use Rattle.py_lines.proofs.FieldSoundness.HostSteps.{opened_moves, sound_at}
-use Rattle.py_lines.proofs.FieldSoundness.LiveTexts.{quotes_at, live_goes, goes_live, steps-append, room_parts}
+use Rattle.py_lines.proofs.FieldMachine.WholeRuns.{stops_there}
+use Rattle.py_lines.proofs.FieldSoundness.LiveTexts.{quotes_at, goes_live, steps-append}
 use Rattle.std.proofs.lemmas.List.{append_cancel_right}
 use Rattle.py_lines.specs.Piece.{operator, Piece, begins_marked, spelled}
 use Rattle.py_lines.specs.Balance.{IsBalanced, is_opening, depth_after, depth_through, is_closing}
 use Rattle.py_lines.specs.Fields.{HasNoColon, fielded}
-use Rattle.py_lines.specs.Faults.{IsLive, DiesAt, IsAtDepth, InShortSpecification, IsFieldDue, OpensBraceTooDeep, BreaksString, OpensTooDeep, Cause, brace_too_deep, breaks_string, breaks_join, closes_wrong, opens_too_deep, ends_specification, begins_nothing, kind_of_cause, Explains, causes_before, NoneExplains, IsCharacterFault, open_short, open_join}
+use Rattle.py_lines.specs.Faults.{DiesAt, IsAtDepth, InShortSpecification, IsFieldDue, OpensBraceTooDeep, BreaksString, OpensTooDeep, Cause, brace_too_deep, breaks_string, breaks_join, closes_wrong, opens_too_deep, ends_specification, begins_nothing, kind_of_cause, Explains, causes_before, NoneExplains, IsCharacterFault, open_short, open_join}
 use Rattle.py_lines.specs.OpenFields.{BeginsList, InSpecification}
 use Rattle.py_lines.proofs.Pieces.PieceLists.{piece, spelled-push, AreReadIn-first}
 use Rattle.py_lines.proofs.FieldSoundness.WholeTexts.{no_limit, any_rooms, two_hundred}
@@ -175,16 +176,15 @@ module _ (s : FieldScanned) (read : List ℕ) (c : ℕ) (sound : IsFieldSound tw
 
 -- where the machine stops, the text has a fault: at the first character that it refuses, or that has no room
 pub stuck_dies : (read : List ℕ) (c : ℕ) (after : List ℕ) (s : FieldScanned) → field_steps_from (Some field_text_start) read ≡ Some s → have_room (Some field_text_start) read ≡ true → IsStuck s c → DiesAt (read ++ c ∷ after) read c
-stuck_dies read c after s steps room stuck = record { after = after; spell = refl; live = goes_live read s steps room; dead = dead stuck }
+stuck_dies read c after s steps room stuck =
+    record { after = after; spell = refl; live = goes_live read s steps room; dead = stops_there read s c (steps, room) (no_step stuck) }
   where
-    dead : IsStuck s c → ¬ (IsLive (read ++ c ∷ []))
-    dead (inl none) live =
-        let at = live_goes (read ++ c ∷ []) live in
-        none_some (sym (ap (λ o. field_steps_from o []) none) ∙ sym (ap (λ o. field_steps_from o (c ∷ [])) steps) ∙ sym (steps-append (Some field_text_start) read (c ∷ [])) ∙ at.1)
-    dead (inr none) live =
-        let at = live_goes (read ++ c ∷ []) live in
-        let later = subst (λ o. have_room o (c ∷ []) ≡ true) steps (room_parts (Some field_text_start) read (c ∷ []) at.2).1 in
-        both_ways _ none (and_parts (has_room s c) (have_room (field_step s c) []) later).0
+    none_roomy : (b : Bool) → roomy b None ≡ None
+    none_roomy b = grind arith
+
+    no_step : IsStuck s c → room_step s c ≡ None
+    no_step (inl none) = ap (roomy (has_room s c)) none ∙ none_roomy (has_room s c)
+    no_step (inr none) = ap (λ b. roomy b (field_step s c)) none
 
 -- a line end begins a piece
 break_starts : (outer : List Level) (ps : List Piece) (os : List ℕ) (c : ℕ) → is_break c ≡ true → field_started outer ps os c (start_of c) ≡ None → ⊥

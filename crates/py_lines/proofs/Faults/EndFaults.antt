@@ -1,7 +1,7 @@
 -- What is open where a text with fields ends, by the state in which the machine stands.
 use Rattle.std.proofs.Common.{◌≡◌, ℕ, ◌+◌, ◌-◌, ◌<◌, ◌≤◌, Bool, true, false, not, ◌||◌, Option, None, Some, List, [], ◌∷◌, ◌++◌, length, nat_lt, refl, sym, ap, ◌∙◌, subst, inl, inr, append_assoc, append-nil, arith}
 use Rattle.std.proofs.lemmas.Bool.{both_ways, cond_both, ltb-true, ltb-false}
-use Rattle.py_lines.specs.Piece.{operator, Piece, spelled}
+use Rattle.py_lines.specs.Piece.{Piece, spelled}
 use Rattle.py_lines.specs.Balance as balance
 use Rattle.py_lines.specs.Balance.{is_opener, is_closer, depth_after, depth_through}
 use Rattle.py_lines.specs.Fields.{IsShallow}
@@ -10,11 +10,9 @@ use Rattle.py_lines.specs.OpenFields.{IsSlash, AreBegun, BeginsList, IsPlainShor
 use Rattle.py_lines.specs.LogicalLine.{byte_len}
 use Rattle.py_lines.specs.FieldStrings.{Host, Place, literal, specification, begins_open}
 use Rattle.py_lines.specs.Private.Machine.{Mode}
-use Rattle.py_lines.specs.Private.Mode as modes
 use Rattle.py_lines.specs.Private.Machine.{is_final, in_short, in_long, is_after_backslash}
 use Rattle.py_lines.specs.Private.FieldMachine.{text_place, before, At, after_brace, FieldMode, plain, opened, empty, body, Level, FieldScanned, field_state, field_closed, levels_open, may_end, IsFieldFinal}
 use Rattle.py_lines.specs.Private.FieldFaults.{is_waiting, unfinished_code, unfinished_literal, unfinished_in}
-use Rattle.py_lines.proofs.Pieces.PieceLists.{piece}
 use Rattle.py_lines.proofs.Machine.OpenStrings.{slash_held}
 use Rattle.py_lines.proofs.FieldSoundness.OpenLists.{Opens, level, inside, opens-depth}
 use Rattle.py_lines.proofs.FieldSoundness.Holds.{Limit, HoldsAt, HoldsParts, HoldsLevels, IsFieldSound}
@@ -58,13 +56,13 @@ bracket_is_open limit outer done o os m held read sound may =
 
     go : Opens (o ∷ os) pieces → BeginsList (before literal outer) (spelled pieces) (levels_open outer) → AreBegun (levels_open outer) pieces [] → before literal outer ++ spelled pieces ≡ read → (start : List ℕ) × InOpenBracket read start
     go (level _ _ none within) list begun spell = absurd (cc)
-    go (inside _ _ c others first inner is shape out opens within) list begun spell = (
+    go (inside _ _ c others first inner a is shape out opens kind within) list begun spell = (
       before literal outer ++ spelled first,
       record {
         outside = before literal outer;
         depth = levels_open outer;
         outer = first;
-        opener = piece operator (c ∷ []);
+        opener = a;
         inner = inner;
         list = subst (λ (l : List Piece). BeginsList (before literal outer) (spelled l) (levels_open outer)) shape list;
         begun = subst (λ (l : List Piece). AreBegun (levels_open outer) l []) shape begun;
@@ -137,8 +135,7 @@ EndsSo s read (Some what) = (offset : ℕ) × IsOpenAtEnd what read offset
 
 -- the text may end in a mode in which nothing of the kind is open
 pub final_by : (m : Mode) → is_final m ≡ not (in_short m || (in_long m || is_after_backslash m))
-final_by modes.Fielded = refl
-final_by m = refl
+final_by m = grind arith
 
 -- where the text may end, brackets and fields aside
 code_open : (outer : List Level) (done : List Piece) (openers : List ℕ) (m : FieldMode) (held read : List ℕ) → IsFieldSound two_hundred (field_state outer done openers m held) read → may_end m ≡ true → ((place : ℕ) → ¬ (OpensBraceTooDeep read [] place)) → EndsSo (field_state outer done openers m held) read (unfinished_code outer openers)

@@ -10,7 +10,7 @@ use Rattle.py_lines.specs.Balance.{is_opening, is_operator_that, is_opener, IsBa
 use Rattle.py_lines.specs.Faults.{Unfinished, open_brace, open_short, open_long, open_join, open_bracket, open_inside, InOpenBracket, OpensBraceTooDeep, kind_of_unfinished, IsOpenAtEnd, IsEndFault}
 use Rattle.py_lines.specs.FieldStrings.{Host, literal, specification}
 use Rattle.py_lines.specs.Private.Mode as modes
-use Rattle.py_lines.specs.Private.Machine.{in_short, in_long, is_after_backslash, Bracket, brackets_of, class_of}
+use Rattle.py_lines.specs.Private.Machine.{in_short, in_long, is_after_backslash, Bracket, brackets_of}
 use Rattle.py_lines.specs.Private.FieldMachine.{text_place, before, after_brace, in_open_short, in_open_long, after_open_backslash, InSpecificationOf, FieldMode, plain, opened, empty, body, Level, FieldScanned, field_state, field_text_start, field_steps_from, field_pieces, may_end, openers_through, have_room, IsFieldFinal, levels_open, frames, field_closed}
 use Rattle.py_lines.proofs.Pieces.PieceLists.{spelled-append, piece}
 use Rattle.py_lines.proofs.Faults.EndFaults.{final_by, IsDeepBrace, EndsSo, brace_open, open_in}
@@ -29,10 +29,10 @@ use Rattle.py_lines.proofs.FieldMachine.OpenStrings.{HasOpened}
 use Rattle.py_lines.proofs.FieldSoundness.Holds.{IsFieldSound}
 use Rattle.py_lines.proofs.FieldSoundness.HostSteps.{sound_at}
 use Rattle.py_lines.proofs.FieldSoundness.WholeTexts.{two_hundred, rooms_at, final_is_reading}
-use Rattle.py_lines.proofs.ScanMachine.Follows.{some_is}
+use Rattle.py_lines.proofs.Machine.PieceSteps.{some_is}
 use Rattle.py_lines.proofs.FieldSoundness.LiveTexts.{live_goes, goes_live}
-use Rattle.py_lines.specs.Balance as balance
-use Rattle.py_lines.proofs.Pieces.OpenBrackets.{StandsAt, level, inside, stands}
+use Rattle.py_lines.proofs.Pieces.OpenBrackets.{innermost_place}
+use Rattle.py_lines.proofs.Machine.LiveTexts.{keeps, stack_closed}
 
 -- The fault of what is open stands at this byte, that of a field directly before the text up to its `{` ends. Where that is a bracket,
 -- it is the innermost of those that the finished pieces of the innermost list leave open.
@@ -267,31 +267,16 @@ end_unread characters tail kind offset fault pieces reading =
     none_some (sym none ∙ open_yet.0)
 
 -- a piece that is open is no bracket
-open_other : (m : FieldMode) (done : List Piece) (held : List ℕ) → (more : List Piece) × (field_closed m done held ≡ done ++ more) × IsBalanced more
-open_other (plain modes.Start) done held = ([], sym (append-nil done), balance.none [] refl)
-open_other (plain modes.Free) done held = ([], sym (append-nil done), balance.none [] refl)
-open_other (plain m) done held = (piece (class_of m) held ∷ [], refl, balance.one _ (piece (class_of m) held) refl refl)
-open_other m done held = (piece string held ∷ [], refl, balance.one _ (piece string held) refl refl)
-
--- so the innermost bracket is that of the finished pieces
-innermost : (done more : List Piece) (outer inner : List Piece) (opener : Piece) (b : Bracket) (bs : List Bracket) → IsBalanced more → done ++ more ≡ outer ++ opener ∷ inner → is_opener opener ≡ true → IsBalanced inner → brackets_of done ≡ Some (b ∷ bs) → b.place ≡ byte_len (spelled outer)
-innermost done more outer inner opener b bs after shape opens within stack = go (stands done (b ∷ bs) stack).at
-  where
-    go : StandsAt (b ∷ bs) done → b.place ≡ byte_len (spelled outer)
-    go (level _ _ none all) = absurd (cc)
-    go (inside _ _ c others first second a is spell out begun kind place all) =
-        let top : b ≡ c = cc in
-        let whole : first ++ a ∷ (second ++ more) ≡ outer ++ opener ∷ inner = sym (append_assoc first (a ∷ second) more) ∙ ap (λ l. l ++ more) (sym spell) ∙ shape in
-        ap (λ (x : Bracket). x.place) top ∙ place
-        ∙ ap (λ l. byte_len (spelled l)) (one_bracket first outer (second ++ more) inner a opener whole begun opens (balance.both (second ++ more) second more refl all after) within)
+open_keeps : (m : FieldMode) (done : List Piece) (held : List ℕ) (st : List Bracket) → brackets_of done ≡ Some st → brackets_of (field_closed m done held) ≡ Some st
+open_keeps (plain m) done held st stack = stack_closed m done held st stack
+open_keeps m done held st stack = keeps done (piece string held) st refl refl stack
 
 module _ (read : List ℕ) (s : FieldScanned) (steps : field_steps_from (Some field_text_start) read ≡ Some s) (room : have_room (Some field_text_start) read ≡ true) where
   -- the byte that the definitions name is that of the state
   there : (what : Unfinished) (offset : ℕ) → IsPlaced what s offset → StandsThere s what offset
   there open_bracket offset (outer, opener, inner, shape, opens, within, at) =
       λ b bs stack.
-      let other = open_other s.mode s.done s.held in
-      let place = innermost s.done other.0 outer inner opener b bs other.2 (sym other.1 ∙ shape) opens within stack in
+      let place = innermost_place outer inner opener b bs opens within (ap brackets_of (sym shape) ∙ open_keeps s.mode s.done s.held (b ∷ bs) stack) in
       at ∙ byte_len-append (before literal s.outer) (spelled outer) ∙ ap (λ n. byte_len (before literal s.outer) + n) (sym place)
   there what offset at = at
 

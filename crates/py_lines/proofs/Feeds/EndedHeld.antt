@@ -10,27 +10,22 @@ use Rattle.py_lines.specs.Character.{is_line_feed}
 use Rattle.py_lines.specs.Piece.{Piece, begins, spelled}
 use Rattle.py_lines.specs.Fields.{AreReadBefore}
 use Rattle.py_lines.specs.Private.FieldFaults.{here}
-use Rattle.py_lines.specs.Private.ScanMachine.{IsScanSound}
-use Rattle.py_lines.specs.Private.LineScan.{IsAtLineEnd, IsLeft, IsUnderWay, line_start}
+use Rattle.py_lines.specs.Private.FieldMachine.{field_pieces}
+use Rattle.py_lines.specs.Private.LineScan.{IsAtLineEnd, IsLeft, IsUnderWay, begins_line}
 use Rattle.py_lines.specs.Private.Scan.{EndsTextSo}
 use Rattle.py_lines.specs.Private.LineState.{IsFaultAfter, first_mode}
 use Rattle.py_lines.specs.Private.Feed.{EndsText, FailsAt, Holds, IsScanned, HasEndedText, HasReadTokens, HasRoom, HoldsSo, IsHeldOpen, IsSoundFeed, ReadsTokens, ScansHeld, StandsSo, StopsHeld, StopsWith, line_held, with_line, FaultKind, LexError, Scan, Stop, Feed, scanning_of, ready_of, LineState, LineFault}
-use Rattle.py_lines.proofs.LineScan.LineSteps.{returned, way_here}
-use Rattle.py_lines.proofs.LineScan.TextSteps.{begun_sound, way_goes}
-use Rattle.py_lines.proofs.Machine.PieceSteps.{pieces_at}
+use Rattle.py_lines.proofs.LineScan.LineSteps.{returned, way_here, way_sound}
+use Rattle.py_lines.proofs.LineScan.TextSteps.{begun_sound}
 use Rattle.py_lines.proofs.Readers.LineAnswers.{ComesToEnd, IsEnded, IsReadLine, IsScannedLine, all_within, left_ends, line_at_end, line_at_text_end, one_more}
-use Rattle.py_lines.proofs.ScanMachine.Soundness.{StandsSound, end_sound, stands_sound}
-use Rattle.py_lines.proofs.Readers.LineFaults.{Within, finished, unfinished_within}
+use Rattle.py_lines.proofs.Readers.LineFaults.{Within, finished, unfinished_within, ends_as_read}
 use Rattle.py_lines.proofs.Feeds.Known.{IsKnown, first_at, goes_at, is_known}
-use Rattle.py_lines.proofs.Feeds.DecidedSoFar.{way_open}
-use Rattle.py_lines.proofs.Feeds.Ended.{ended_bytes, ended_unfinished}
-use Rattle.py_lines.proofs.Feeds.OpenLine.{fails_keep, fails_ready, fault_after, holds_on, dropped, holds_self, room_more, runs_out, scans_on}
-use Rattle.py_lines.proofs.Feeds.LeftBytes.{left_none}
+use Rattle.py_lines.proofs.Feeds.DecidedSoFar.{ended_bytes, ended_unfinished}
+use Rattle.py_lines.proofs.Feeds.OpenLine.{fails_keep, fails_ready, fault_after, holds_on, dropped, holds_self, room_more, runs_out, scans_on, left_none}
 use Rattle.py_lines.proofs.Feeds.ReadyLines.{holds_line, ended_holds, some_is}
 use Rattle.py_lines.proofs.Lexings.FirstLines.{all_first}
 use Rattle.py_lines.proofs.LogicalLines.Cuts.{byte_len-append}
-use Rattle.py_lines.proofs.Feeds.FedHeld.{never_before}
-use Rattle.py_lines.proofs.Feeds.Taken.{settled_held}
+use Rattle.py_lines.proofs.Feeds.FedScanner.{settled_held, never_before}
 
 -- a fault of the scan
 pub text_fault : (old mid new : Feed) {stop : Stop} (error : LexError) → StopsWith old old.held.items stop mid → ScansHeld mid (Err error) new → EndsText old (Err error) new
@@ -54,9 +49,7 @@ text_empty {old} not_ready opens none = record {
 -- the scan has left no line open: none had ended, so this isn't
 pub text_left : (old mid : Feed) → Holds old old.held.items old.state.fault mid → is_some mid.ready ≡ true → old.ready ≡ None → IsScanned mid mid.ready → EndsText old (Ok tt) mid
 text_left old mid keeps some not_ready scanned =
-    let r = some_is mid.ready some in
-    let s : StopsHeld mid (Stop.LineEnd r.0) = subst (IsScanned mid) r.1 scanned in
-    let h = ended_holds mid r.0 s in
+    let r = some_is mid.ready some in let s : StopsHeld mid (Stop.LineEnd r.0) = subst (IsScanned mid) r.1 scanned in let h = ended_holds mid r.0 s in
     record {
       text = keeps;
       line = Some (line_held mid r.0 h);
@@ -67,7 +60,8 @@ text_left old mid keeps some not_ready scanned =
 
 -- the text's last line
 pub ended_line : (text : List ℕ) (state : LineState) (lines : List LogicalLine) (read rest : List ℕ) (k : IsKnown text state.place state.line lines read rest) → length text ≡ state.place + length (encode_utf8_all read ++ rest)
-    → rest ≡ [] → {u : List Piece} → IsReadLine (line_start (first_mode state.place)) read u → AreReadBefore u [] → IsLexed text (lines ++ line_of state.place state.line u ∷ []) None
+    → rest ≡ [] → {u : List Piece} → IsReadLine (first_mode state.place) read u → AreReadBefore u []
+    → IsLexed text (lines ++ line_of state.place state.line u ∷ []) None
 ended_line text state lines read rest k whole none {u} own fit =
     let size : length text ≡ state.place + byte_len read = omega (arith, whole, ap length none, length-append (encode_utf8_all read) rest) in
     let all : length text ≡ byte_len (spelled k.base ++ (read ++ k.more)) + length k.tail = ap length (sym k.decodes.spell) ∙ length-append (encode_utf8_all (spelled k.base ++ (read ++ k.more))) k.tail in
@@ -97,7 +91,7 @@ module _ {old f : Feed} (h : IsLeftOpen old f) where
   abbrev way : IsUnderWay (first_mode f.state.place) read
   way = left_at.way
 
-  start : IsScanSound (line_start (first_mode f.state.place)) []
+  start : begins_line (first_mode f.state.place) ≡ true
   start = begun_sound f.state.place
 
   here_is : here way.field ≡ byte_len read
@@ -162,7 +156,8 @@ module _ {old f : Feed} (h : IsLeftOpen old f) where
     ready end_len = record stopped { ready = Some end_len }
 
     -- the last line is ready
-    last_line : (end_len : ℕ) (u : List Piece) → rest ≡ [] → IsScannedLine (line_start (first_mode f.state.place)) scan read end_len u → AreReadBefore u [] → EndsText old (Ok tt) (ready end_len)
+    last_line : (end_len : ℕ) (u : List Piece) → rest ≡ [] → IsScannedLine (first_mode f.state.place) scan read end_len u → AreReadBefore u []
+        → EndsText old (Ok tt) (ready end_len)
     last_line end_len u none line fit = record {
       text = record { held = h.keeps.held; place = h.keeps.place; line = h.keeps.line; ended = h.keeps.ended; fault = h.keeps.fault };
       line = _;
@@ -173,9 +168,6 @@ module _ {old f : Feed} (h : IsLeftOpen old f) where
       );
     }
 
-    sound : StandsSound (first_mode f.state.place) read way.state way.brackets
-    sound = stands_sound (first_mode f.state.place) read way.state way.brackets start (way_goes way)
-
     pub ends_so : (end_len : ℕ) → ComesToEnd way.field rest (Ok end_len) scan → EndsText old (Ok tt) (ready end_len)
     ends_so end_len (stop, inl (size, is)) =
         let m = first_mode f.state.place in
@@ -183,12 +175,10 @@ module _ {old f : Feed} (h : IsLeftOpen old f) where
         subst (λ (n : ℕ). EndsText old (Ok tt) (ready n)) (sym size)
         (last_line 1 (at.body ++ at.last ∷ []) (left_none left_at is) (line_at_end m scan read [] 1 at [] refl) (at.fit [] refl))
     ends_so end_len (stop, inr (size, none, not_yet, unfinished)) =
-        let m = first_mode f.state.place in
-        let (final, empty) = finished way start unfinished in
-        subst (λ (n : ℕ). EndsText old (Ok tt) (ready n)) (sym size)
-        (last_line 0 (pieces_at way.state) none
-        (line_at_text_end m scan read way sound final (way_open way start not_yet) empty (read_some none) (stop ∙ here_is))
-        (end_sound m read way.state way.brackets sound final).fit)
+        let m = first_mode f.state.place in let final = finished way.field unfinished in
+        subst (λ (n : ℕ). EndsText old (Ok tt) (ready n)) (sym size) (last_line 0 (field_pieces way.field) none
+        (line_at_text_end m scan read way start final not_yet (read_some none) (stop ∙ here_is))
+        (ends_as_read way.field read (way_sound way start) final).fit)
 
 -- the text has ended
 abbrev pub ended_now : Feed → Feed
@@ -202,8 +192,7 @@ ended_stands : (f : Feed) (r : Option ℕ) → StandsSo f r → StandsSo (ended_
 ended_stands f None opens = opens
 ended_stands f (Some n) r = record { holds = r.holds; after = r.after; line_is = r.line_is }
 
-finish_now : (old f : Feed) → old.state.fault ≡ None → (e : HasEndedText old f)
-    → EndsScan (scanning_of old) (with_line (ended_now f) e.line)
+finish_now : (old f : Feed) → old.state.fault ≡ None → (e : HasEndedText old f) → EndsScan (scanning_of old) (with_line (ended_now f) e.line)
 finish_now old f no_fault e = record {
   scans = λ text lines scanning whole.
       let lexed = e.lexed text lines scanning whole in

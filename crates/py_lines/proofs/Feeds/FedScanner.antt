@@ -1,31 +1,298 @@
--- What a call that feeds a piece answers, for every text that goes on so.
-use Rattle.std.proofs.Common.{◌≡◌, ℕ, ◌+◌, ◌⊎◌, true, false, Err, None, Some, List, length, take, drop, refl, sym, ap, ◌∙◌, subst, inl, inr, append-nil, arith}
-use Rattle.std.specs.Prelude.{is_some}
-use Rattle.py_lines.specs.LogicalLine.{LogicalLine}
-use Rattle.py_lines.specs.ScannerState.{ScannerState, TakesBytes, ScannerRunsOut, Feeds, FeedsNaming, LacksBoth, Releases, TakesNaming}
-use Rattle.py_lines.specs.Private.Feed.{DropsLine, HasReadTokens, HoldsSo, IsSoundFeed, LetsGoWithout, ReadsTokens, StandsSo, TakesLine, line_held, with_line, LexError, Feed, line_of_feed, ready_of, scanning_of}
-use Rattle.py_lines.proofs.Feeds.ReadyLines.{none_read, none_ready, some_is, text_stands}
-use Rattle.py_lines.proofs.Feeds.OpenLine.{dropped, runs_out}
+-- Bytes of a piece were taken: what they settle and decide, where they were scanned, and what the call that feeds it answers.
+use Rattle.std.proofs.Common.{◌≡◌, ℕ, ◌+◌, ◌<◌, false, None, Some, List, [], ◌∷◌, ◌++◌, length, take, sym, ap, ◌∙◌, subst, ⊎_elim, inl, inr, append-nil, arith, length-append, encode_utf8_all, ◌-◌, ◌≤◌, ◌^◌, Option, Err, drop, refl, append_assoc, length-drop, length-take, min, ◌⊎◌, true, is_some}
+use Rattle.std.proofs.lemmas.Bool.{cases_lt}
+use Rattle.py_lines.specs.Character.{is_return}
+use Rattle.py_lines.specs.Piece.{ends, spelled}
+use Rattle.py_lines.specs.LogicalLine.{LogicalLine, line_of}
+use Rattle.std.specs.Str.{all_scalars}
+use Rattle.py_lines.specs.Lexed.{IsLexed}
+use Rattle.py_lines.specs.Settled.{IsSettled, Decides, DecideNone}
+use Rattle.py_lines.specs.ScannerState.{GoesOnWith, EndsExactly, HoldsReady, ScannerState, IsScanning, MeetsFault, TakesBytes, WhereFed, fed_of, ready_lines, ScannerRunsOut, Feeds, FeedsNaming, LacksBoth, Releases, TakesNaming}
+use Rattle.py_lines.specs.Private.LineScan.{EndsWhole, IsApart, ScansIn}
+use Rattle.py_lines.specs.Private.LineState.{first_mode}
+use Rattle.py_lines.specs.Private.Feed.{IsScanned, Scan, Stop, Feed, AreFirstLines, EndsWithLine, GivesBack, Holds, HoldsSo, IsSoundFeed, ScansHeld, StandsSo, StopsWith, TakesLine, TakesSo, line_held, Fault, LexError, ready_of, scanning_of, DropsLine, HasReadTokens, LetsGoWithout, ReadsTokens, with_line, line_of_feed}
+use Rattle.py_lines.proofs.Text.Utf8Prefixes.{all_scalars-parts, nothing_bad}
+use Rattle.py_lines.proofs.Lexings.DecidedFaults.{decided_fault, decided_more}
+use Rattle.py_lines.proofs.Lexings.FirstLines.{first_reading}
+use Rattle.py_lines.proofs.Feeds.Known.{IsKnown, given_bytes, is_known, first_at, goes_after, goes_at, goes_joined, goes_with_first}
+use Rattle.py_lines.proofs.Feeds.SettledSoFar.{settled_open, settled_ready, ended_before, IsNextLine, next_line}
+use Rattle.py_lines.proofs.Feeds.DecidedSoFar.{undecided}
+use Rattle.py_lines.proofs.Feeds.ReadyLines.{ended_alone, line_alone, pieces_alone, ended_holds, none_read, none_ready, some_is, text_stands}
+use Rattle.py_lines.proofs.Feeds.LastBytes.{exactly_encoded}
+use Rattle.py_lines.proofs.LineScan.LineSteps.{follows_whole}
+use Rattle.std.proofs.lemmas.List.{length-take-le, nil_from_length, take-append-drop, take-take, take_all, take_min}
+use Rattle.std.proofs.Math.Seq.{take-add, take-append-add, take-append_seam}
+use Rattle.py_lines.proofs.Feeds.OpenLine.{holds_on, room_more, scans_on, left_none, dropped, runs_out}
 use Rattle.py_lines.proofs.Feeds.Released.{released_sound, releases}
-use Rattle.py_lines.proofs.Feeds.Taken.{takes_on}
+
+-- these bytes, if there are any, settle the lines given and no more
+abbrev pub SettleNone : List ℕ → ℕ → List ℕ → List LogicalLine → Type 0
+SettleNone text place items lines = 0 < length items → IsSettled (take (place + length items) text) lines
+
+-- a line has ended in these bytes, which a text goes on with after the lines given
+module _ (text : List ℕ) (place : ℕ) {line : ℕ} {bytes : List ℕ} {scan : Scan} {end_len : ℕ} (lines : List LogicalLine) (s : ScansIn (first_mode place) bytes scan (Stop.LineEnd end_len)) (first : AreFirstLines text place line lines) (goes : GoesOnWith text place bytes) where
+  known : IsKnown text place line lines s.read s.rest
+  known = is_known text place line lines s.read s.rest first s.scalars (subst (GoesOnWith text place) (sym s.spell) goes) (omega (arith, (ended_alone s).line.some, length-append (encode_utf8_all s.read) s.rest))
+
+  -- after CR comes no LF
+  apart : IsApart s.read known.more
+  apart = follows_whole s.read s.rest known.more known.tail known.beyond s.stops.1 known.follow
+
+  next : IsNextLine place s.read known.more (pieces_alone s)
+  next = next_line (line_alone s) (ended_alone s).line known.more apart
+
+  -- the lines given aren't all that is settled
+  pub never_before : SettleNone text place bytes lines → ⊥
+  never_before settled =
+      let some = (ended_alone s).line.some in
+      ended_before text place line lines s.read s.rest known (pieces_alone s) next
+      (subst (λ l. IsSettled (take (place + length l) text) lines) (sym s.spell) (settled (omega (arith, some, ap length s.spell, length-append (encode_utf8_all s.read) s.rest))))
+      (by_whole s.stops.1)
+    where
+      by_whole : EndsWhole s.read s.rest → s.rest ≡ [] → ends is_return s.read ≡ false
+      by_whole (inl feed) none = feed
+      by_whole (inr (b, more, is, other)) none = absurd (omega (arith, ap length (sym is ∙ none)))
+
+  -- where they are the line, with one byte more after CR alone, it is settled
+  pub settled_fed : EndsExactly s.read s.rest → IsSettled (take (place + length bytes) text) (lines ++ line_of place line (pieces_alone s) ∷ [])
+  settled_fed exact =
+      subst (λ t. IsSettled (take (place + length t) text) (lines ++ line_of place line (pieces_alone s) ∷ [])) s.spell
+      (settled_ready text place line lines s.read s.rest known (pieces_alone s) next exact)
+
+  -- and they are it
+  pub holds_exactly : EndsExactly s.read s.rest → HoldsReady bytes (Some (line_of place line (pieces_alone s)))
+  holds_exactly exact = (s.rest, sym s.spell ∙ ap (λ t. t ++ s.rest) (sym text_is), subst (λ t. EndsExactly t s.rest) (sym text_is) (exactly_encoded s.read s.rest exact))
+    where
+      text_is : encode_utf8_all (spelled (pieces_alone s)) ≡ encode_utf8_all s.read
+      text_is = ap encode_utf8_all (ended_alone s).line.spell
+
+-- nothing is decided where the lines given end: they are all the lines of the text up to there
+pub undecided_first : (text : List ℕ) (place line : ℕ) (lines : List LogicalLine) (first : AreFirstLines text place line lines) → DecideNone (take (place + 0) text)
+undecided_first text place line lines first fault d =
+    let bytes : take (place + 0) text ≡ encode_utf8_all (spelled first.pieces) ++ [] = ap (λ (n : ℕ). take n text) (omega arith) ∙ given_bytes first ∙ sym (append-nil (encode_utf8_all (spelled first.pieces))) in
+    let lexed : IsLexed (take (place + 0) text ++ []) lines None = record {
+      characters = spelled first.pieces;
+      pieces = first.pieces;
+      decodes = record { are = (all_scalars-parts (spelled first.pieces) first.rest (ap all_scalars first.spell ∙ first.decodes.are)).0; spell = sym (append-nil (take (place + 0) text) ∙ bytes); bad = nothing_bad };
+      reading = first_reading text place line lines first;
+      cut = first.cut;
+    } in
+    absurd (let h = decided_fault (take (place + 0) text) [] fault lines None d lexed in cc)
+
+-- no line has ended in what is held, which was scanned
+module _ (f : Feed) (s : IsScanned f None) (text : List ℕ) (lines : List LogicalLine) (first : AreFirstLines text f.state.place f.state.line lines) (goes : GoesOnWith text f.state.place f.held.items) where
+  module _ (some : 0 < length f.held.items) where
+    known_open : IsKnown text f.state.place f.state.line lines s.0.read s.0.rest
+    known_open = is_known text f.state.place f.state.line lines s.0.read s.0.rest first s.0.scalars (subst (GoesOnWith text f.state.place) (sym s.0.spell) goes) (omega (arith, some, ap length s.0.spell))
+
+    settled_scanned : IsSettled (take (f.state.place + length f.held.items) text) lines
+    settled_scanned =
+        let left = s.0.stops in let way = left.way in
+        subst (λ l. IsSettled (take (f.state.place + length l) text) lines) s.0.spell
+        (settled_open text f.state.place f.state.line lines s.0.read s.0.rest known_open way left.none (omega (arith, some, ap length s.0.spell)) (left_none left))
+
+    undecided_scanned : DecideNone (take (f.state.place + length f.held.items) text)
+    undecided_scanned fault =
+        let left = s.0.stops in let way = left.way in
+        subst (λ l. ¬ (Decides (take (f.state.place + length l) text) fault)) s.0.spell
+        (undecided text f.state.place f.state.line lines s.0.read s.0.rest known_open way left.none s.1 fault)
+
+  -- the lines given are settled then, and no fault is decided
+  pub scanned_open : SettleNone text f.state.place f.held.items lines × DecideNone (take (f.state.place + length f.held.items) text)
+  scanned_open = (
+    settled_scanned,
+    λ fault d. ⊎_elim (λ some. undecided_scanned some fault d)
+        (λ none. undecided_first text f.state.place f.state.line lines first fault (subst (λ (n : ℕ). Decides (take (f.state.place + n) text) fault) (omega (arith, none)) d))
+        (cases_lt 0 (length f.held.items)),
+  )
+
+-- the lines given are settled where none is ready
+pub settled_held : (text : List ℕ) (lines : List LogicalLine) (old : Feed) → old.ready ≡ None → IsScanning (scanning_of old) text lines → SettleNone text old.state.place old.held.items lines
+settled_held text lines old not_ready s some = subst (IsSettled (take (old.state.place + length old.held.items) text)) (ap (λ r. lines ++ ready_lines (ready_of old r)) not_ready ∙ append-nil lines) (s.settled some)
+
+module _ (old : Feed) (sound : IsSoundFeed old) (no_fault : old.state.fault ≡ None) (not_ready : old.ready ≡ None) (piece : List ℕ) (fits : old.state.place + length old.held.items + length piece ≤ 2 ^ 62) (n : ℕ) (within : n ≤ length piece) where
+  size : length (old.held.items ++ take n piece) ≡ length old.held.items + n
+  size = length-append old.held.items (take n piece) ∙ ap (λ (k : ℕ). length old.held.items + k) (length-take-le n piece within)
+
+  few : old.state.place + length old.held.items + length (take n piece) ≤ 2 ^ 62
+  few = omega (arith, fits, length-take-le n piece within, within)
+
+  -- they are held then, and where a line has ended it is all that is held, with one byte more after CR alone
+  module _ (new : Feed) (text : Holds old (old.held.items ++ take n piece) old.state.fault new) where
+    -- this line stands there then: it is settled, and where there is none no fault is decided
+    abbrev StandsFed : Option LogicalLine → Type 0
+    StandsFed line = WhereFed (scanning_of old) (take n piece) (λ whole lines.
+        (0 < length new.held.items → IsSettled (take (fed_of (scanning_of new)) whole) (lines ++ ready_lines line))
+        × HoldsReady new.held.items line × (line ≡ None → DecideNone (take (fed_of (scanning_of new)) whole)))
+
+    module _ (whole : List ℕ) (lines : List LogicalLine) (s : IsScanning (scanning_of old) whole lines) (go : GoesOnWith whole (fed_of (scanning_of old)) (take n piece)) where
+      first_new : AreFirstLines whole new.state.place new.state.line lines
+      first_new = first_at text.place text.line s.first
+
+      goes_new : GoesOnWith whole new.state.place new.held.items
+      goes_new = goes_at whole text.place text.held (goes_joined whole old.state.place old.held.items (take n piece) s.held go)
+
+    line_fed : (r : Option ℕ) → EndsWithLine old.held.items new r → (line : Option LogicalLine) × HoldsSo new r line × StandsFed line
+    line_fed None s = (
+      None,
+      (refl, λ open_yet. (s.0.stops.left, s.0.stops.reached)),
+      λ whole lines scanning go.
+          let (settled, undecided) = scanned_open new s whole lines (first_new whole lines scanning go) (goes_new whole lines scanning go) in
+          (λ some. subst (IsSettled (take (fed_of (scanning_of new)) whole)) (sym (append-nil lines)) (settled some), tt, λ none. undecided),
+    )
+    line_fed (Some end_len) (s, which) = (
+      Some (line_held new end_len (ended_holds new end_len s)),
+      (ended_holds new end_len s, refl),
+      λ whole lines scanning go.
+          let first = first_new whole lines scanning go in let goes = goes_new whole lines scanning go in
+          ⊎_elim
+          (λ exact. (λ some. settled_fed whole new.state.place lines s first goes exact, holds_exactly whole new.state.place lines s first goes exact, λ none. absurd (cc)))
+          (λ had. absurd (never_before whole new.state.place lines had first (goes_at whole text.place refl scanning.held) (rw text.place (settled_held whole lines old not_ready scanning))))
+          which,
+    )
+
+    pub taken : (n ≡ 0 → length piece ≡ 0) → EndsWithLine old.held.items new new.ready → TakesLine old piece n new
+    taken some ends =
+        let (line, holds, stands) = line_fed new.ready ends in
+        record {
+          line = line;
+          holds = holds;
+          takes = record {
+            within = within;
+            scans = λ whole lines s go.
+                let at = stands whole lines s go in
+                record {
+                  first = first_new whole lines s go;
+                  held = goes_new whole lines s go;
+                  settled = at.0;
+                  whole = at.1;
+                  open_yet = text.ended ∙ s.open_yet;
+                  no_fault = text.fault ∙ no_fault;
+                };
+            undecided = λ whole lines s go. (stands whole lines s go).2;
+            some = λ zero. inl (nil_from_length piece (some zero));
+            waits = λ u seen. absurd (let none = ap (ready_of old) not_ready in cc);
+            held = text.held;
+            place = text.place;
+            line = text.line;
+            fault = no_fault;
+            open_yet = text.ended;
+            no_fault = text.fault ∙ no_fault;
+          };
+          room = room_more old new (take n piece) sound few text;
+        }
+
+  -- or they decide a fault with what was held
+  pub fails : (mid new : Feed) {stop : Stop} (error : LexError) → StopsWith old (old.held.items ++ take n piece) stop mid → ScansHeld mid (Err error) new → TakesSo old piece (Err error) new
+  fails mid new (LexError.Fault fault) stops failed =
+      let (text, none, decided) = scans_on old mid new (Err (LexError.Fault fault)) stops failed in (
+        record {
+          decided = λ whole lines s go.
+              let part = goes_with_first whole (fed_of (scanning_of old)) (take n piece) (drop n piece) (subst (GoesOnWith whole (fed_of (scanning_of old))) (sym (take-append-drop n piece)) go) in
+              let at = decided whole lines s.first (goes_joined whole old.state.place old.held.items (take n piece) s.held part) in
+              let more : ℕ = length old.held.items + n - at.n in
+              let all : old.state.place + at.n + more ≡ fed_of (scanning_of old) + n = omega (arith, at.within, size) in
+              (n, within, subst (λ t. Decides t fault) (sym (take-add (old.state.place + at.n) more whole) ∙ ap (λ (k : ℕ). take k whole) all) (decided_more (take (old.state.place + at.n) whole) (take more (drop (old.state.place + at.n) whole)) fault at.decided), at.lexed);
+          again = λ first is. absurd (let h = sym no_fault ∙ is in cc);
+          none_ready = λ h. ap (ready_of old) not_ready;
+          place = text.place;
+          line = text.line;
+          fed = omega (arith, text.place, ap length text.held, size, within);
+          ready = ap (ready_of new) none ∙ sym (ap (ready_of old) not_ready);
+          open_yet = text.ended;
+          kept = text.fault;
+        },
+        record { room = room_more old new (take n piece) sound few text; state = subst (StandsSo new) (sym none) (λ no_more. absurd (let h = sym text.fault ∙ no_more in cc)) },
+      )
+  fails mid new LexError.Memory stops never = absurd never
+
+-- what stays held of what was held and first bytes of a piece
+pub taken_back : (old mid new : Feed) → IsSoundFeed old → old.state.fault ≡ None → old.ready ≡ None → (piece : List ℕ) → old.state.place + length old.held.items + length piece ≤ 2 ^ 62
+    → (first n before : ℕ) → first ≤ length piece → (first ≡ 0 → length piece ≡ 0) → Holds old (old.held.items ++ take first piece) old.state.fault mid
+    → before ≡ length old.held.items → n ≡ length new.held.items - before → GivesBack mid before new → TakesLine old piece n new
+taken_back old mid new sound no_fault not_ready piece fits first n before within some holds at left g =
+    let whole : length mid.held.items ≡ length old.held.items + first = ap length holds.held ∙ length-append old.held.items (take first piece) ∙ ap (λ (k : ℕ). length old.held.items + k) (length-take-le first piece within) in
+    let size : length new.held.items ≡ min g.kept (length mid.held.items) = ap length g.text.held ∙ length-take g.kept mid.held.items in
+    let parts : min g.kept (length mid.held.items) ≡ length old.held.items + n = ⊎_elim (λ more. omega (arith, more, left, at, size, whole)) (λ all. omega (arith, all, left, at, size, whole)) g.more in
+    let items : take g.kept mid.held.items ≡ old.held.items ++ take n piece =
+    sym (take_min g.kept mid.held.items) ∙ ap (λ (k : ℕ). take k mid.held.items) parts ∙ ap (take (length old.held.items + n)) holds.held
+    ∙ take-append-add old.held.items (take first piece) n ∙ ap (λ l. old.held.items ++ l) (take-take n first piece (omega (arith, parts, whole))) in
+    let earlier : take before mid.held.items ≡ old.held.items = ap (take before) holds.held ∙ ap (λ (k : ℕ). take k (old.held.items ++ take first piece)) at ∙ take-append_seam old.held.items (take first piece) in
+    taken old sound no_fault not_ready piece fits n (omega (arith, parts, whole, within)) new (holds_on holds g.text items holds.fault)
+    (λ none. some (⊎_elim (λ more. omega (arith, more, none, parts, at, whole)) (λ all. omega (arith, all, none, parts, whole)) g.more))
+    (subst (λ l. EndsWithLine l new new.ready) earlier g.ends)
+
+-- nothing that was held before is given back
+pub back_kept : {old new : Feed} {before : ℕ} → before ≤ length old.held.items → GivesBack old before new → before ≤ length new.held.items
+back_kept {old} within g =
+    let size = ap length g.text.held ∙ length-take g.kept old.held.items in
+    ⊎_elim (λ more. omega (arith, more, size, within)) (λ all. omega (arith, all, size, within)) g.more
+
+-- the bytes of a piece that aren't taken yet, as a slice has them
+pub rest_is : (piece : List ℕ) (n : ℕ) → take (length piece - n) (drop n piece) ≡ drop n piece
+rest_is piece n = take_all (length piece - n) (drop n piece) (omega (arith, length-drop n piece))
+
+-- bytes were taken, no line is ready, and more of the piece come
+module _ {a b : ScannerState} {piece : List ℕ} {n : ℕ} (was : a.ready ≡ None) (none : b.ready ≡ None) (t : TakesBytes a piece n b) {rest : List ℕ} (is : rest ≡ drop n piece) where
+  fed : fed_of b ≡ fed_of a + n
+  fed = omega (arith, t.place, ap length t.held, length-append a.held (take n piece), length-take-le n piece t.within)
+
+  all : length piece ≡ n + length rest
+  all = omega (arith, ap length is, length-drop n piece, t.within)
+
+  split : (m : ℕ) → take (n + m) piece ≡ take n piece ++ take m rest
+  split m = take-add n m piece ∙ ap (λ l. take n piece ++ take m l) (sym is)
+
+  -- the text goes on with both
+  scans_first : (text : List ℕ) (lines : List LogicalLine) (bytes : List ℕ) → IsScanning a text lines → GoesOnWith text (fed_of a) (take n piece ++ bytes) → IsScanning b text lines × GoesOnWith text (fed_of b) bytes
+  scans_first text lines bytes s go = (
+    t.scans text lines s (goes_with_first text (fed_of a) (take n piece) bytes go),
+    subst (λ (k : ℕ). GoesOnWith text k bytes) (omega (arith, fed, length-take-le n piece t.within)) (goes_after text (fed_of a) (take n piece) bytes go),
+  )
+
+  both_fed : (text : List ℕ) (lines : List LogicalLine) (m : ℕ) → IsScanning a text lines → GoesOnWith text (fed_of a) (take (n + m) piece) → IsScanning b text lines × GoesOnWith text (fed_of b) (take m rest)
+  both_fed text lines m s go = scans_first text lines (take m rest) s (subst (GoesOnWith text (fed_of a)) (split m) go)
+
+  pub takes_on : {m : ℕ} {c : ScannerState} → TakesBytes b rest m c → TakesBytes a piece (n + m) c
+  takes_on {m} u = record {
+    within = omega (arith, all, u.within);
+    scans = λ text lines s go. let (s', go') = both_fed text lines m s go in u.scans text lines s' go';
+    undecided = λ text lines s go. let (s', go') = both_fed text lines m s go in u.undecided text lines s' go';
+    some = λ zero. t.some (omega (arith, zero));
+    waits = λ l ready. absurd (cc);
+    held = u.held ∙ ap (λ l. l ++ take m rest) t.held ∙ append_assoc a.held (take n piece) (take m rest) ∙ ap (λ l. a.held ++ l) (sym (split m));
+    place = u.place ∙ t.place;
+    line = u.line ∙ t.line;
+    fault = t.fault;
+    open_yet = u.open_yet ∙ t.open_yet;
+    no_fault = u.no_fault;
+  }
+
+  pub fails_on : {fault : Fault} {c : ScannerState} → MeetsFault b rest fault c → MeetsFault a piece fault c
+  fails_on {fault} u = record {
+    decided = λ text lines s go.
+        let (s', go') = scans_first text lines rest s (subst (GoesOnWith text (fed_of a)) (sym (ap (λ l. take n piece ++ l) is ∙ take-append-drop n piece)) go) in
+        let (k, less, decided, lexed) = u.decided text lines s' go' in
+        (n + k, omega (arith, all, less), subst (λ (i : ℕ). Decides (take i text) fault) (omega (arith, fed)) decided, lexed);
+    again = λ first known. absurd (let h = sym t.fault ∙ known in cc);
+    none_ready = λ h. was;
+    place = u.place ∙ t.place;
+    line = u.line ∙ t.line;
+    fed = omega (arith, u.fed, fed, all);
+    ready = u.ready ∙ none ∙ sym was;
+    open_yet = u.open_yet ∙ t.open_yet;
+    kept = u.kept;
+  }
 
 -- so they were where lines are released at once, if none was
 pub naming_same : (word other : List ℕ) (old new : ScannerState) (piece : List ℕ) (n : ℕ) → TakesBytes old piece n new
     → ((line : LogicalLine) → new.ready ≡ Some line → (old.ready ≡ Some line) ⊎ ¬ (LacksBoth word other line.text)) → TakesNaming word other old piece n new
-naming_same word other old new piece n t kept = record {
-  mid = new;
-  takes = t;
-  same = inl refl;
-  kept = kept;
-  waits = λ line is. (t.waits line is).1;
-}
+naming_same word other old new piece n t kept = record { mid = new; takes = t; same = inl refl; kept = kept; waits = λ line is. (t.waits line is).1 }
 
 -- where a line is ready, no byte is taken
-pub waits_so : (f : Feed) (piece : List ℕ) → f.state.fault ≡ None → is_some f.ready ≡ true
-    → TakesBytes (scanning_of f) piece 0 (scanning_of f)
+pub waits_so : (f : Feed) (piece : List ℕ) → f.state.fault ≡ None → is_some f.ready ≡ true → TakesBytes (scanning_of f) piece 0 (scanning_of f)
 waits_so f piece fault ready =
-    let m = some_is f.ready ready in
-    let line : ready_of f f.ready ≡ Some (line_of_feed f m.0) = ap (ready_of f) m.1 in
+    let m = some_is f.ready ready in let line : ready_of f f.ready ≡ Some (line_of_feed f m.0) = ap (ready_of f) m.1 in
     record {
       within = omega arith;
       scans = λ text lines s go. s;
@@ -74,14 +341,14 @@ module _ {old new : Feed} {piece : List ℕ} {n : ℕ} (t : TakesLine old piece 
   -- where there is no memory for the tokens
   pub fed_short : IsSoundFeed old → old.ready ≡ None → {held : ℕ} → held ≡ length old.held.items → {mid now : Feed} → mid ≡ new → (error : LexError) → ReadsTokens mid held (Err error) now
       → Feeds (scanning_of old) piece (Err error) (scanning_of now) × IsSoundFeed now
-  fed_short sound was size same (LexError.Fault f) never = absurd never
-  fed_short sound was {held} size {mid} {now} same LexError.Memory drops = runs_out sound t.takes.fault was (dropped old new now (take n piece) (record {
+  fed_short sound was before same (LexError.Fault f) never = absurd never
+  fed_short sound was {held} before {mid} {now} same LexError.Memory drops = runs_out sound t.takes.fault was (dropped old new now (take n piece) (record {
     held = t.takes.held;
     place = t.takes.place;
     line = t.takes.line;
     ended = t.takes.open_yet;
     fault = t.takes.no_fault ∙ sym t.takes.fault;
-  }) size (subst (λ (f : Feed). DropsLine f held now) same drops))
+  }) before (subst (λ (f : Feed). DropsLine f held now) same drops))
 
   -- where it was not let go, and the tokens of the line that stands in what is held are read
   pub fed_named : {mid now : Feed} {word other : List ℕ} → LetsGoWithout word other new false mid → HasReadTokens mid now → TakesNaming word other (scanning_of old) piece n (scanning_of now)

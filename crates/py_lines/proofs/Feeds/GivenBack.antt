@@ -1,9 +1,7 @@
 -- What stays held where a line is ready.
-use Rattle.std.proofs.Common.{◌≡◌, ℕ, zero, suc, ◌+◌, ◌-◌, ◌==◌, ◌<◌, ◌≤◌, true, false, List, ◌++◌, length, take, refl, sym, ap, ◌∙◌, subst, ⊎_elim, inl, inr, arith, length-append, encode_utf8_all, is_some, max, slice_index, if◌then◌else◌}
-use Rattle.std.specs.Prelude.{min}
+use Rattle.std.proofs.Common.{◌≡◌, ℕ, zero, suc, ◌+◌, ◌-◌, ◌==◌, ◌<◌, ◌≤◌, true, false, List, ◌++◌, length, take, refl, sym, ap, ◌∙◌, subst, ⊎_elim, inl, inr, arith, length-append, encode_utf8_all, is_some, max, slice_index, if◌then◌else◌, min, take_all}
 use Rattle.std.specs.Global.{Vec}
 use Rattle.std.proofs.lemmas.Bool.{both_ways, cond_both, cases_lt, eqb-true, eqb-false, false_from_ne_true}
-use Rattle.std.proofs.lemmas.List.{take_all}
 use Rattle.std.proofs.Math.Seq.{take-append-add}
 use Rattle.py_lines.specs.Character.{is_return}
 use Rattle.py_lines.specs.Piece.{ends}
@@ -52,8 +50,7 @@ module _ {m : Mode} {bytes : List ℕ} {scan : Scan} {end_len : ℕ} (s : ScansI
   more = cond_both (slice_index bytes (scan.stop - 1) == 13) 1 0 (λ (k : ℕ). (n : ℕ) × (scan.stop + k ≡ byte_len s.read + n) × (n ≤ length s.rest) × EndsExactly s.read (take n s.rest))
       (λ h.
       let returned : ends is_return s.read ≡ true = last_is ∙ ap is_return (eqb-true (slice_index bytes (scan.stop - 1)) 13 h) ∙ return_returns in
-      (1, omega (arith, (ended_alone s).stop), rest_some s.rest returned s.stops.1, exact_return s.read s.rest returned s.stops.1))
-      (λ h.
+      (1, omega (arith, (ended_alone s).stop), rest_some s.rest returned s.stops.1, exact_return s.read s.rest returned s.stops.1)) (λ h.
       let other = eqb-false (slice_index bytes (scan.stop - 1)) 13 h in
       (0, omega (arith, (ended_alone s).stop), omega arith, inl (last_is ∙ false_from_ne_true _ (λ returns. other (return_is (slice_index bytes (scan.stop - 1)) returns)), refl)))
     where

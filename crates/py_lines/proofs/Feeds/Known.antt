@@ -1,6 +1,5 @@
 -- The bytes of a text that are known: those of the lines given, characters after them, and a part of a character.
-use Rattle.std.proofs.Common.{◌≡◌, ℕ, ◌+◌, ◌<◌, true, Some, List, [], ◌∷◌, ◌++◌, length, take, drop, refl, sym, ap, ◌∙◌, subst, ⊎_elim, append_assoc, arith, length-append}
-use Rattle.std.specs.Prelude.{encode_utf8_all}
+use Rattle.std.proofs.Common.{◌≡◌, ℕ, ◌+◌, ◌<◌, true, List, [], ◌∷◌, ◌++◌, length, take, drop, refl, sym, ap, ◌∙◌, subst, ⊎_elim, append_assoc, arith, length-append, encode_utf8_all}
 use Rattle.std.specs.Str.{all_scalars, StartsWithNoChar}
 use Rattle.std.proofs.lemmas.List.{drop-drop, drop-take, length-take, take-append-drop, take-take}
 use Rattle.std.proofs.lemmas.Str.{encodes-append}
@@ -12,18 +11,16 @@ use Rattle.py_lines.specs.Reading.{Decodes, EndsLine, IsBalancedReading}
 use Rattle.py_lines.specs.Given.{AreFirstLines}
 use Rattle.py_lines.specs.LogicalLine.{LogicalLine, cut, line_of, lines_of, byte_len, line_ends}
 use Rattle.py_lines.specs.ScannerState.{GoesOnWith}
-use Rattle.py_lines.specs.Private.Machine.{Scanned, Bracket, brackets_of}
-use Rattle.py_lines.specs.Private.ScanMachine.{StringsFit}
-use Rattle.py_lines.specs.Private.LineScan.{line_start}
+use Rattle.py_lines.specs.Private.FieldMachine.{FieldScanned}
+use Rattle.py_lines.specs.Private.LineScan.{line_begun}
 use Rattle.py_lines.specs.Private.LineState.{first_mode}
+use Rattle.py_lines.specs.Private.Scan.{Goes}
 use Rattle.py_lines.proofs.Text.Utf8Prefixes.{goes_on, all_scalars-parts, all_scalars-append}
 use Rattle.py_lines.proofs.LogicalLines.NextLine.{lines_of-push}
-use Rattle.py_lines.proofs.Pieces.OpenBrackets.{stack-from_balanced}
-use Rattle.py_lines.proofs.Pieces.ShallowPieces.{brackets_shallow, strings_shallow}
 use Rattle.py_lines.proofs.Fields.OneReading.{read_before}
-use Rattle.py_lines.proofs.ScanMachine.Advance.{GoesTo}
 use Rattle.py_lines.proofs.Lexings.LineEnds.{ended_reading, none_both}
-use Rattle.py_lines.proofs.LineScan.TextSteps.{Base, base_of, Joined, joined}
+use Rattle.py_lines.proofs.LineScan.TextSteps.{Base, base_of}
+use Rattle.py_lines.proofs.Readers.LineFaults.{Joined, joined}
 
 -- some of the bytes that the text goes on with
 pub goes_with_first : (text : List ℕ) (place : ℕ) (first later : List ℕ) → GoesOnWith text place (first ++ later) → GoesOnWith text place first
@@ -81,9 +78,7 @@ given_bytes {text} first = ap (λ (n : ℕ). take n text) first.here ∙ ap (tak
 -- where bytes follow them they end a line
 pub is_known : (text : List ℕ) (place line : ℕ) (lines : List LogicalLine) (read rest : List ℕ) → AreFirstLines text place line lines → all_scalars read ≡ true → GoesOnWith text place (encode_utf8_all read ++ rest) → 0 < length (encode_utf8_all read ++ rest) → IsKnown text place line lines read rest
 is_known text place line lines read rest first fine goes some =
-    let base = first.pieces in
-    let held = encode_utf8_all read ++ rest in
-    let left = encode_utf8_all first.rest ++ first.tail in
+    let base = first.pieces in let held = encode_utf8_all read ++ rest in let left = encode_utf8_all first.rest ++ first.tail in
     let taken : take (length held) left ≡ held = ap (take (length held)) (sym (from_there first)) ∙ goes in
     let split : encode_utf8_all read ++ (rest ++ drop (length held) left) ≡ left = sym (append_assoc (encode_utf8_all read) rest (drop (length held) left)) ∙ ap (λ t. t ++ drop (length held) left) (sym taken) ∙ take-append-drop (length held) left in
     let parts = all_scalars-parts (spelled base) first.rest (ap all_scalars first.spell ∙ first.decodes.are) in
@@ -115,14 +110,8 @@ module _ (text : List ℕ) (place line : ℕ) (lines : List LogicalLine) (read r
   pub decodes : StartsWithNoChar rest → Decodes bytes (spelled k.base ++ read) rest
   decodes bad = record { are = k.scalars; spell = sym k.known; bad = bad }
 
-  pub level : brackets_of k.base ≡ Some []
-  level = stack-from_balanced k.base k.balanced (brackets_shallow 0 k.base k.shallow)
-
-  pub strings : StringsFit 0 k.base
-  strings = strings_shallow 0 k.base k.shallow
-
   pub reading : IsBalancedReading k.base (spelled k.base)
-  reading = ended_reading k.base (read ++ k.more) k.fit k.balanced k.shallow k.ended
+  reading = ended_reading k.base (read ++ k.more) k.fit k.balanced k.shallow
 
   pub stands : Base place k.base
   stands = base_of place k.base (read ++ k.more) k.fit k.ended k.here
@@ -134,8 +123,8 @@ module _ (text : List ℕ) (place line : ℕ) (lines : List LogicalLine) (read r
       ∙ sym (lines_of-push k.base u rest k.ended one fit)
 
   -- the machine over the whole text so far
-  pub joins : (s : Scanned) (st : List Bracket) → GoesTo (line_start (first_mode place)) read s st → Joined k.base read s st k.more
-  joins s st goes = joined place k.base k.more level strings read s st k.fit stands goes
+  pub joins : (t : FieldScanned) → Goes (line_begun (first_mode place)) read t → Joined k.base read t k.more
+  joins t goes = joined place k.base k.more k.balanced k.shallow read t k.fit stands goes
 
 -- the lines given are read before what was read, whatever follows that
 pub read_then : (base : List Piece) (read more others : List ℕ) → (read ≡ [] → ⊥) → AreReadBefore base (read ++ more) → AreReadBefore base (read ++ others)

@@ -1,6 +1,5 @@
 -- The last byte of characters: it is CR just where their last character is.
-use Rattle.std.proofs.Common.{take-suc, ◌≡◌, ℕ, suc, ◌-◌, ◌<◌, ◌≤◌, Bool, false, List, [], ◌∷◌, ◌++◌, length, take, slice_index, refl, sym, ap, ◌∙◌, ⊎_elim, append-nil, arith}
-use Rattle.std.specs.Prelude.{encode_utf8, encode_utf8_all}
+use Rattle.std.proofs.Common.{take-suc, ◌≡◌, ℕ, suc, ◌-◌, ◌<◌, ◌≤◌, Bool, false, List, [], ◌∷◌, ◌++◌, length, take, slice_index, refl, sym, ap, ◌∙◌, ⊎_elim, append-nil, arith, encode_utf8, encode_utf8_all}
 use Rattle.std.proofs.lemmas.Bool.{cases_lt, false_from_ne_true}
 use Rattle.std.proofs.lemmas.Str.{length-le-encodes}
 use Rattle.py_lines.specs.Character.{is_return}
@@ -20,13 +19,9 @@ ends-encode : (c : ℕ) → ends is_return (encode_utf8 c) ≡ is_return c
 ends-encode c = ⊎_elim (λ narrow. ap (ends is_return) (one c narrow)) (λ wide. last_byte wide ∙ sym (no_return c wide)) (cases_lt c 128)
   where
     last_byte : 128 ≤ c → ends is_return (encode_utf8 c) ≡ false
-    last_byte wide = ⊎_elim
-        (λ short. ap (ends is_return) (two c wide short) ∙ no_return _ (omega arith))
-        (λ long. ⊎_elim
-        (λ short. ap (ends is_return) (three c long short) ∙ no_return _ (omega arith))
-        (λ longer. ap (ends is_return) (four c longer) ∙ no_return _ (omega arith))
-        (cases_lt c 65536))
-        (cases_lt c 2048)
+    last_byte wide = ⊎_elim (λ short. ap (ends is_return) (two c wide short) ∙ no_return _ (omega arith))
+        (λ long. ⊎_elim (λ short. ap (ends is_return) (three c long short) ∙ no_return _ (omega arith))
+        (λ longer. ap (ends is_return) (four c longer) ∙ no_return _ (omega arith)) (cases_lt c 65536)) (cases_lt c 2048)
 
 -- the last of some characters is the last of all
 pub ends-later : (p : ℕ → Bool) (first later : List ℕ) → (later ≡ [] → ⊥) → ends p (first ++ later) ≡ ends p later

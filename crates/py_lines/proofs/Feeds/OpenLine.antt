@@ -1,29 +1,65 @@
--- What is held of a line that is open, and what a scan of it comes to.
-use Rattle.std.proofs.Common.{◌≡◌, ℕ, ◌+◌, ◌-◌, ◌<◌, ◌≤◌, Bool, true, List, [], ◌++◌, length, take, drop, refl, sym, ap, ◌∙◌, append_assoc, arith, length-append, length-drop, ◌^◌, Option, None, Some, Result, Ok, Err, subst, ⊎_elim, append-nil}
-use Rattle.std.specs.Prelude.{encode_utf8_all, ◌==◌}
-use Rattle.std.specs.Str.{all_scalars}
+-- What is held of a line that is open, what a scan of it comes to, and what is left where the scan stops before bytes that do not tell.
+use Rattle.std.proofs.Common.{◌≡◌, ℕ, ◌+◌, ◌<◌, true, false, None, Some, List, [], ◌∷◌, ◌++◌, length, take, drop, refl, sym, ap, ◌∙◌, subst, arith, append-nil, length-append, encode_utf8_all, IsUtf8, length-take-le, take-append-drop, ◌-◌, ◌≤◌, Bool, append_assoc, length-drop, ◌^◌, Option, Result, Ok, Err, ⊎_elim, ◌==◌}
+use Rattle.std.specs.Str.{StartsWithNoChar, all_scalars}
+use Rattle.std.proofs.lemmas.Bool.{both_ways, eqb-true, cases_lt}
+use Rattle.py_lines.specs.LogicalLine.{byte_len}
+use Rattle.py_lines.specs.Settled.{IsHopeless}
+use Rattle.py_lines.specs.Private.FieldMachine.{FieldScanned}
+use Rattle.py_lines.specs.Private.Scan.{StandsAs, has_returned}
+use Rattle.py_lines.specs.Private.LineScan.{IsLeft, begins_line, Reached}
+use Rattle.py_lines.specs.Private.Feed.{TellsHopeless, Mode, Scan, IsCutAt, IsHeldOpen, IsOpen, StopsHeld, Stop, Feed, DropsLine, FailsAt, HasRoom, Holds, HoldsAt, IsDecidedAt, IsSoundFeed, IsUnchanged, ScansHeld, ScansTo, StandsSo, StopsWith, WhereHeld, Fault, FaultKind, LexError, ready_of, scanning_of, LineState, LineFault}
+use Rattle.py_lines.proofs.Text.Utf8Prefixes.{one_decoding, all_scalars-parts}
+use Rattle.py_lines.proofs.LineScan.LineSteps.{rests_end, begun_reached}
 use Rattle.std.specs.Global.{Vec}
 use Rattle.std.specs.Vec.{vec_len}
-use Rattle.std.proofs.lemmas.Bool.{eqb-true, cases_lt}
 use Rattle.std.proofs.lemmas.Str.{encodes-append}
 use Rattle.std.proofs.lemmas.List.{nil_from_length, take_all}
 use Rattle.std.proofs.Math.Seq.{take-append_seam, drop-append_seam}
 use Rattle.py_lines.specs.Piece.{begins}
-use Rattle.py_lines.specs.LogicalLine.{byte_len}
-use Rattle.py_lines.specs.Private.LineScan.{Reached}
 use Rattle.py_lines.specs.Private.LineState.{first_mode, BeginsAnew, IsFaultAfter}
-use Rattle.py_lines.specs.Private.Feed.{IsCutAt, IsHeldOpen, IsOpen, StopsHeld, Stop, Feed, DropsLine, FailsAt, HasRoom, Holds, HoldsAt, IsDecidedAt, IsSoundFeed, IsUnchanged, ScansHeld, ScansTo, StandsSo, StopsWith, WhereHeld, Fault, FaultKind, LexError, ready_of, scanning_of, LineState, LineFault}
-use Rattle.py_lines.proofs.Text.Utf8Prefixes.{all_scalars-parts}
 use Rattle.py_lines.proofs.LogicalLines.Cuts.{byte_len-append}
-use Rattle.py_lines.proofs.FieldScans.Resting.{rests_more}
-use Rattle.py_lines.proofs.LineScan.LineSteps.{begun_reached, rests_end}
+use Rattle.py_lines.proofs.FieldScans.Taking.{rests_more}
 use Rattle.py_lines.proofs.LineScan.TextSteps.{begun_sound}
 use Rattle.py_lines.proofs.Readers.LineFaults.{Within, refused_within}
-use Rattle.py_lines.specs.Settled.{IsHopeless}
 use Rattle.py_lines.specs.ScannerState.{ScannerRunsOut}
 use Rattle.py_lines.proofs.Text.Incomplete.{part_none}
 use Rattle.py_lines.proofs.Feeds.DecidedSoFar.{by_bytes, by_character}
-use Rattle.py_lines.proofs.Feeds.LeftBytes.{left_open}
+
+-- before bytes the line hasn't ended with CR
+open_before : (rest : List ℕ) (t u : FieldScanned) → StandsAs rest t u → 0 < length rest → has_returned t ≡ false
+open_before [] t u same some = absurd (omega (arith, some))
+open_before (b ∷ rest) t u alike some = alike.open_yet
+
+module _ {m : Mode} {whole : List ℕ} {scan : Scan} {read rest : List ℕ} (l : IsLeft m whole scan read rest) where
+  pub left_open : 0 < length rest → has_returned l.way.field ≡ false
+  left_open some = open_before rest l.way.field l.all.to l.stands some
+
+  -- after CR that ended it no byte follows
+  pub left_none : has_returned l.way.field ≡ true → rest ≡ []
+  left_none returned = by rest (λ some. left_open some)
+    where
+      by : (r : List ℕ) → (0 < length r → has_returned l.way.field ≡ false) → r ≡ []
+      by [] open_yet = refl
+      by (b ∷ more) open_yet = absurd (both_ways _ (open_yet (omega arith)) returned)
+
+  left_spell : encode_utf8_all l.all.run ++ rest ≡ l.left
+  left_spell = ap (λ t. encode_utf8_all l.all.run ++ t) (sym l.rest_is) ∙ l.all.spell
+
+  -- characters that it begins with, and then bytes that begin none
+  cut_is : (n : ℕ) (utf8 : IsUtf8 (take n l.left)) → StartsWithNoChar (drop n l.left) → (utf8.0 ≡ l.all.run) × (drop n l.left ≡ rest)
+  cut_is n (cs, (scalars, taken)) bad = one_decoding cs l.all.run (drop n l.left) rest scalars l.all.scalars bad l.none (ap (λ t. t ++ drop n l.left) taken ∙ take-append-drop n l.left ∙ sym left_spell)
+
+  pub part_left : TellsHopeless l.left None → ¬ (IsHopeless rest)
+  part_left (n, utf8, bad, more) = subst (λ t. ¬ (IsHopeless t)) (cut_is n utf8 bad).1 more
+
+  module _ (start : begins_line m ≡ true) (spell : encode_utf8_all read ++ rest ≡ whole) where
+    left_size : byte_len read ≡ scan.stop + byte_len l.all.run
+    left_size = omega (arith, rests_end l.reached.way start l.reached.rests, ap length spell, ap length l.reached.spell, ap length left_spell, length-append (encode_utf8_all read) rest, length-append (encode_utf8_all l.reached.read) l.left, length-append (encode_utf8_all l.all.run) rest)
+
+    pub hopeless_left : (n : ℕ) → TellsHopeless l.left (Some n) → (scan.stop + n ≡ byte_len read) × IsHopeless rest
+    hopeless_left n (within, utf8, hopeless) =
+        let both = cut_is n utf8 (subst StartsWithNoChar (append-nil (drop n l.left)) (hopeless [])) in
+        (omega (arith, left_size, ap byte_len both.0, ap length utf8.1.1, length-take-le n l.left within), subst IsHopeless both.1 hopeless)
 
 pub none_held : (held : Vec ℕ) {empty : Bool} → empty ≡ (vec_len held == 0) → empty ≡ true → held.items ≡ []
 none_held held is empty = nil_from_length held.items (let none : vec_len held ≡ 0 = eqb-true (vec_len held) 0 (sym is ∙ empty) in omega (arith, none))
@@ -62,10 +98,8 @@ module _ (f : Feed) (rest : List ℕ) (o : IsOpen f rest) where
   pub next_is : (held : List ℕ) → held ≡ f.held.items → take (length held - f.state.scan.stop) (drop f.state.scan.stop held) ≡ rest
   next_is held same =
       take_all (length held - f.state.scan.stop) (drop f.state.scan.stop held) (omega (arith, length-drop f.state.scan.stop held))
-      ∙ ap (drop f.state.scan.stop) same
-      ∙ ap (λ (n : ℕ). drop n f.held.items) open_stop
-      ∙ ap (drop (byte_len o.read)) (sym o.spell)
-      ∙ drop-append_seam (encode_utf8_all o.read) rest
+      ∙ ap (drop f.state.scan.stop) same ∙ ap (λ (n : ℕ). drop n f.held.items) open_stop
+      ∙ ap (drop (byte_len o.read)) (sym o.spell) ∙ drop-append_seam (encode_utf8_all o.read) rest
 
 -- where all that is held was scanned, it stands before the bytes that come next
 pub reached_next : (f : Feed) (chunk : List ℕ) → IsHeldOpen f → length f.held.items ≤ f.state.scan.stop → Reached (first_mode f.state.place) (f.held.items ++ chunk) f.state.scan chunk
@@ -171,8 +205,7 @@ module _ (f new : Feed) (error : LexError) (not_ready : f.ready ≡ None) where
   -- the next character is refused
   pub held_refused : (line_fault : LineFault) → StopsHeld f (Stop.Wrong line_fault) → FailsAt f line_fault.kind line_fault.place error new → ScansHeld f (Err error) new
   held_refused line_fault s fails =
-      let no = s.stops in
-      let w = refused_within f.state.place s.read no.way no.c no.none line_fault no.fault in
+      let no = s.stops in let w = refused_within f.state.place s.read no.way no.c no.none line_fault no.fault in
       fails_held f new line_fault.kind line_fault.place error fails not_ready (λ text lines first goes.
       by_character text f.state lines f.held.items s.read s.rest first goes s.scalars s.spell no.way no.c no.after no.scalar no.spell no.none no.open_yet line_fault no.fault fails.keeps.fault w
       (fault_after f new line_fault.kind line_fault.place error fails s.read s.rest s.spell s.scalars w))

@@ -1,6 +1,5 @@
 -- Lines that a scanner passed over are the next ones of each text that goes on with them.
-use Rattle.std.proofs.Common.{take-suc, ◌≡◌, ℕ, suc, ◌+◌, ◌-◌, ◌<◌, ◌≤◌, ◌^◌, ⊎_elim, inl, inr, true, Option, None, List, [], ◌∷◌, ◌++◌, length, take, drop, slice_index, refl, sym, ap, ◌∙◌, subst, append_assoc, append-nil, arith, length-append}
-use Rattle.std.specs.Prelude.{encode_utf8_all, flat_map, min}
+use Rattle.std.proofs.Common.{take-suc, ◌≡◌, ℕ, suc, ◌+◌, ◌-◌, ◌<◌, ◌≤◌, ◌^◌, ⊎_elim, inl, inr, true, Option, None, List, [], ◌∷◌, ◌++◌, length, take, drop, slice_index, refl, sym, ap, ◌∙◌, subst, append_assoc, append-nil, arith, length-append, encode_utf8_all, flat_map, min}
 use Rattle.std.specs.Global.{Vec}
 use Rattle.std.proofs.lemmas.Bool.{both_ways, false_from_ne_true}
 use Rattle.std.proofs.lemmas.List.{drop_more, length-drop, length-take-le, length-take}
@@ -14,12 +13,12 @@ use Rattle.py_lines.specs.declared.line_tokens.LineTokens.{LineTokens}
 use Rattle.py_lines.specs.Private.Feed.{IsSoundFeed, StandsSo, Scan, Feed, ready_of, scanning_of, LineState, AreFirstLines}
 use Rattle.py_lines.specs.Private.LineState.{BeginsAnew}
 use Rattle.py_lines.specs.Private.LineScan.{EndsWhole}
-use Rattle.py_lines.specs.Private.Outline.{AreWholeLines, BeginWithLines}
+use Rattle.py_lines.specs.Private.WholeLines.{AreWholeLines, BeginWithLines}
 use Rattle.py_lines.proofs.Lexings.LineEnds.{return_returns}
 use Rattle.py_lines.proofs.LineScan.LineCount.{line_ends-bytes}
 use Rattle.py_lines.proofs.LogicalLines.Cuts.{line_ends-append}
 use Rattle.py_lines.proofs.Text.CharacterTests.{return_is}
-use Rattle.py_lines.proofs.Readers.PassedLines.{AreSettledAt, apart, line_settled, lines_at, lines_spell, shown, take_slice}
+use Rattle.py_lines.proofs.Readers.PassedLines.{AreSettledAt, apart, line_settled, lines_at, lines_spell, pieces_of, shown, take_slice}
 use Rattle.py_lines.proofs.Feeds.Known.{goes_after, goes_with_first}
 use Rattle.py_lines.proofs.Feeds.ReadyLines.{none_ready}
 use Rattle.py_lines.proofs.Feeds.LastBytes.{ends-encoded, ends-later, last_of}
@@ -42,17 +41,16 @@ all_settled [] text place line given read more after are full first goes exact =
 all_settled (t ∷ []) text place line given read more after are full first goes exact =
     let all : read ≡ t = are.spell ∙ ap (λ u. t ++ u) are.lines ∙ append-nil t in
     subst (λ u. AreSettledAt text (place + byte_len u) (line + line_ends u) (length more) (given ++ lines_at (t ∷ []) place line read after are)) (sym all)
-    (line_settled text place line given first t more are.some (subst (λ u. GoesOnWith text place (encode_utf8_all u ++ more)) all goes) (subst (λ u. EndsExactly u more) all exact) (encode_utf8_all are.later ++ after) are.whole)
+    (line_settled text place line given first t more (subst (λ u. GoesOnWith text place (encode_utf8_all u ++ more)) all goes) (subst (λ u. EndsExactly u more) all exact) (encode_utf8_all are.later ++ after) are.whole)
 all_settled (t ∷ u ∷ texts) text place line given read more after are full first goes exact =
-    let own_bytes = encode_utf8_all t in
-    let later_bytes = encode_utf8_all are.later in
+    let own_bytes = encode_utf8_all t in let later_bytes = encode_utf8_all are.later in
     let spell : encode_utf8_all read ≡ own_bytes ++ later_bytes = ap encode_utf8_all are.spell ∙ encodes-append t are.later in
     let split : GoesOnWith text place (own_bytes ++ (later_bytes ++ more)) = subst (GoesOnWith text place) (ap (λ b. b ++ more) spell ∙ append_assoc own_bytes later_bytes more) goes in
     let some : 0 < length are.later = omega (arith, ap length are.lines.spell, length-append u are.lines.later, are.lines.some) in
     let own = shown t (later_bytes ++ more) (same_first t later_bytes after more (omega (arith, some, length-le-encodes are.later)) are.whole.whole) in
     let near : GoesOnWith text place (own_bytes ++ own.more) = goes_with_first text place (own_bytes ++ own.more) own.unseen (subst (GoesOnWith text place) (ap (λ b. own_bytes ++ b) own.spell ∙ sym (append_assoc own_bytes own.more own.unseen)) split) in
-    let one = line_settled text place line given first t own.more are.some near own.exact (later_bytes ++ after) are.whole in
-    let here = line_of place line (are.whole.body ++ are.whole.last ∷ []) in
+    let one = line_settled text place line given first t own.more near own.exact (later_bytes ++ after) are.whole in
+    let here = line_of place line (pieces_of are.whole) in
     let others = all_settled (u ∷ texts) text (place + byte_len t) (line + line_ends t) (given ++ here ∷ []) are.later more after are.lines (omega (arith, some, length-le-encodes are.later)) one.0 (goes_after text place own_bytes (later_bytes ++ more) split) (rw (last_ends read t are.later are.spell some) at exact) in
     let place_is : place + byte_len t + byte_len are.later ≡ place + byte_len read = omega (arith, ap length spell, length-append own_bytes later_bytes) in
     let line_is : line + line_ends t + line_ends are.later ≡ line + line_ends read = omega (arith, ap line_ends are.spell, line_ends-append t are.later (apart t are.later after are.whole.whole)) in
@@ -73,8 +71,7 @@ bytes_whole bytes len some found = by found.texts found.whole
   where
     by : (texts : List (List ℕ)) → AreWholeLines texts found.read (drop len bytes) → EndsWhole (take len bytes) (drop len bytes)
     by [] are = absurd (omega (arith, some, ap length found.spell, ap byte_len are, length-take-le len bytes found.within))
-    by (t ∷ texts) are =
-        rw (sym (ends-encoded found.read) ∙ ap (ends is_return) found.spell) at (lines_whole t texts found.read (drop len bytes) are)
+    by (t ∷ texts) are = rw (sym (ends-encoded found.read) ∙ ap (ends is_return) found.spell) at (lines_whole t texts found.read (drop len bytes) are)
 
 -- after lines that CR alone doesn't end nothing is held
 pub nothing_after : (bytes : List ℕ) (len : ℕ) → 0 < len → BeginWithLines bytes len → (slice_index bytes (len - 1) ≡ 13 → ⊥) → HoldsAfterLines bytes len []

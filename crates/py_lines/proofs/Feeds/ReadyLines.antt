@@ -3,15 +3,13 @@ use Rattle.std.proofs.Common.{◌≡◌, ℕ, ◌+◌, ◌≤◌, true, false, O
 use Rattle.std.specs.Str.{all_scalars}
 use Rattle.std.proofs.lemmas.Str.{encodes_same}
 use Rattle.std.proofs.Math.Seq.{take-append_seam}
-use Rattle.py_lines.specs.Piece.{Piece, ends, line_end, spelled}
+use Rattle.py_lines.specs.Piece.{Piece, spelled}
 use Rattle.py_lines.specs.LogicalLine.{LogicalLine, byte_len, line_ends}
 use Rattle.py_lines.specs.Token.{EachLiesIn}
-use Rattle.py_lines.specs.Private.LineScan.{IsApart, ScansIn, line_start}
+use Rattle.py_lines.specs.Private.LineScan.{IsAtLineEnd, ScansIn}
 use Rattle.py_lines.specs.Private.LineState.{first_mode, with_tokens}
 use Rattle.py_lines.specs.Private.LineTokens.{AreLineText, HoldsTokens, IsLineAfter, IsLineText}
 use Rattle.py_lines.specs.Private.Feed.{HasReadTokens, HasRoom, HoldsLine, HoldsSo, IsLineAfterHeld, IsReady, StandsSo, StopsHeld, line_held, with_line, Scan, Stop, Feed, line_of_feed, ready_of, scanning_of, LineState, Mode}
-use Rattle.py_lines.proofs.Fields.OneReading.{one_fielded_reading}
-use Rattle.py_lines.proofs.Lexings.LineEnds.{read-alone}
 use Rattle.py_lines.proofs.LogicalLines.TokenPlaces.{each_after}
 use Rattle.py_lines.proofs.Readers.LineAnswers.{IsScannedLine, line_at_end, line_text}
 
@@ -21,7 +19,7 @@ stopped_text stop held read rest spell size = ap (λ (n : ℕ). take n held) siz
 
 -- a line that was scanned whole
 abbrev pub holds_line : (f : Feed) (end_len : ℕ) (read rest : List ℕ) (u : List Piece) → all_scalars read ≡ true
-    → encode_utf8_all read ++ rest ≡ f.held.items → IsScannedLine (line_start (first_mode f.state.place)) f.state.scan read end_len u → HoldsLine f end_len
+    → encode_utf8_all read ++ rest ≡ f.held.items → IsScannedLine (first_mode f.state.place) f.state.scan read end_len u → HoldsLine f end_len
 holds_line f end_len read rest u scalars held line = record {
   read = read;
   rest = rest;
@@ -30,45 +28,23 @@ holds_line f end_len read rest u scalars held line = record {
   spell = held;
   spells = line.line.spell;
   text = subst (λ t. AreLineText t u) (sym (stopped_text f.state.scan.stop f.held.items read rest held line.stop))
-      (line_text (line_start (first_mode f.state.place)) f.state.scan read end_len u scalars line);
+      (line_text (first_mode f.state.place) f.state.scan read end_len u scalars line);
   ends = line.ends;
   stop = line.stop;
   some = line.line.some;
 }
 
--- a text that ends a line is that of one list of pieces
-same_pieces : (text : List ℕ) (body others : List Piece) (last end : Piece) → last.class ≡ line_end → end.class ≡ line_end
-    → AreLineText text (body ++ last ∷ []) → AreLineText text (others ++ end ∷ []) → body ++ last ∷ [] ≡ others ++ end ∷ []
-same_pieces text body others last end ends also one two =
-    let same : spelled (body ++ last ∷ []) ≡ spelled (others ++ end ∷ [])
-    = encodes_same (spelled (body ++ last ∷ [])) (spelled (others ++ end ∷ [])) (one.spell ∙ sym two.spell) in
-    one_fielded_reading (body ++ last ∷ []) (others ++ end ∷ []) (spelled (others ++ end ∷ []))
-    (record { spell = same; fit = read-alone body last one.after ends one.fit })
-    (record { spell = refl; fit = read-alone others end two.after also two.fit })
-
 -- a line that its line end has closed
 module _ {m : Mode} {bytes : List ℕ} {scan : Scan} {end_len : ℕ} (s : ScansIn m bytes scan (Stop.LineEnd end_len)) where
-  -- its pieces, before what follows
-  abbrev pub pieces_before : (after : List ℕ) → IsApart s.read after → List Piece
-  pieces_before after h = (s.stops.0 after h).body ++ (s.stops.0 after h).last ∷ []
+  abbrev pub line_alone : IsAtLineEnd m scan s.read [] end_len
+  line_alone = s.stops.0 [] (λ returned. refl)
 
-  pub ended_scan : (after : List ℕ) (h : IsApart s.read after) → IsScannedLine (line_start m) scan s.read end_len (pieces_before after h)
-  ended_scan after h = line_at_end m scan s.read (encode_utf8_all after) end_len (s.stops.0 after h) after refl
-
-  -- and before nothing: they are the same
+  -- its pieces
   abbrev pub pieces_alone : List Piece
-  pieces_alone = pieces_before [] (λ returned. refl)
+  pieces_alone = line_alone.body ++ line_alone.last ∷ []
 
-  pub ended_alone : IsScannedLine (line_start m) scan s.read end_len pieces_alone
-  ended_alone = ended_scan [] (λ returned. refl)
-
-  pub same_before : (after : List ℕ) (h : IsApart s.read after) → pieces_before after h ≡ pieces_alone
-  same_before after h =
-      let at = s.stops.0 after h in
-      let alone = s.stops.0 [] (λ returned. refl) in
-      same_pieces (encode_utf8_all s.read) at.body alone.body at.last alone.last at.are.class alone.are.class
-      (line_text (line_start m) scan s.read end_len (pieces_before after h) s.scalars (ended_scan after h))
-      (line_text (line_start m) scan s.read end_len pieces_alone s.scalars ended_alone)
+  pub ended_alone : IsScannedLine m scan s.read end_len pieces_alone
+  ended_alone = line_at_end m scan s.read [] end_len line_alone [] refl
 
 abbrev pub ended_holds : (f : Feed) (end_len : ℕ) → StopsHeld f (Stop.LineEnd end_len) → HoldsLine f end_len
 ended_holds f end_len s = holds_line f end_len s.read s.rest (pieces_alone s) s.scalars s.spell (ended_alone s)

@@ -1,6 +1,5 @@
 -- A settled line is released, or the text's last: the lines before it and this one are the first of the whole text.
-use Rattle.std.proofs.Common.{◌≡◌, ℕ, ◌+◌, List, [], ◌∷◌, ◌++◌, length, take, drop, refl, sym, ap, ◌∙◌, subst, inr, append_assoc, append-nil, arith, Option, None, Some, length-append}
-use Rattle.std.specs.Prelude.{encode_utf8_all, IsSome}
+use Rattle.std.proofs.Common.{◌≡◌, ℕ, ◌+◌, List, [], ◌∷◌, ◌++◌, length, take, drop, refl, sym, ap, ◌∙◌, subst, inr, append_assoc, append-nil, arith, Option, None, Some, length-append, encode_utf8_all, IsSome}
 use Rattle.std.proofs.lemmas.List.{take-append-drop, append_cancel_left, drop-drop}
 use Rattle.std.proofs.lemmas.Str.{encodes-append, encodes_same}
 use Rattle.py_lines.specs.Piece.{spelled}
@@ -156,8 +155,7 @@ module _ (old new : Feed) (n : ℕ) (r : HoldsLine old n) (go : LetsGo old new) 
 -- both, where a caller sees a line that is ready
 pub release_seen : (old new : Feed) (seen : ScannerState) → scanning_of old ≡ seen → IsSoundFeed old → IsSome seen.ready → LetsGo old new → Releases seen (scanning_of new) × IsSoundFeed new
 release_seen old new seen is sound some go =
-    let at = ready_from old sound (subst (λ (s : ScannerState). IsSome s.ready) (sym is) some) in
-    let h = at.2.holds in
+    let at = ready_from old sound (subst (λ (s : ScannerState). IsSome s.ready) (sym is) some) in let h = at.2.holds in
     let seen_is : with_line old (Some (line_held old at.0 h)) ≡ seen = sym (ready_seen old at.0 at.1 at.2) ∙ is in (
       subst (λ (s : ScannerState). Releases s (scanning_of new)) seen_is (releases old new at.0 h go),
       released_sound old new at.0 h go

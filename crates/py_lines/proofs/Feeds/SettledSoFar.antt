@@ -1,6 +1,5 @@
 -- What the known bytes settle: the lines given, where the machine has found no line end after them, or one line more.
-use Rattle.std.proofs.Common.{◌≡◌, true, ◌&&◌, ℕ, ◌<◌, ◌≤◌, ◌⊎◌, false, Some, List, [], ◌∷◌, ◌++◌, length, refl, sym, ap, ◌∙◌, subst, ⊎_elim, inl, inr, append-nil, arith, length-append}
-use Rattle.std.specs.Prelude.{encode_utf8_all}
+use Rattle.std.proofs.Common.{◌≡◌, Bool, true, ℕ, ◌<◌, ◌≤◌, ◌⊎◌, false, List, [], ◌∷◌, ◌++◌, length, refl, sym, ap, ◌∙◌, subst, ⊎_elim, inl, inr, append-nil, arith, length-append, encode_utf8_all}
 use Rattle.std.specs.Str.{StartsWithNoChar}
 use Rattle.std.proofs.lemmas.Bool.{cases_lt, and_from, false_from_ne_true}
 use Rattle.std.proofs.lemmas.List.{nil_from_length}
@@ -13,40 +12,47 @@ use Rattle.py_lines.specs.Reading.{Decodes, IsBalancedReading, EndsLine}
 use Rattle.py_lines.specs.ScannerState.{EndsExactly}
 use Rattle.py_lines.specs.Settled.{EndsForGood, IsSettled}
 use Rattle.py_lines.specs.LogicalLine.{LogicalLine, byte_len, line_of}
-use Rattle.py_lines.specs.Private.Machine.{Scanned, Bracket, brackets_of}
-use Rattle.py_lines.specs.Private.ScanMachine.{IsScanSound}
-use Rattle.py_lines.specs.Private.LineScan.{EndsNoLine, line_start, none_open}
+use Rattle.py_lines.specs.Private.FieldMachine.{field_closed}
+use Rattle.py_lines.specs.Private.LineScan.{EndsNoLine, IsApart, IsAtLineEnd, IsUnderWay, begins_line}
 use Rattle.py_lines.specs.Private.LineState.{first_mode}
+use Rattle.py_lines.specs.Private.Scan.{has_returned}
 use Rattle.py_lines.specs.Private.Machine.{Mode}
 use Rattle.std.proofs.Math.Utf8.{low_scalar}
-use Rattle.py_lines.proofs.Text.CharacterTests.{return_is, feed_is}
+use Rattle.py_lines.proofs.Text.CharacterTests.{feed_is}
 use Rattle.py_lines.proofs.Text.Utf8Prefixes.{goes_on, all_scalars-append, nothing_bad}
 use Rattle.py_lines.proofs.Text.Utf8Shapes.{no_char}
 use Rattle.py_lines.proofs.LogicalLines.NextLine.{texts, texts-lines}
 use Rattle.py_lines.proofs.Lexings.LinePrefix.{EndsNoneYet, settled_at, settled_line}
 use Rattle.py_lines.proofs.Lexings.LineEnds.{ended_reading, none_both}
-use Rattle.py_lines.proofs.Machine.PieceSteps.{scanned, pieces_at}
-use Rattle.py_lines.proofs.ScanMachine.Advance.{GoesTo}
-use Rattle.py_lines.proofs.LineScan.NextCharacter.{is_return_mode, closed_one_line}
-use Rattle.py_lines.proofs.LineScan.LineSteps.{sound_steps}
+use Rattle.py_lines.proofs.FieldMachine.OuterLists.{outer_alone, outer_pieces}
+use Rattle.py_lines.proofs.LineScan.LineSteps.{returned_at, way_one_line}
 use Rattle.py_lines.proofs.LineScan.TextSteps.{begun_sound}
-use Rattle.py_lines.proofs.Readers.LineAnswers.{IsReadLine, balanced_after, ends_after, fits_after, shallow_after, spelled_after}
+use Rattle.py_lines.proofs.Readers.LineFaults.{open_line}
+use Rattle.py_lines.specs.declared.scan.Scan.{Scan}
+use Rattle.py_lines.proofs.Readers.LineAnswers.{fits_on, IsReadLine, balanced_after, ends_after, fits_after, shallow_after, spelled_after}
 use Rattle.py_lines.proofs.Feeds.LastBytes.{ends-later}
 use Rattle.py_lines.proofs.Feeds.Known as of
 use Rattle.py_lines.proofs.Feeds.Known.{IsKnown}
 
--- no line has ended, where a CR that ends the line, unless LF follows, is the last byte known
-ends_none : (m : Mode) (done : List Piece) (held read rest : List ℕ) (st : List Bracket) → IsScanSound (scanned done m held) read → brackets_of done ≡ Some st → EndsNoLine 0 done → (is_return_mode m && none_open st ≡ true → rest ≡ []) → EndsNoneYet (pieces_at (scanned done m held)) rest
-ends_none Mode.Return done held read rest [] sound stacked one_line last = EndsNoneYet.by_return done held refl one_line (sound.holds.0.1 ∙ ap (λ d. d ∷ []) (return_is sound.holds.0.0 sound.holds.0.2)) (last refl)
-ends_none Mode.Return done held read rest (b ∷ bs) sound stacked one_line last = EndsNoneYet.none (closed_one_line Mode.Return done held (b ∷ bs) stacked one_line (λ same. refl))
-ends_none m done held read rest st sound stacked one_line last = EndsNoneYet.none (closed_one_line m done held st stacked one_line (λ same. absurd (cc)))
+-- No line has ended in what was read, where no byte is known after a CR that ends the line unless LF follows.
+ends_none : {m : Mode} {read : List ℕ} (way : IsUnderWay m read) → begins_line m ≡ true → (rest : List ℕ)
+    → (has_returned way.field ≡ true → rest ≡ []) → EndsNoneYet (outer_pieces way.field) rest
+ends_none way start rest last = by (has_returned way.field) refl
+  where
+    by : (b : Bool) → has_returned way.field ≡ b → EndsNoneYet (outer_pieces way.field) rest
+    by false open_yet = EndsNoneYet.none (open_line way start open_yet)
+    by true is =
+        let t = way.field in let r = returned_at way start is in let alone = outer_alone t r.outside in
+        EndsNoneYet.by_return t.done t.held (alone.3 ∙ ap (λ m. field_closed m t.done t.held) r.mode)
+        (subst (EndsNoLine 0) alone.0 (way_one_line way start))
+        r.held (last is)
 
 module _ (text : List ℕ) (place line : ℕ) (lines : List LogicalLine) (read rest : List ℕ) (k : IsKnown text place line lines read rest) where
   -- no line has ended since
-  pub settled_open : (s : Scanned) (st : List Bracket) → GoesTo (line_start (first_mode place)) read s st → EndsNoLine 0 s.done → StartsWithNoChar rest → 0 < length (encode_utf8_all read ++ rest) → (is_return_mode s.mode && none_open st ≡ true → rest ≡ []) → IsSettled (of.bytes text place line lines read rest k) lines
-  settled_open s st goes one_line bad some last =
-      let j = of.joins text place line lines read rest k s st goes in
-      let sound = sound_steps (first_mode place) read s (begun_sound place) goes.run goes.stack in
+  pub settled_open : (way : IsUnderWay (first_mode place) read) → StartsWithNoChar rest → 0 < length (encode_utf8_all read ++ rest)
+      → (has_returned way.field ≡ true → rest ≡ []) → IsSettled (of.bytes text place line lines read rest k) lines
+  settled_open way bad some last =
+      let j = of.joins text place line lines read rest k way.field way.goes in
       let good : EndsForGood k.base (read ++ rest) = (
         k.ended,
         λ none.
@@ -58,7 +64,7 @@ module _ (text : List ℕ) (place line : ℕ) (lines : List LogicalLine) (read r
         tail = rest;
         pieces = k.base;
         decodes = of.decodes text place line lines read rest k bad;
-        prefix = settled_at (spelled k.base ++ read) rest j.state j.st k.base (pieces_at s) read j.steps j.pieces (of.reading text place line lines read rest k) good (ends_none s.mode s.done s.held read rest st sound goes.stack one_line last) refl;
+        prefix = settled_at (spelled k.base ++ read) rest j.state k.base (outer_pieces way.field) read j.runs j.pieces (of.reading text place line lines read rest k) good (ends_none way (begun_sound place) rest last) refl;
         cut = k.cut;
       }
 
@@ -74,7 +80,12 @@ pub record IsNextLine (place : ℕ) (read more : List ℕ) (u : List Piece) : Ty
   pub class : last.class ≡ line_end
   pub level : depth_through 0 body ≡ 0
   pub fit : AreReadBefore u more
-  pub line : IsReadLine (line_start (first_mode place)) read u
+  pub line : IsReadLine (first_mode place) read u
+
+pub next_line : {m : Mode} {place : ℕ} {scan : Scan} {read : List ℕ} {len : ℕ} (at : IsAtLineEnd m scan read [] len)
+    → IsReadLine (first_mode place) read (at.body ++ at.last ∷ []) → (more : List ℕ) → IsApart read more
+    → IsNextLine place read more (at.body ++ at.last ∷ [])
+next_line at line more apart = record { body = at.body; last = at.last; is = refl; class = at.are.class; level = at.are.level; fit = fits_on at more apart; line = line }
 
 module _ (text : List ℕ) (place line : ℕ) (lines : List LogicalLine) (read rest : List ℕ) (k : IsKnown text place line lines read rest) (u : List Piece) (next : IsNextLine place read k.more u) where
   all_spelled : spelled (k.base ++ u) ≡ spelled k.base ++ read
@@ -84,7 +95,7 @@ module _ (text : List ℕ) (place line : ℕ) (lines : List LogicalLine) (read r
   ends_line = ends_after k next.line next.fit next.body next.last next.is next.class next.level
 
   all_reading : IsBalancedReading (k.base ++ u) (spelled (k.base ++ u))
-  all_reading = ended_reading (k.base ++ u) k.more (fits_after k next.line next.fit) (balanced_after k next.line next.fit) (shallow_after k next.line next.fit) ends_line
+  all_reading = ended_reading (k.base ++ u) k.more (fits_after k next.line next.fit) (balanced_after k next.line next.fit) (shallow_after k next.line next.fit)
 
   last_ends : ends is_return (spelled (k.base ++ u)) ≡ ends is_return read
   last_ends = ap (ends is_return) all_spelled ∙ ends-later is_return (spelled k.base) read (λ none. omega (arith, next.line.some, ap byte_len none))
@@ -119,8 +130,7 @@ module _ (text : List ℕ) (place line : ℕ) (lines : List LogicalLine) (read r
       let ended : EndsForGood (k.base ++ u) (on.rest ++ s.tail) = (
         ends_line,
         λ none.
-            let parts = none_both on.rest s.tail none in
-            last_ends ∙ good (sym on.left ∙ ap (λ t. encode_utf8_all t ++ s.tail) parts.0 ∙ parts.1),
+            let parts = none_both on.rest s.tail none in last_ends ∙ good (sym on.left ∙ ap (λ t. encode_utf8_all t ++ s.tail) parts.0 ∙ parts.1),
       ) in
       let bound = s.prefix.longest (k.base ++ u) on.rest spell all_reading ended in
       let same : spelled s.pieces ≡ spelled k.base = encodes_same (spelled s.pieces) (spelled k.base) (sym (texts-lines s.pieces) ∙ ap texts (sym s.cut ∙ k.cut) ∙ texts-lines k.base) in

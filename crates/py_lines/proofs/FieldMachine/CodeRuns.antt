@@ -84,14 +84,10 @@ pub code_moves : (host : Host) (named : Bool) (held : List ℕ) (c : ℕ) → c 
 unfolding field_move body_move
 code_moves host named held c other = rw other
 
-pub end_no_quote : is_quote 125 ≡ false
-unfolding is_quote
-end_no_quote = refl
-
 -- the `}` of a specification
 pub end_moves : (host : Host) (at : At) → is_quote host.quote ≡ true → between_move host specification false at 125 ≡ ends_field
-unfolding between_move is_backslash is_break
-end_moves host at quotes = rw (not_quote 125 host.quote quotes end_no_quote)
+unfolding between_move is_backslash is_break is_quote
+end_moves host at quotes = rw (not_quote 125 host.quote quotes refl)
 
 pub brace_ends : (level : Level) (outer : List Level) (done : List Piece) → code_operator level outer done 125 ≡ Some (field_ended level outer (level.front ++ (spelled done ++ 125 ∷ [])))
 unfolding code_operator
@@ -102,13 +98,9 @@ unfolding code_operator
 colon_opens level outer done = refl
 
 -- they are operators that open nothing
-pub brace_is : (start_of 125 ≡ Start.Operator) × (is_opening 125 ≡ false)
+signs_are : (start_of 125 ≡ Start.Operator) × (is_opening 125 ≡ false) × (start_of 58 ≡ Start.Operator) × (is_opening 58 ≡ false)
 unfolding is_operator is_opening
-brace_is = (start-operator 125 refl, refl)
-
-pub colon_is : (start_of 58 ≡ Start.Operator) × (is_opening 58 ≡ false)
-unfolding is_operator is_opening
-colon_is = (start-operator 58 refl, refl)
+signs_are = (start-operator 125 refl, refl, start-operator 58 refl, refl)
 
 module _ (Room : ℕ → Type 0) (outer : List Level) (done : List Piece) (openers : List ℕ) (host : Host) where
   abbrev depth : ℕ
@@ -158,8 +150,7 @@ module _ (Room : ℕ → Type 0) (outer : List Level) (done : List Piece) (opene
     code_goes place held inside e t is passed starts_as no_bracket ends =
         let found = all_found Room F begin run G (in_field place held) inside [] (e ∷ []) is.fit is.unmarked (subst (λ n. ArePassed Room F n inside) (sym (deeper place held)) passed)
         (balanced_openers inside is.balanced []) (λ some. is.colon) (stops-fresh (spelled inside ++ e ∷ [])) in
-        let level : Level = level_at place held in
-        let s : FieldScanned = field_state (level ∷ outer) found.done [] found.mode found.held in
+        let level : Level = level_at place held in let s : FieldScanned = field_state (level ∷ outer) found.done [] found.mode found.held in
         let last : Goes Room s (e ∷ []) (t (field_pieces s)) =
         goes-begins Room s (t (field_pieces s)) (t (field_pieces s)) e [] found.stops
         (ap (field_started (level ∷ outer) (field_pieces s) [] e) starts_as ∙ ends (field_pieces s)) (λ is_one. absurd (both_ways _ no_bracket is_one)) refl in
@@ -168,8 +159,7 @@ module _ (Room : ℕ → Type 0) (outer : List Level) (done : List Piece) (opene
 
     pub specification_goes : (place : Place) (held : List ℕ) (inside : List Piece) (parts : List (List ℕ)) (rest : List ℕ) → is_quote host.quote ≡ true → AreInside (with_fields G) inside (58 ∷ []) → ArePassed Room F (depth + 1) inside → AreParts (F (depth + 1)) host specification false parts rest → has_triple host.quote parts ≡ false → SpecificationGoes place held inside parts rest
     specification_goes place held inside parts rest quotes is passed each open_yet =
-        let inner : List Level = level_at place held ∷ outer in
-        let front : List ℕ = held ++ 123 ∷ [] in
+        let inner : List Level = level_at place held ∷ outer in let front : List ℕ = held ++ 123 ∷ [] in
         let d = length {A = ℕ} [] + levels_open inner in
         let begun : List Piece → FieldScanned = λ ps. field_state inner [] [] (body host specification false between) (front ++ (spelled ps ++ 58 ∷ [])) in
         let parts_run = parts_go Room inner [] [] (F d) (begin d) (run inner [] []) host specification false between (front ++ (spelled inside ++ 58 ∷ [])) parts rest [] quotes
@@ -177,13 +167,12 @@ module _ (Room : ℕ → Type 0) (outer : List Level) (done : List Piece) (opene
         (subst (λ l. has_triple host.quote l ≡ false) (sym (append-nil parts)) open_yet) in
         let ended : List ℕ → FieldScanned = field_state inner [] [] (body host specification (named_through false parts) parts_run.to) in
         let code : List ℕ = spelled inside ++ (58 ∷ joined parts) in
-        let cut : (spelled inside ++ 58 ∷ []) ++ joined parts ≡ code = append_assoc (spelled inside) (58 ∷ []) (joined parts) in
-        record {
+        let cut : (spelled inside ++ 58 ∷ []) ++ joined parts ≡ code = append_assoc (spelled inside) (58 ∷ []) (joined parts) in record {
           to = parts_run.to;
           goes = goes-to Room (in_field place held) _ _ code
               (subst (λ t. Goes Room (in_field place held) t (ended ((front ++ (spelled inside ++ 58 ∷ [])) ++ joined parts))) cut
               (goes-append Room (in_field place held) (begun inside) _ (spelled inside ++ 58 ∷ []) (joined parts)
-              (code_goes place held inside 58 begun is passed colon_is.0 colon_is.1 (λ ps. colon_opens (level_at place held) outer ps)) parts_run.goes))
+              (code_goes place held inside 58 begun is passed signs_are.2 signs_are.3 (λ ps. colon_opens (level_at place held) outer ps)) parts_run.goes))
               (ap ended (append_assoc front (spelled inside ++ 58 ∷ []) (joined parts) ∙ ap (λ x. front ++ x) cut ∙ append_assoc held (123 ∷ []) code));
           on = parts_run.on;
         }
@@ -191,17 +180,15 @@ module _ (Room : ℕ → Type 0) (outer : List Level) (done : List Piece) (opene
     -- a field, whose pieces meet a condition by which what opens in them may open there
     pub field_goes : (Passes : List Piece → Type 0) → ((ps : List Piece) (rest : List ℕ) → AreReadIn (with_fields G) ps rest → Passes ps → ArePassed Room F (depth + 1) ps) → (place : Place) (at : At) (held text : List ℕ) → is_quote host.quote ≡ true → Room depth → IsField (with_fields G) Passes (F (depth + 1)) host text → (place ≡ literal → begins_double text ≡ false) → MayGoOn host place false at text → Goes Room (in_string place at held) text (in_string place between (held ++ text))
     field_goes Passes passed place at held text quotes room (simple inside spell is passes) single here =
-        let code : List ℕ = spelled inside ++ 125 ∷ [] in
-        let level : Level = level_at place held in
+        let code : List ℕ = spelled inside ++ 125 ∷ [] in let level : Level = level_at place held in
         let ended : List Piece → FieldScanned = λ ps. field_ended level outer (level.front ++ (spelled ps ++ 125 ∷ [])) in
         let full = some_head (spelled inside) 125 [] in
         rw spell (goes-to Room (in_string place at held) (ended inside) _ (123 ∷ code)
         (opens_text place (body host place false at) held code full.0 full.1 (ended inside) full.2 (body_moves host place false at held 123 code (rw spell at here) ∙ open_moves host place (settled at) quotes) room (rw spell at single)
-        (code_goes place held inside 125 ended is (passed inside (125 ∷ []) is.fit passes) brace_is.0 brace_is.1 (λ ps. brace_ends level outer ps)))
+        (code_goes place held inside 125 ended is (passed inside (125 ∷ []) is.fit passes) signs_are.0 signs_are.1 (λ ps. brace_ends level outer ps)))
         (ap (in_string place between) (append_assoc held (123 ∷ []) code)))
     field_goes Passes passed place at held text quotes room (specified inside parts spell is passes own) single here =
-        let code : List ℕ = spelled inside ++ (58 ∷ joined parts) in
-        let text : List ℕ = held ++ (123 ∷ code) in
+        let code : List ℕ = spelled inside ++ (58 ∷ joined parts) in let text : List ℕ = held ++ (123 ∷ code) in
         let whole : code ++ 125 ∷ [] ≡ spelled inside ++ (58 ∷ joined parts ++ 125 ∷ []) = append_assoc (spelled inside) (58 ∷ joined parts) (125 ∷ []) in
         let first = specification_goes place held inside parts (125 ∷ []) quotes is (passed inside (58 ∷ []) is.fit passes) own.each own.open_yet in
         let s : FieldScanned = field_state (level_at place held ∷ outer) [] [] (body host specification (named_through false parts) first.to) text in

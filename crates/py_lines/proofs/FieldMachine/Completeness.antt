@@ -13,9 +13,8 @@ use Rattle.py_lines.specs.Private.Machine.{Mode, move_of}
 use Rattle.py_lines.specs.Private.FieldMachine.{plain, closes, breaks, FieldScanned, field_state, field_fresh, field_text_start, field_pieces, field_move, field_moved, field_started, field_step, field_steps_from, openers_through, have_room, IsFieldFinal, frames}
 use Rattle.py_lines.proofs.Pieces.PieceLists.{piece}
 use Rattle.py_lines.proofs.Machine.Starts.{start-mark}
-use Rattle.py_lines.proofs.Machine.ReadingSteps.{MayBegin}
 use Rattle.py_lines.proofs.Fields.Parts.{BeginOpen, fields_begin, field_begins, within_begin}
-use Rattle.py_lines.proofs.FieldMachine.Runs.{NoLimit, BelowLimit, HasRoomFor, Goes, StopsAt, goes-append, goes-closes, stops-fresh, steps_of, room_of}
+use Rattle.py_lines.proofs.FieldMachine.Runs.{MayBegin, NoLimit, BelowLimit, HasRoomFor, Goes, StopsAt, goes-append, goes-closes, stops-fresh, steps_of, room_of}
 use Rattle.py_lines.proofs.FieldMachine.ListBrackets.{none_some, balanced_openers}
 use Rattle.py_lines.proofs.FieldMachine.PieceRuns.{FieldFinds}
 use Rattle.py_lines.proofs.FieldMachine.CodeRuns.{ArePassed, FieldsRun, all_found, HasNoColonIn, field_goes}
@@ -71,12 +70,9 @@ no_mark c next step = false_from_ne_true _ (λ is. none_some (sym (ap (field_sta
 
 -- without a mark, the start is like any other place
 start_goes : (Room : ℕ → Type 0) (text : List ℕ) (t : FieldScanned) (p : Piece) (ps : List Piece) → Goes Room (field_fresh [] [] []) text t → field_pieces t ≡ p ∷ ps → Goes Room field_text_start text t
-start_goes Room [] t p ps goes found =
-    let none : [] ≡ p ∷ ps = ap field_pieces goes ∙ found in
-    absurd (cc)
+start_goes Room [] t p ps goes found = let none : [] ≡ p ∷ ps = ap field_pieces goes ∙ found in absurd (cc)
 start_goes Room (c ∷ cs) t p ps (next, step, room, others) found =
-    let fresh_at : FieldScanned = field_fresh [] [] [] in
-    let unmarked = no_mark c next step in
+    let fresh_at : FieldScanned = field_fresh [] [] [] in let unmarked = no_mark c next step in
     let move = start_breaks c unmarked in (
       next,
       ap (field_moved field_text_start c) move ∙ sym (ap (field_moved fresh_at c) (stops-fresh (c ∷ []))) ∙ step,
@@ -95,8 +91,7 @@ module _ (Room : ℕ → Type 0) (F : ℕ → Host → List ℕ → Type 0) (beg
     where
       go : (class : Class) (text : List ℕ) → AreReadIn (with_fields G) (piece class text ∷ ps) rest → ArePassed Room F 0 (piece class text ∷ ps) → openers_through (Some []) (piece class text ∷ ps) ≡ Some after → FieldFinds Room field_text_start (spelled (piece class text ∷ ps)) (piece class text ∷ ps) after rest
       go mark text h k l =
-          let c = h.0.0 in
-          let move : field_move (plain Mode.Start) [] c ≡ closes = rw h.0.2 in
+          let c = h.0.0 in let move : field_move (plain Mode.Start) [] c ≡ closes = rw h.0.2 in
           let marked : FieldScanned = field_fresh [] (piece mark (c ∷ []) ∷ []) [] in
           let found = all_found Room F begin run G marked ps after rest h.3 h.2 k.2 l (λ some. absurd (some refl)) (stops-fresh _) in
           let last : FieldScanned = field_state [] found.done after found.mode found.held in
@@ -140,8 +135,7 @@ may_begin (p ∷ ps) = tt
 pub reading_reached : (pieces : List Piece) (characters : List ℕ) → IsBalancedReading pieces characters → FieldReads pieces characters
 reading_reached pieces characters is =
     let found = reached BelowLimit ShallowFields begin_shallow shallow_run Fields pieces [] [] is.reads.fit (passed_shallow ShallowFields 0 pieces is.shallow) (balanced_openers pieces is.balanced []) (may_begin pieces) in
-    let to : FieldScanned = field_state [] found.done [] found.mode found.held in
-    record {
+    let to : FieldScanned = field_state [] found.done [] found.mode found.held in record {
       to = to;
       steps = ap (field_steps_from (Some field_text_start)) (sym is.reads.spell) ∙ steps_of BelowLimit field_text_start to (spelled pieces) found.goes;
       room = ap (have_room (Some field_text_start)) (sym is.reads.spell) ∙ room_of field_text_start to (spelled pieces) found.goes;

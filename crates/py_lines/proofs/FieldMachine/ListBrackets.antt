@@ -27,7 +27,7 @@ pub others_keep : (os : List ℕ) (c : ℕ) → is_opening c ≡ false → is_cl
 unfolding openers_with
 others_keep os c h k = grind arith
 
-no_character : (os : List ℕ) → openers_with os 0 ≡ Some os
+pub no_character : (os : List ℕ) → openers_with os 0 ≡ Some os
 unfolding is_opening is_closing
 no_character os = others_keep os 0 refl refl
 

@@ -7,8 +7,7 @@ use Rattle.py_lines.specs.OpenFields.{AreBegun, BeginsList, at_start, in_field}
 use Rattle.py_lines.specs.FieldStrings.{Host, Place, literal, specification, begins_open}
 use Rattle.py_lines.specs.Private.FieldMachine.{before, after_brace, FieldMode, body, Level, FieldScanned, field_state, field_fresh, field_text_start, field_closed, field_pieces, opening_move, field_move, field_moved, frames, openers_by, openers_through, levels_open}
 use Rattle.py_lines.proofs.Pieces.OpenBrackets.{some_before}
-use Rattle.py_lines.proofs.Machine.ReadingSteps.{MayBegin}
-use Rattle.py_lines.proofs.FieldMachine.Runs.{NoLimit, Goes, StopsAt, HasRoomFor, goes-append, goes-grows, stops-fresh}
+use Rattle.py_lines.proofs.FieldMachine.Runs.{MayBegin, NoLimit, Goes, StopsAt, HasRoomFor, goes-append, goes-grows, stops-fresh}
 use Rattle.py_lines.proofs.FieldMachine.ListBrackets.{openers_through-append, balanced_openers, depth_is}
 use Rattle.py_lines.proofs.FieldMachine.CodeRuns.{opens_text}
 use Rattle.py_lines.proofs.FieldMachine.Completeness.{fields_found, fields_reached}
@@ -105,8 +104,7 @@ pub record AfterPieces (outside : List ℕ) (depth : ℕ) (pieces : List Piece) 
 pub after_pieces : (outside : List ℕ) (depth : ℕ) (pieces : List Piece) (front : List ℕ) → ListRun outside (spelled pieces ++ front) depth → AreBegun depth pieces front → MayBegin pieces front → AfterPieces outside depth pieces front
 after_pieces outside depth pieces front list begun may =
     let run = pieces_run list.outer depth pieces front list.deep begun may in
-    let from : FieldScanned = field_state list.outer run.done run.after run.mode run.held in
-    record {
+    let from : FieldScanned = field_state list.outer run.done run.after run.mode run.held in record {
       from = from;
       stops = run.stops;
       opens = run.opens;
@@ -151,8 +149,7 @@ list_runs all rest depth (in_field _ _ _ outside base pieces front host spot spe
     let level : Level = level_of run.done run.openers host spot.place front in
     let s : FieldScanned = field_state run.outer run.done run.openers run.mode front in
     let braced = braces run.outer run.done run.openers host spot.place run.mode front move in
-    let whole : (r : List ℕ) → outside ++ (spelled pieces ++ (front ++ 123 ∷ r)) ≡ all ++ r = λ r. simp (spell, append_assoc) in
-    record {
+    let whole : (r : List ℕ) → outside ++ (spelled pieces ++ (front ++ 123 ∷ r)) ≡ all ++ r = λ r. simp (spell, append_assoc) in record {
       outer = level ∷ run.outer;
       deep = omega (arith, run.depth_is, pieces_at.deep, deep);
       start_is = simp (← append_assoc, run.start_is, pieces_at.start_is, pieces_at.pieces_are, spell);

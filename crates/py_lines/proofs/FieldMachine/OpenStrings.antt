@@ -13,7 +13,7 @@ use Rattle.py_lines.proofs.Fields.Elsewhere.{quotes_begin}
 use Rattle.py_lines.proofs.Fields.Prefixes.{field_letters}
 use Rattle.py_lines.proofs.Fields.Parts.{begins_same, some_head, fields_begin}
 use Rattle.py_lines.proofs.FieldMachine.Runs.{NoLimit, Goes, StopsAt, goes-append, goes-grows}
-use Rattle.py_lines.proofs.FieldMachine.StringParts.{settled, MayGoOn, goes_on, body_moves, slash_grows, open_moves, open_no_quote}
+use Rattle.py_lines.proofs.FieldMachine.StringParts.{settled, MayGoOn, goes_on, body_moves, slash_grows, open_moves}
 use Rattle.py_lines.proofs.FieldMachine.StringRuns.{opened_moves, IsInLiteral, in_body, at_quote, literal_goes}
 use Rattle.py_lines.proofs.FieldMachine.CodeRuns.{opens_text, specification_goes}
 use Rattle.py_lines.proofs.FieldMachine.Completeness.{fields_run, passed_any}
@@ -43,8 +43,7 @@ open_begins host spot front rest more (in_specification _ round _ _ opening insi
 
 pub open_unmarked : (host : Host) (spot : Spot) (front rest more : List ℕ) → IsOpenString host spot front rest → begins is_mark (front ++ more) ≡ false
 open_unmarked host spot front rest more string =
-    let first = open_begins host spot front rest more string in
-    subst (λ t. begins is_mark t ≡ false) (sym first.2) first.3
+    let first = open_begins host spot front rest more string in subst (λ t. begins is_mark t ≡ false) (sym first.2) first.3
 
 -- what another character than its quote does there
 string_moves : (host : Host) (place : Place) (named : Bool) (mode : FieldMode) (held : List ℕ) (c : ℕ) (rest : List ℕ) → IsInString host place named mode (c ∷ rest) → eqb c host.quote ≡ false → (at : At) × (field_move mode held c ≡ between_move host place named at c)
@@ -54,8 +53,9 @@ string_moves host place named mode held c rest (at_first is place_is unnamed sho
 
 -- the `{` of a field
 pub brace_opens : (host : Host) (place : Place) (mode : FieldMode) (held rest : List ℕ) → IsInString host place false mode (123 ∷ rest) → is_quote host.quote ≡ true → field_move mode held 123 ≡ opening_move host place
+unfolding is_quote
 brace_opens host place mode held rest stands quotes =
-    let move = string_moves host place false mode held 123 rest stands (not_quote 123 host.quote quotes open_no_quote) in
+    let move = string_moves host place false mode held 123 rest stands (not_quote 123 host.quote quotes refl) in
     move.1 ∙ open_moves host place move.0 quotes
 
 -- in a specification, the field whose specification it is opened after this text of the string
@@ -83,8 +83,7 @@ first_quote host prefix later more =
 
 pub string_runs : (from : FieldScanned) (host : Host) (spot : Spot) (front rest : List ℕ) → IsOpenString host spot front rest → StopsAt from.mode from.held (front ++ rest) → StringRun from host spot front rest
 string_runs from host spot front rest (in_literal _ _ _ prefix parts is spell begun raw quotes each open_yet) stops =
-    let text : List ℕ = prefix ++ (quotes_of host ++ joined parts) in
-    let first = first_quote host prefix (joined parts) rest in
+    let text : List ℕ = prefix ++ (quotes_of host ++ joined parts) in let first = first_quote host prefix (joined parts) rest in
     let run = literal_goes NoLimit from Fields fields_begin (fields_run from.outer (field_pieces from) from.openers) host prefix parts rest first.0 [] begun raw quotes each
     (subst (λ l. has_triple host.quote l ≡ false) (sym (append-nil parts)) open_yet) (subst (StopsAt from.mode from.held) (ap (λ t. t ++ rest) spell ∙ first.1) stops) in
     subst (λ s. StringRun from host s front rest) (sym is) (subst (λ t. StringRun from host (literal_after parts) t rest) (sym spell) (record {
@@ -99,8 +98,7 @@ string_runs from host spot front rest (in_literal _ _ _ prefix parts is spell be
       field_is = tt;
     }))
 string_runs from host spot front rest (in_specification _ round _ _ opening inside parts is spell string may are_inside each open_yet) stops =
-    let code : List ℕ = spelled inside ++ (58 ∷ joined parts) in
-    let later : List ℕ = 123 ∷ spelled inside ++ (58 ∷ joined parts ++ rest) in
+    let code : List ℕ = spelled inside ++ (58 ∷ joined parts) in let later : List ℕ = 123 ∷ spelled inside ++ (58 ∷ joined parts ++ rest) in
     let whole : front ++ rest ≡ opening ++ later = simp (spell, append_assoc) in
     let inner = string_runs from host round opening later string (subst (StopsAt from.mode from.held) whole stops) in
     let quotes = open_quotes host round opening later string in
@@ -108,8 +106,7 @@ string_runs from host spot front rest (in_specification _ round _ _ opening insi
     let run = specification_goes NoLimit inner.outer inner.done inner.openers host (λ d. Fields) (λ d. fields_begin) fields_run Fields round.place opening inside parts rest quotes are_inside
     (passed_any Fields _ inside (58 ∷ []) are_inside.fit) each open_yet in
     let mode : FieldMode = body host specification (named_through false parts) run.to in
-    let last : FieldScanned = field_state outer [] [] mode (opening ++ (123 ∷ code)) in
-    let full = some_head (spelled inside) 58 (joined parts) in
+    let last : FieldScanned = field_state outer [] [] mode (opening ++ (123 ∷ code)) in let full = some_head (spelled inside) 58 (joined parts) in
     let stands = subst (λ n. IsInString host round.place n inner.mode later) may.unnamed inner.stands in
     let single : round.place ≡ literal → begins_open code ≡ false = λ at. begins_same (λ c. c == 123) (spelled inside) 58 (joined parts) [] ∙ may.single at in
     let opened_run = opens_text NoLimit inner.outer inner.done inner.openers host round.place inner.mode opening code full.0 full.1 last full.2 (brace_opens host round.place inner.mode opening _ stands quotes) tt single run.goes in
@@ -136,8 +133,7 @@ up_to_runs from host spot front is stops = go is.escapes
     go (inl none) =
         subst (λ t. StringRun from host spot t []) (sym (append-nil is.body) ∙ ap (λ t. is.body ++ t) (sym none) ∙ sym is.spell) (subst (StringRun from host spot is.body) none run)
     go (inr (s, one, slashes)) =
-        let quotes = open_quotes host spot is.body is.last is.string in
-        let other = not_quote s host.quote quotes (slash-not-quote s slashes) in
+        let quotes = open_quotes host spot is.body is.last is.string in let other = not_quote s host.quote quotes (slash-not-quote s slashes) in
         let move = string_moves host spot.place spot.named run.mode is.body s [] (subst (IsInString host spot.place spot.named run.mode) one run.stands) other in
         let before_slash : FieldScanned = field_state run.outer run.done run.openers run.mode is.body in
         subst (λ t. StringRun from host spot t []) (ap (λ t. is.body ++ t) (sym one) ∙ sym is.spell) (record {

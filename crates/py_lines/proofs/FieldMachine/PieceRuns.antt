@@ -10,7 +10,8 @@ use Rattle.py_lines.specs.FieldStrings.{is_field_prefix, Host, with_fields}
 use Rattle.py_lines.specs.Private.Machine.{Spelling, Mode, Start, class_of, start_of, first_spelling, spelling_on}
 use Rattle.py_lines.specs.Private.FieldMachine.{FieldMode, plain, grows, Level, FieldScanned, field_state, field_fresh, plain_move, begins_host, field_pieces, field_closed, field_move, openers_with, after_operator, code_operator, field_operator, field_started, frames}
 use Rattle.py_lines.proofs.Pieces.PieceLists.{piece}
-use Rattle.py_lines.proofs.Text.CharacterTests.{each_of, prefix_word}
+use Rattle.py_lines.proofs.Text.CharacterTests.{prefix_word}
+pub use Rattle.py_lines.proofs.Machine.Starts.{opening_operator}
 use Rattle.py_lines.proofs.Machine.Starts.{start-word, start-operator, start-feed, start-quote}
 use Rattle.py_lines.proofs.Machine.PieceSteps.{StopsBefore, EndsWith, ends_before, ends_at, grown-word, IsQuiet, IsRead, at_once, opened, IsPlainClass, is_read, feed-is-one}
 use Rattle.py_lines.proofs.Machine.Spellings.{prefix_spelling}
@@ -29,10 +30,6 @@ pub record FieldFinds (Room : ℕ → Type 0) (from : FieldScanned) (text : List
   pub goes : Goes Room from text (field_state from.outer done after mode held)
   pub pieces_are : field_closed mode done held ≡ field_pieces from ++ pieces
   pub stops : StopsAt mode held rest
-
-pub opening_operator : (c : ℕ) → is_opening c ≡ true → is_operator c ≡ true
-unfolding is_opening is_operator
-opening_operator c h = each_of (λ x. is_operator x ≡ true) (40 ∷ 91 ∷ 123 ∷ []) c (refl, (refl, (refl, tt))) h
 
 -- where a word ends, it is no prefix of a string with fields
 abbrev EndsNoPrefix : Class → List ℕ → List ℕ → Type 0
@@ -123,8 +120,7 @@ module _ (Room : ℕ → Type 0) where
   plain_opens from [] q after is no_field quotes stops = goes-opens from q after (Mode.Opened q) stops (start-quote q quotes)
   plain_opens from (a ∷ bs) q after (inl none) no_field quotes stops = absurd (cc)
   plain_opens from (a ∷ bs) q after (inr is) no_field quotes stops =
-      let letters = prefix_word a bs is in
-      let s : Spelling = spelling_on (first_spelling a) bs in
+      let letters = prefix_word a bs is in let s : Spelling = spelling_on (first_spelling a) bs in
       let named_at : FieldScanned = open_at from (Mode.Word s) (a ∷ bs) in
       let quote_moves : field_move (plain (Mode.Word s)) (a ∷ bs) q ≡ grows (plain (Mode.Opened q)) =
       plain_moves (Mode.Word s) (a ∷ bs) q (ap (λ b. b && is_quote q) no_field) ∙ ap plain_move (opens_at s q (sym (prefix_spelling a bs) ∙ is) quotes) in

@@ -1,5 +1,5 @@
 -- The machine with fields goes through the text of a piece without fields as the other machine does.
-use Rattle.std.proofs.Common.{◌≡◌, ℕ, Bool, true, false, List, [], ◌∷◌, ◌++◌, refl, sym, ap, ◌∙◌, subst, inl, inr, arith}
+use Rattle.std.proofs.Common.{◌≡◌, ℕ, false, List, [], ◌∷◌, ◌++◌, refl, sym, ap, ◌∙◌, subst, inl, inr, arith}
 use Rattle.std.specs.List.{list_any}
 use Rattle.std.proofs.lemmas.List.Folds.{list_any-append}
 use Rattle.std.proofs.lemmas.Bool.{or_parts, both_ways}
@@ -10,32 +10,15 @@ use Rattle.py_lines.specs.Private.FieldMachine.{plain, plain_move, begins_host, 
 use Rattle.py_lines.proofs.Machine.PieceSteps.{Grown, is_word_mode, IsQuiet}
 use Rattle.py_lines.proofs.FieldMachine.Runs.{GrowsTo}
 
--- whether a string with fields is open
-abbrev pub is_fielded_mode : Mode → Bool
-is_fielded_mode (Mode.FieldOpened h) = true
-is_fielded_mode (Mode.FieldEmpty h) = true
-is_fielded_mode Mode.Fielded = true
-is_fielded_mode other = false
-
--- where a piece grows that is no word, a piece of its class is open after it, and no string with fields
+-- where a piece grows that is no word, a piece of its class is open after it
 abbrev pub NoWord : Class → Move → Type 0
-NoWord class (Move.Grows n) = (is_word_mode n ≡ false) × (is_fielded_mode n ≡ false) × (class_of n ≡ class)
+NoWord class (Move.Grows n) = (is_word_mode n ≡ false) × (class_of n ≡ class)
 NoWord class other = Unit {0}
 
 pub no_word : (m : Mode) (c : ℕ) → is_word_mode m ≡ false → NoWord (class_of m) (move_of m c)
 unfolding move_of short_move long_move
 no_word (Mode.Word s) c h = absurd (both_ways _ h refl)
 no_word m c h = grind arith
-
--- where any piece grows, no string with fields is open after it
-abbrev pub IsOpenAfter : Move → Type 0
-IsOpenAfter (Move.Grows n) = is_fielded_mode n ≡ false
-IsOpenAfter other = Unit {0}
-
-pub open_after : (m : Mode) (c : ℕ) → IsOpenAfter (move_of m c)
-unfolding move_of short_move long_move
-open_after (Mode.Word s) c = grind arith
-open_after m c = grind arith
 
 pub no_host : (m : Mode) (held : List ℕ) (c : ℕ) (cs : List ℕ) → IsQuiet m (c ∷ cs) → begins_host m held c ≡ false
 no_host (Mode.Word s) held c cs quiet = grind arith

@@ -1,8 +1,9 @@
 -- The machine with fields goes through a text: from one state to another, with room for what each character opens.
-use Rattle.std.proofs.Common.{◌≡◌, ℕ, ◌+◌, ◌<◌, true, Some, List, [], ◌∷◌, ◌++◌, refl, sym, ap, ◌∙◌, subst, append_assoc, append-nil, arith}
+use Rattle.std.proofs.Common.{◌≡◌, ℕ, ◌+◌, ◌<◌, true, false, Some, List, [], ◌∷◌, ◌++◌, refl, sym, ap, ◌∙◌, subst, append_assoc, append-nil, arith}
 use Rattle.std.proofs.lemmas.Bool.{and_from}
 use Rattle.std.proofs.lemmas.Bool.Decides.{nat_tests}
-use Rattle.py_lines.specs.Piece.{Piece}
+use Rattle.py_lines.specs.Character.{is_mark}
+use Rattle.py_lines.specs.Piece.{Piece, begins}
 use Rattle.py_lines.specs.Balance.{is_opening}
 use Rattle.py_lines.specs.Private.Machine.{Mode, move_of, start_of}
 use Rattle.py_lines.specs.Private.FieldMachine.{FieldMode, plain, FieldMove, grows, closes, breaks, begins_code, opens_field, Level, FieldScanned, field_state, field_fresh, field_class_of, field_pieces, field_move, field_moved, field_started, field_step, field_steps_from, frames, has_room_at, has_room, have_room, may_end}
@@ -96,3 +97,17 @@ pub stops-fresh : (rest : List ℕ) → StopsAt (plain Mode.Free) [] rest
 unfolding field_move move_of
 stops-fresh [] = refl
 stops-fresh (c ∷ cs) = refl
+
+-- where a piece goes on, or ends with the character, there is room for that
+pub room_grows : (depth c : ℕ) (n : FieldMode) → has_room_at depth c (grows n) ≡ true
+unfolding has_room_at
+room_grows depth c n = refl
+
+pub room_closes : (depth c : ℕ) → has_room_at depth c closes ≡ true
+unfolding has_room_at
+room_closes depth c = refl
+
+-- no piece, and nothing that might be a mark, or some pieces
+abbrev pub MayBegin : List Piece → List ℕ → Type 0
+MayBegin [] rest = begins is_mark rest ≡ false
+MayBegin (p ∷ ps) rest = Unit {0}

@@ -87,14 +87,10 @@ pub second_brace : (host : Host) (place : Place) (named : Bool) (held : List ℕ
 unfolding field_move body_move
 second_brace host place named held = refl
 
-pub open_no_quote : is_quote 123 ≡ false
-unfolding is_quote
-open_no_quote = refl
-
 -- `{` where it doesn't stand for itself
 pub open_moves : (host : Host) (place : Place) (at : At) → is_quote host.quote ≡ true → between_move host place false at 123 ≡ opening_move host place
-unfolding between_move is_backslash is_break
-open_moves host place at quotes = rw (not_quote 123 host.quote quotes open_no_quote)
+unfolding between_move is_backslash is_break is_quote
+open_moves host place at quotes = rw (not_quote 123 host.quote quotes refl)
 
 pub quote_no_end : (q : ℕ) → is_quote q ≡ true → eqb q 125 ≡ false
 unfolding is_quote
@@ -223,8 +219,7 @@ module _ (Room : ℕ → Type 0) (outer : List Level) (done : List Piece) (opene
   -- a field
   field_goes : (F : Host → List ℕ → Type 0) → BeginOpen F → FieldsGo F → (host : Host) (place : Place) (at : At) (held part rest : List ℕ) (tail : List (List ℕ)) → is_quote host.quote ≡ true → F host part → (place ≡ literal → begins_double part ≡ false) → MayGoOn host place false at (part ++ rest) → has_triple host.quote (quotes_seen host.quote at ++ part ∷ tail) ≡ false → PartGoes host place false (named_after false part) at held part rest tail
   field_goes F begin go host place at held part rest tail quotes is single here open_yet =
-      let head = begin host part is in
-      record {
+      let head = begin host part is in record {
         to = between;
         goes = goes-to Room _ _ _ part (go host place at held part is quotes single (rw head.2 (rw head.2 at here)))
             (ap (λ n. within (body host place n between) (held ++ part)) (sym (subst (λ t. named_after false t ≡ false) (sym head.2) (field_unnamed (head.0 ∷ head.1)))));

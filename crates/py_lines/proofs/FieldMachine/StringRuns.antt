@@ -43,9 +43,7 @@ part_begins F begin host place named part rest (escape s c is a b d e f) = (s, c
 part_begins F begin host place named part rest (escaped_end s r f is a b d e) = (s, r ∷ f ∷ [], is)
 part_begins F begin host place named part rest (name s c b is a d e) = (s, c ∷ b ∷ [], is)
 part_begins F begin host place named part rest (double b c is a d e f) = (b, c ∷ [], is)
-part_begins F begin host place named part rest (field is a b) =
-    let head = begin host part is in
-    (123, head.0 ∷ head.1, head.2)
+part_begins F begin host place named part rest (field is a b) = let head = begin host part is in (123, head.0 ∷ head.1, head.2)
 
 -- the string with this prefix and this quote
 abbrev host_in : ℕ → Bool → List ℕ → Host
@@ -76,8 +74,7 @@ module _ (Room : ℕ → Type 0) (from : FieldScanned) where
   unfolding field_move
   prefix_goes [] q after is quotes stops = absurd (both_ways _ refl is)
   prefix_goes (a ∷ bs) q after is quotes stops =
-      let letters = field_letters (a ∷ bs) is in
-      let same : letters.first ≡ a = cc letters.is in
+      let letters = field_letters (a ∷ bs) is in let same : letters.first ≡ a = cc letters.is in
       let word_at : FieldScanned = inside (plain (Mode.Word (spelling_on (first_spelling a) bs))) (a ∷ bs) in
       let string_at : FieldScanned = inside (opened (host_of (a ∷ bs) q)) ((a ∷ bs) ++ q ∷ []) in
       goes-append Room from word_at string_at (a ∷ bs) (q ∷ [])
@@ -111,8 +108,7 @@ module _ (Room : ℕ → Type 0) (from : FieldScanned) where
     -- after one quote, a part of a short string is read as between parts
     opened_part : (q : ℕ) (prefix held part more rest : List ℕ) (t : FieldScanned) → is_quote q ≡ true → IsPart F (host_in q false prefix) literal false part rest → Goes Room (inside (body (host_in q false prefix) literal false between) held) (part ++ more) t → Goes Room (inside (opened (host_in q false prefix)) held) (part ++ more) t
     opened_part q prefix held part more rest t quotes is_part goes =
-        let host : Host = host_in q false prefix in
-        let (c, cs, shape) = part_begins F begin host literal false part rest is_part in
+        let host : Host = host_in q false prefix in let (c, cs, shape) = part_begins F begin host literal false part rest is_part in
         let other : eqb c q ≡ false =
         false_from_ne_true _ (λ same. short_part F begin q (list_any is_r prefix) false part rest [] cs quotes is_part (append-nil part ∙ shape ∙ ap (λ x. x ∷ cs) (eqb-true c q same))) in
         rw shape (opened_goes host held c (cs ++ more) t other (rw shape at goes))
@@ -120,14 +116,11 @@ module _ (Room : ℕ → Type 0) (from : FieldScanned) where
     by_length : (long : Bool) (q : ℕ) (prefix : List ℕ) (parts : List (List ℕ)) (rest after : List ℕ) (tail : List (List ℕ)) → is_field_prefix prefix ≡ true → is_quote q ≡ true → AreParts F (host_in q long prefix) literal false parts rest → has_triple q (parts ++ tail) ≡ false → StopsAt from.mode from.held (prefix ++ q ∷ after) → LiteralGoes (host_in q long prefix) (named_through false parts) (prefix ++ (quotes_of (host_in q long prefix) ++ joined parts)) rest tail
     unfolding field_move
     by_length true q prefix parts rest after tail is quotes each none stops =
-        let host : Host = host_in q true prefix in
-        let begun : List ℕ = prefix ++ q ∷ [] in
-        let held : List ℕ = begun ++ q ∷ q ∷ [] in
+        let host : Host = host_in q true prefix in let begun : List ℕ = prefix ++ q ∷ [] in let held : List ℕ = begun ++ q ∷ q ∷ [] in
         let run = parts_go Room from.outer (field_pieces from) from.openers F begin go host literal false between held parts rest tail quotes each (goes_on host literal false (joined parts ++ rest)) none in
         let mode : FieldMode = body host literal (named_through false parts) run.to in
         let opened_at : FieldScanned = inside (opened (host_of prefix q)) begun in
-        let body_at : FieldScanned = inside (body host literal false between) held in
-        let last : FieldScanned = inside mode (held ++ joined parts) in
+        let body_at : FieldScanned = inside (body host literal false between) held in let last : FieldScanned = inside mode (held ++ joined parts) in
         let quotes_go : Goes Room opened_at (q ∷ q ∷ []) body_at =
         goes-grown Room from.outer (field_pieces from) from.openers (opened (host_of prefix q)) (body host literal false between) begun (q ∷ q ∷ [])
         (empty (host_of prefix q), second_quote (host_of prefix q), (body host literal false between, λ h. rw (eq-eqb q q refl), refl)) in
@@ -140,12 +133,9 @@ module _ (Room : ℕ → Type 0) (from : FieldScanned) where
     by_length false q prefix [] rest after tail is quotes each none stops =
         record { mode = opened (host_of prefix q); goes = prefix_goes prefix q after is quotes stops; stands = at_quote prefix refl refl is refl refl }
     by_length false q prefix (p ∷ ps) rest after tail is quotes each none stops =
-        let host : Host = host_in q false prefix in
-        let begun : List ℕ = prefix ++ q ∷ [] in
-        let parts : List (List ℕ) = p ∷ ps in
+        let host : Host = host_in q false prefix in let begun : List ℕ = prefix ++ q ∷ [] in let parts : List (List ℕ) = p ∷ ps in
         let run = parts_go Room from.outer (field_pieces from) from.openers F begin go host literal false between begun parts rest tail quotes each (goes_on host literal false (joined parts ++ rest)) none in
-        let mode : FieldMode = body host literal (named_through false parts) run.to in
-        record {
+        let mode : FieldMode = body host literal (named_through false parts) run.to in record {
           mode = mode;
           goes = begun_goes prefix q after (joined parts) mode is quotes stops (opened_part q prefix begun p (joined ps) (joined ps ++ rest) _ quotes each.0 run.goes);
           stands = in_body run.to refl run.on run.open_yet;
@@ -160,8 +150,7 @@ module _ (Room : ℕ → Type 0) (from : FieldScanned) where
     -- the last three quotes of a long string
     long_closes : (host : Host) (named : Bool) (at : At) (held : List ℕ) → host.is_long ≡ true → MayGoOn host literal named at (host.quote ∷ []) → settled at ≡ between → Goes Room (inside (body host literal named at) held) (host.quote ∷ host.quote ∷ host.quote ∷ []) (closed_at ((held ++ host.quote ∷ host.quote ∷ []) ++ host.quote ∷ []))
     long_closes host named at held long on none =
-        let q = host.quote in
-        let two : FieldMode = body host literal named after_two in
+        let q = host.quote in let two : FieldMode = body host literal named after_two in
         let first : (h : List ℕ) → field_move (body host literal named at) h q ≡ grows (body host literal named after_one) =
         λ h. body_moves host literal named at h q [] on ∙ ap (λ x. between_move host literal named x q) none ∙ quote_grows host literal named between long refl in
         let second : (h : List ℕ) → field_move (body host literal named after_one) h q ≡ grows two =
@@ -174,8 +163,7 @@ module _ (Room : ℕ → Type 0) (from : FieldScanned) where
     -- the end of a string, from its literal part
     ends_found : (G : Host → List ℕ → Type 0) (long : Bool) (q : ℕ) (raw named : Bool) (mode : FieldMode) (text rest : List ℕ) → Goes Room from text (inside mode text) → IsInLiteral (record { quote = q; is_long = long; is_raw = raw }) named mode text (quotes_of (record { quote = q; is_long = long; is_raw = raw })) ((q ∷ []) ∷ (q ∷ []) ∷ []) → is_quote q ≡ true → MayPrecedeIn (with_fields G) string (text ++ quotes_of (record { quote = q; is_long = long; is_raw = raw })) rest → FieldFinds Room from (text ++ quotes_of (record { quote = q; is_long = long; is_raw = raw })) (piece string (text ++ quotes_of (record { quote = q; is_long = long; is_raw = raw })) ∷ []) from.openers rest
     ends_found G true q raw named mode text rest goes (in_body at is on open_yet) quotes before =
-        let host : Host = record { quote = q; is_long = true; is_raw = raw } in
-        let three : List ℕ = q ∷ q ∷ q ∷ [] in
+        let host : Host = record { quote = q; is_long = true; is_raw = raw } in let three : List ℕ = q ∷ q ∷ q ∷ [] in
         let last : FieldScanned = closed_at ((text ++ q ∷ q ∷ []) ++ q ∷ []) in
         let closing = subst (λ (m : FieldMode). Goes Room (inside m text) three last) (sym is) (long_closes host named at text refl on (none_before q at open_yet)) in
         fresh_found Room from string (text ++ three) from.openers rest (goes-to Room from last _ (text ++ three) (goes-append Room from (inside mode text) last text three goes closing) (ap closed_at (append_assoc text (q ∷ q ∷ []) (q ∷ []))))
@@ -186,8 +174,7 @@ module _ (Room : ℕ → Type 0) (from : FieldScanned) where
         let closing = subst (λ (m : FieldMode). Goes Room (inside m text) (q ∷ []) (closed_at (text ++ q ∷ []))) (sym is) (goes-closes Room (inside (body host literal named at) text) q move) in
         fresh_found Room from string (text ++ q ∷ []) from.openers rest (goes-append Room from (inside mode text) (closed_at (text ++ q ∷ [])) text (q ∷ []) goes closing)
     ends_found G false q raw named mode text rest goes (at_quote prefix is spell begun short unnamed) quotes before =
-        let host : Host = record { quote = q; is_long = false; is_raw = raw } in
-        let held : List ℕ = text ++ q ∷ [] in
+        let host : Host = record { quote = q; is_long = false; is_raw = raw } in let held : List ℕ = text ++ q ∷ [] in
         let last : FieldScanned = inside (empty host) held in
         let whole : held ≡ prefix ++ q ∷ q ∷ [] = ap (λ t. t ++ q ∷ []) spell ∙ append_assoc prefix (q ∷ []) (q ∷ []) in
         let closing = subst (λ (m : FieldMode). Goes Room (inside m text) (q ∷ []) last) (sym is) (goes-grows Room (inside (opened host) text) last (empty host) q [] (second_quote host text) refl) in
@@ -202,12 +189,8 @@ module _ (Room : ℕ → Type 0) (from : FieldScanned) where
 
     pub field_string_found : (G : Host → List ℕ → Type 0) (text rest : List ℕ) → IsFieldString F text → MayPrecedeIn (with_fields G) string text rest → StopsAt from.mode from.held (text ++ rest) → FieldFinds Room from text (piece string text ∷ []) from.openers rest
     field_string_found G text rest is before stops =
-        let host = is.host in
-        let quotes = quotes_of host in
-        let q = host.quote in
-        let front : List ℕ = is.prefix ++ (quotes ++ joined is.parts) in
-        let whole : front ++ quotes ≡ text = simp (is.spell, append_assoc) in
-        let begin_quotes = quotes_begin host in
+        let host = is.host in let quotes = quotes_of host in let q = host.quote in let front : List ℕ = is.prefix ++ (quotes ++ joined is.parts) in
+        let whole : front ++ quotes ≡ text = simp (is.spell, append_assoc) in let begin_quotes = quotes_begin host in
         let first : text ++ rest ≡ is.prefix ++ q ∷ ((begin_quotes.0 ++ (joined is.parts ++ quotes)) ++ rest) = simp (is.spell, begin_quotes.1, append_assoc) in
         let run = literal_goes host is.prefix is.parts quotes _ ((q ∷ []) ∷ (q ∷ []) ∷ []) is.begun is.raw is.opens is.each is.first (subst (StopsAt from.mode from.held) first stops) in
         subst (λ t. FieldFinds Room from t (piece string t ∷ []) from.openers rest) whole

@@ -32,8 +32,7 @@ pub record Comes (characters : List ℕ) (IsSuch : FieldScanned → Type 0) : Ty
 -- such a state is the one to which it comes
 pub comes_to : (characters : List ℕ) (IsSuch : FieldScanned → Type 0) (s : FieldScanned) → Comes characters IsSuch → field_steps_from (Some field_text_start) characters ≡ Some s → IsSuch s
 comes_to characters IsSuch s comes steps =
-    let same : comes.to ≡ s = cc (steps_of NoLimit field_text_start comes.to characters comes.goes, steps) in
-    subst IsSuch same comes.such
+    let same : comes.to ≡ s = cc (steps_of NoLimit field_text_start comes.to characters comes.goes, steps) in subst IsSuch same comes.such
 
 -- the characters before the open piece, where a string, its specification with it, or a backslash is open
 abbrev pub StartsAfter : Place → List ℕ → FieldScanned → Type 0
@@ -72,8 +71,7 @@ plain_comes IsOpen characters start at is_long prefix q inner spell is no_field 
     let run = goes-append NoLimit from (state (Mode.Opened q) (prefix ++ q ∷ [])) to (prefix ++ q ∷ []) inner
     (plain_opens NoLimit from prefix q inner is no_field quotes (subst (StopsAt from.mode from.held) spell front.stops))
     (goes-grown NoLimit from.outer (field_pieces from) from.openers (plain (Mode.Opened q)) (plain m) (prefix ++ q ∷ []) inner (grown-alike (Mode.Opened q) m inner (inl refl) grown)) in
-    let full = some_head prefix q inner in
-    record {
+    let full = some_head prefix q inner in record {
       to = to;
       goes = front.goes to full.0 full.1 (spell ∙ full.2) (subst (λ t. Goes NoLimit from t to) (append_assoc prefix (q ∷ []) inner ∙ sym spell) run);
       such = (such, front.start_is);
@@ -94,8 +92,7 @@ host_comes IsOpen characters start at host spot is =
 
 literal_comes : (IsOpen : List ℕ → Type 0) (characters start : List ℕ) (at : StandsOpen IsOpen characters start) (is_long : Bool) → IsOpenLiteral is_long at.front → Comes characters (λ s. InLiteral is_long s.mode × StartsAfter literal start s)
 literal_comes IsOpen characters start at is_long (host, spot, is, at_literal, long) =
-    let own = host_comes IsOpen characters start at host spot is in
-    record {
+    let own = host_comes IsOpen characters start at host spot is in record {
       to = own.to;
       goes = own.goes;
       such = (literal_mode host spot.named is_long own.to.mode (subst (λ p. IsInString host p spot.named own.to.mode []) at_literal own.such.0) long, subst (λ p. StartsAfter p start own.to) at_literal own.such.1);
@@ -118,8 +115,7 @@ long_open_comes characters start at =
 pub backslash_comes : (characters start : List ℕ) → AfterOpenBackslash characters start → Comes characters (λ s. (after_open_backslash s.mode ≡ true) × StartsAfter literal start s)
 backslash_comes characters start at =
     let (s, is, slashes) = at.open_yet in
-    let front = front_at _ characters start at (subst (λ t. begins is_mark t ≡ false) (sym is) (slash-not-mark s slashes)) in
-    let from = front.from in
+    let front = front_at _ characters start at (subst (λ t. begins is_mark t ≡ false) (sym is) (slash-not-mark s slashes)) in let from = front.from in
     let to : FieldScanned = field_state from.outer (field_pieces from) from.openers (plain Mode.Backslash) (s ∷ []) in
     let run : Goes NoLimit from (s ∷ []) to =
     goes-begins NoLimit from to to s [] (subst (StopsAt from.mode from.held) is front.stops) (ap (field_started from.outer (field_pieces from) from.openers s) (start-slash s slashes)) (λ opens. tt) refl in
@@ -140,8 +136,7 @@ specification_mode host named mode (at_first is place_is unnamed short) = absurd
 
 pub specification_comes : (host : Host) (characters start : List ℕ) (at : InSpecification host characters start) → Comes characters (λ s. (own : SpecificationAt host start s) × (own.string ≡ at.string))
 specification_comes host characters start at =
-    let own = host_comes _ characters at.string at.stands host at.spot at.stands.open_yet in
-    record {
+    let own = host_comes _ characters at.string at.stands host at.spot at.stands.open_yet in record {
       to = own.to;
       goes = own.goes;
       such = (
@@ -187,8 +182,7 @@ code_comes characters start is = go (spelled is.pieces) refl
     go (c ∷ cs) full =
         let run = pieces_run list.outer is.depth is.pieces [] list.deep is.begun (may_begin is.pieces) in
         let to : FieldScanned = field_state list.outer run.done run.after run.mode run.held in
-        let both : Some run.after ≡ Some [] = sym run.opens ∙ balanced_openers is.pieces is.balanced [] in
-        record {
+        let both : Some run.after ≡ Some [] = sym run.opens ∙ balanced_openers is.pieces is.balanced [] in record {
           to = to;
           goes = subst (λ x. Goes NoLimit field_text_start x to) (append_assoc start (123 ∷ []) (spelled is.pieces) ∙ is.spell)
               (list.goes to (spelled is.pieces) (record { first = c; others = cs; more = cs; one_is = append-nil (spelled is.pieces) ∙ full; two_is = full }) run.goes);
@@ -198,15 +192,13 @@ code_comes characters start is = go (spelled is.pieces) refl
 -- where a field may open, directly after the `{` of a literal part, and so many brackets and fields are open
 pub brace_comes : (depth : ℕ) (start after : List ℕ) → IsFieldDue literal depth start after → Comes (start ++ byte "{" ∷ []) (λ s. (host : Host) × (s.mode ≡ body host literal false after_brace) × (frames s ≡ depth))
 brace_comes depth start after is =
-    let later : List ℕ = is.front ++ 123 ∷ after in
-    let unmarked = open_unmarked is.host is.spot is.front (123 ∷ after) (123 ∷ after) is.string in
+    let later : List ℕ = is.front ++ 123 ∷ after in let unmarked = open_unmarked is.host is.spot is.front (123 ∷ after) (123 ∷ after) is.string in
     let pieces_at = after_pieces is.outside is.base is.pieces later (list_runs is.outside (spelled is.pieces ++ later) is.base is.list) is.begun (string_begins is.pieces later unmarked) in
     let run = string_runs pieces_at.from is.host is.spot is.front (123 ∷ after) is.string pieces_at.stops in
     let stands = subst (λ n. IsInString is.host literal n run.mode (123 ∷ after)) is.may.unnamed (subst (λ p. IsInString is.host p is.spot.named run.mode (123 ∷ after)) is.place_is run.stands) in
     let s : FieldScanned = field_state run.outer run.done run.openers run.mode is.front in
     let move = brace_opens is.host literal run.mode is.front after stands (open_quotes is.host is.spot is.front (123 ∷ after) is.string) in
-    let braced = braces run.outer run.done run.openers is.host literal run.mode is.front move in
-    record {
+    let braced = braces run.outer run.done run.openers is.host literal run.mode is.front move in record {
       to = braced.0;
       goes = subst (λ x. Goes NoLimit field_text_start x braced.0) (simp (← is.spell, append_assoc))
           (pieces_at.goes braced.0 (is.front ++ 123 ∷ []) (alike_after is.front (123 ∷ after) (123 ∷ []) (alike 123 after [])) (goes-append NoLimit pieces_at.from s braced.0 is.front (123 ∷ []) run.goes braced.1));
@@ -215,6 +207,4 @@ brace_comes depth start after is =
   where
     go : (s t : FieldScanned) → frames s ≡ depth → IsBraced (level_of s.done s.openers is.host literal s.held ∷ s.outer) t → (other : Host) × (t.mode ≡ body other literal false after_brace) × (frames t ≡ depth)
     go s t deep (inl is_so) = (is.host, ap (λ (x : FieldScanned). x.mode) is_so.1, ap frames is_so.1 ∙ deep)
-    go s t deep (inr is_so) =
-        let no : literal ≡ specification = is_so.0 in
-        absurd (cc)
+    go s t deep (inr is_so) = let no : literal ≡ specification = is_so.0 in absurd (cc)

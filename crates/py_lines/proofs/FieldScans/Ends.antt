@@ -1,10 +1,10 @@
 -- What is open where the text ends, with characters that don't tell yet what they are: a string, or the field whose specification is open or
 -- that a `{` would open; a backslash; a string that they begin; or else a bracket or a field.
-use Rattle.std.proofs.Common.{◌≡◌, ℕ, Bool, ◌-◌, false, Option, None, Some, List, [], ◌∷◌, length, refl, sym, ap, ◌∙◌, true, not, ◌==◌, ◌&&◌, ◌||◌, ◌++◌, subst, ⊎_elim, ◌+◌, drop, slice_index, take, take-append-drop, arith}
+use Rattle.std.proofs.Common.{◌≡◌, ℕ, Bool, ◌-◌, false, Option, None, Some, List, [], ◌∷◌, length, refl, sym, ap, ◌∙◌, true, ◌==◌, ◌&&◌, ◌++◌, subst, ⊎_elim, ◌+◌, drop, slice_index, take, take-append-drop, arith}
 use Rattle.std.specs.Prelude.{if◌then◌else◌, encode_utf8_all, nat_lt}
 use Rattle.py_lines.specs.LogicalLine.{byte_len}
 use Rattle.py_lines.specs.Faults.{open_bracket, open_inside, Unfinished, open_long, open_short, open_brace, open_join}
-use Rattle.py_lines.specs.FieldStrings.{literal, Host, Place, specification, names}
+use Rattle.py_lines.specs.FieldStrings.{literal, Host, Place, specification}
 use Rattle.py_lines.specs.declared.fault.FaultKind.TheVariants as fault_kind
 use Rattle.py_lines.specs.declared.frames.OpenField.{OpenField}
 use Rattle.py_lines.specs.declared.frames.Frame.{Frame}
@@ -13,22 +13,23 @@ use Rattle.py_lines.specs.declared.scan.LineFault.{LineFault}
 use Rattle.py_lines.specs.declared.scan.Scan.{Scan}
 use Rattle.py_lines.specs.Private.FieldMachine.{Level, FieldScanned, frames, before, At, FieldMode, FieldMove, plain, body, between, after_brace, after_name, after_one, after_return, after_slash, after_two, grows, refused, between_move, body_move, escape_move, field_move, field_state, is_after_brace, room_step, text_place}
 use Rattle.py_lines.specs.Private.FieldFaults.{is_waiting, here, field_start, unfinished_code, unfinished_at, piece_start, unfinished_in}
-use Rattle.py_lines.specs.Private.Scan.{bracket_openers, Follows, FramesFollow, IsFieldEnd, Goes, is_part_of_text, is_return_at, EndsReturned, HasPending, HasQuote, ends_before, has_returned, is_begun_after, is_lone_brace, is_part_of_code, is_pending, is_text, mode_from, passed, region_in}
+use Rattle.py_lines.specs.Private.Scan.{bracket_openers, Follows, FramesFollow, IsFieldEnd, Goes, is_part_of_text, is_return_at, EndsReturned, HasPending, HasQuote, ends_before, has_returned, host_in, is_begun_after, is_lone_brace, is_part_of_code, is_pending, is_text, mode_from, passed, region_in}
 use Rattle.py_lines.specs.Private.Frames.{InField, IsInnermostFrame, place_of}
 use Rattle.py_lines.proofs.FieldScans.Frames.{innermost_bracket, innermost_field, none_outside}
-use Rattle.std.proofs.lemmas.Bool.{and_parts, both_ways, cond_both, eq-eqb, eqb-true, or_cases, false_from_ne_true}
+use Rattle.std.proofs.lemmas.Bool.{and_parts, both_ways, eq-eqb, eqb-true, or_cases, false_from_ne_true}
 use Rattle.py_lines.specs.Character.{is_backslash, is_brace, is_break, is_quote, is_return}
 use Rattle.py_lines.specs.Piece.{Piece, spelled, begins}
 use Rattle.py_lines.specs.Private.Mode as modes
-use Rattle.py_lines.specs.Private.Machine.{Mode, in_long, in_short, move_of, short_move, long_move}
+use Rattle.py_lines.specs.Private.Machine.{Mode, in_long, in_short, move_of, short_move, long_move, is_field_spelling}
 use Rattle.py_lines.specs.declared.fault.FaultKind.{FaultKind}
 use Rattle.py_lines.proofs.Text.CharacterTests.{not_quote, the_one}
-use Rattle.py_lines.proofs.ScanMachine.Follows.{room_grows, some_is}
-use Rattle.py_lines.proofs.FieldScans.Taking.{no_step, steps, StepsOn}
-use Rattle.py_lines.proofs.FieldScans.TextItems.{InText, held_nothing, AreLow, low_scalars, quote_low}
+use Rattle.py_lines.proofs.FieldMachine.Runs.{room_grows}
+use Rattle.py_lines.proofs.Machine.PieceSteps.{some_is}
+use Rattle.py_lines.proofs.FieldScans.Taking.{no_step, steps, StepsOn, follows_open}
+use Rattle.py_lines.proofs.FieldScans.TextItems.{InText, held_nothing, AreLow, low_scalars, one_low, two_low}
+use Rattle.py_lines.proofs.LineScan.AsciiRuns.{quote_ascii}
 use Rattle.std.specs.Str.{StartsWithNoChar, all_scalars}
 use Rattle.std.proofs.lemmas.Bool.Decides.{nat_tests}
-use Rattle.py_lines.specs.Private.ScanMachine.{host_in, is_field_spelling}
 use Rattle.py_lines.specs.declared.host.Region.{Region}
 use Rattle.py_lines.specs.declared.host.Region.TheVariants as regions
 use Rattle.py_lines.specs.declared.host.StringWithFields.{StringWithFields}
@@ -39,8 +40,7 @@ use Rattle.py_lines.proofs.Text.Utf8Prefixes.{one_decoding}
 use Rattle.py_lines.proofs.FieldScans.LineEnds.{half, returns, slashes}
 use Rattle.py_lines.proofs.FieldScans.Operators.{open-length}
 use Rattle.py_lines.proofs.FieldScans.Openings.{after_it, brace_here, goes_literal}
-use Rattle.py_lines.proofs.FieldScans.Quotes.{StringBegun, one_quote, some_string, two, two_quotes}
-use Rattle.py_lines.proofs.FieldScans.Resting.{follows_open}
+use Rattle.py_lines.proofs.FieldScans.CodeItems.{StringBegun, one_quote, some_string, two, two_quotes}
 
 -- the field that is open
 field_in : (t : FieldScanned) (fs : List Frame) (field : OpenField) (others : List Frame) → FramesFollow t.outer t.done t.openers fs → fs ≡ frame.Field field ∷ others → (field.place ≡ field_start t) × (unfinished_code t.outer t.openers ≡ Some open_inside)
@@ -76,14 +76,12 @@ frame_fault (Some (frame.Bracket opener place)) = Some (record { kind = fault_ki
 frame_fault (Some (frame.Field field)) = Some (record { kind = fault_kind.OpenField; place = field.place })
 
 pub code_end : (t : FieldScanned) (fs : List Frame) (top : Option Frame) → EndsCode t fs → IsInnermostFrame top fs → IsFieldEnd t (frame_fault top)
-code_end t fs None e none =
-    let outside = none_outside t.outer t.done t.openers fs e.frames (ap length none) in
+code_end t fs None e none = let outside = none_outside t.outer t.done t.openers fs e.frames (ap length none) in
     e.code ∙ ap (λ (ls : List Level). unfinished_code ls t.openers) outside.0 ∙ ap (unfinished_code []) outside.1
 code_end t fs (Some (frame.Bracket opener place)) e (others, top) =
     let (b, bs, stacked, spot, are) = innermost_bracket t.outer t.done t.openers fs others opener place e.frames top in
     (open_bracket, e.code ∙ bracket_ends t.outer t.openers opener (bracket_openers bs) are, refl, (b, bs, stacked, spot))
-code_end t fs (Some (frame.Field field)) e (others, top) =
-    let (spot, ends) = field_in t fs field others e.frames top in
+code_end t fs (Some (frame.Field field)) e (others, top) = let (spot, ends) = field_in t fs field others e.frames top in
     (open_inside, e.code ∙ ends, refl, spot ∙ ap (λ (b : Bool). if b then here t - 1 else field_start t) (sym e.calm))
 
 -- a string is open, a short one or a long one
@@ -127,8 +125,7 @@ keeps_to what place outer done openers m held (c ∷ cs) u (in_text, keeps) (ope
     T = field_state outer done openers m held
 
     by : (v : FieldMove) → field_move m held c ≡ v → IfGrows (λ n. StaysOpen what place n cs) v → ((n : FieldMode) → StaysOpen what place n cs → Goes (field_state outer done openers n (held ++ c ∷ [])) cs u → EndsText what place (field_state outer done openers n (held ++ c ∷ [])) u) → EndsText what place (field_state outer done openers m held) u
-    by (grows n) move kept others =
-        let to : FieldScanned = field_state outer done openers n (held ++ c ∷ []) in
+    by (grows n) move kept others = let to : FieldScanned = field_state outer done openers n (held ++ c ∷ []) in
         let there : room_step T c ≡ Some to = steps T c (grows n) move to (room_grows (frames T) c n) refl in
         let e = others n kept (subst (λ (s : FieldScanned). Goes s cs u) (some_is next to (sym step ∙ there)) goes) in
         record { mode = e.mode; held = e.held; is = e.is; told = e.told }
@@ -142,25 +139,20 @@ text_end what place t u run keeps goes = keeps_to what place t.outer t.done t.op
 pub string_end : (old : Scan) (t u : FieldScanned) (run : List ℕ) (long : Bool) (line_fault : LineFault) → Follows old t → text_place t.mode ≡ literal → StaysOpen (string_what long) literal t.mode run → Goes t run u
     → line_fault.kind ≡ string_kind long → line_fault.place ≡ old.start → IsFieldEnd u (Some line_fault)
 string_end old t u run long line_fault follow at keeps goes kind place =
-    subst (λ (s : FieldScanned). IsFieldEnd s (Some line_fault)) (sym e.is) (go long e.told kind)
+    let e = text_end (string_what long) literal t u run keeps goes in
+    subst (λ (s : FieldScanned). IsFieldEnd s (Some line_fault)) (sym e.is) (go long e.mode e.held e.told kind)
   where
-    e : EndsText (string_what long) literal t u
-    e = text_end (string_what long) literal t u run keeps goes
+    start : (m : FieldMode) (held : List ℕ) → text_place m ≡ literal → line_fault.place ≡ piece_start (field_state t.outer t.done t.openers m held)
+    start m held stands = place ∙ follow.start ∙ ap (λ p. byte_len (before p t.outer ++ spelled t.done)) (at ∙ sym stands)
 
-    S : FieldScanned
-    S = field_state t.outer t.done t.openers e.mode e.held
-
-    start : (b : Bool) → OpenText (string_what b) literal e.mode → line_fault.place ≡ piece_start S
-    start b told = place ∙ follow.start ∙ ap (λ p. byte_len (before p t.outer ++ spelled t.done)) (at ∙ sym told.stands)
-
-    go : (b : Bool) → OpenText (string_what b) literal e.mode → line_fault.kind ≡ string_kind b → IsFieldEnd (field_state t.outer t.done t.openers e.mode e.held) (Some line_fault)
-    go true told kind = (open_long, told.is t.outer t.openers, kind, start true told)
-    go false told kind = (open_short, told.is t.outer t.openers, kind, start false told)
+    go : (b : Bool) (m : FieldMode) (held : List ℕ) → OpenText (string_what b) literal m → line_fault.kind ≡ string_kind b
+        → IsFieldEnd (field_state t.outer t.done t.openers m held) (Some line_fault)
+    go true m held told kind = (open_long, told.is t.outer t.openers, kind, start m held told.stands)
+    go false m held told kind = (open_short, told.is t.outer t.openers, kind, start m held told.stands)
 
 pub specification_end : (t u : FieldScanned) (run : List ℕ) (line_fault : LineFault) → StaysOpen open_inside specification t.mode run → Goes t run u
     → line_fault.kind ≡ fault_kind.OpenField → line_fault.place ≡ field_start t → IsFieldEnd u (Some line_fault)
-specification_end t u run line_fault keeps goes kind place =
-    let e = text_end open_inside specification t u run keeps goes in
+specification_end t u run line_fault keeps goes kind place = let e = text_end open_inside specification t u run keeps goes in
     let S : FieldScanned = field_state t.outer t.done t.openers e.mode e.held in
     subst (λ (s : FieldScanned). IsFieldEnd s (Some line_fault)) (sym e.is)
     (open_inside, e.told.is t.outer t.openers, kind, place ∙ ap (λ (b : Bool). if b then here S - 1 else field_start t) (sym e.told.calm))
@@ -173,19 +165,8 @@ slash_only c is = the_one 92 c is
 pub by_part : (P : List ℕ → Type 0) (long : Bool) (q : ℕ) → P [] → P (92 ∷ []) → P (92 ∷ 13 ∷ []) → P (92 ∷ 78 ∷ [])
     → (long ≡ true → P (q ∷ []) × P (q ∷ q ∷ [])) → (run : List ℕ) → is_part_of_text long q run ≡ true → P run
 by_part P long q none slash back name quotes [] part = none
-by_part P long q none slash back name quotes (c ∷ []) part =
-    ⊎_elim (λ is. rw (slash_only c is) slash)
-    (λ both. let k = and_parts long (c == q) both in
-    rw (eqb-true c q k.1) (quotes k.0).0)
-    (or_cases (is_backslash c) (long && (c == q)) part)
-by_part P long q none slash back name quotes (c ∷ d ∷ []) part =
-    ⊎_elim
-    (λ both. let k = and_parts (is_backslash c) ((d == 13) || (d == 78)) both in
-    rw (slash_only c k.0) (⊎_elim (λ is. rw (eqb-true d 13 is) back) (λ is. rw (eqb-true d 78 is) name) (or_cases (d == 13) (d == 78) k.1)))
-    (λ both. let k = and_parts long ((c == q) && (d == q)) both in
-    let same = and_parts (c == q) (d == q) k.1 in
-    rw (eqb-true c q same.0, eqb-true d q same.1) (quotes k.0).1)
-    (or_cases (is_backslash c && ((d == 13) || (d == 78))) (long && ((c == q) && (d == q))) part)
+by_part P long q none slash back name quotes (c ∷ []) part = grind (arith, slash_only c, eqb-true c q)
+by_part P long q none slash back name quotes (c ∷ d ∷ []) part = grind (arith, slash_only c, eqb-true c q, eqb-true d q, eqb-true d 13, eqb-true d 78)
 by_part P long q none slash back name quotes (c ∷ d ∷ e ∷ run) part = absurd (both_ways _ refl part)
 
 -- in a short string or a long one
@@ -197,17 +178,13 @@ long_open m other is none = record { is = λ outer openers. rw (other, is) refl;
 
 pub short_part : (q : ℕ) (run : List ℕ) → is_quote q ≡ true → is_part_of_text false q run ≡ true → StaysOpen open_short literal (plain (modes.Inside q)) run
 unfolding field_move move_of short_move is_backslash is_return is_quote
-short_part q run quote part =
-    let other : 92 == q ≡ false = not_quote 92 q quote refl in
-    let inside = short_open (modes.Inside q) refl refl in
+short_part q run quote part = let other : 92 == q ≡ false = not_quote 92 q quote refl in let inside = short_open (modes.Inside q) refl refl in
     by_part (StaysOpen open_short literal (plain (modes.Inside q))) false q inside (rw other (tt, short_open (modes.Escape q) refl refl))
     (rw other (tt, (tt, short_open (modes.EscapeReturn q) refl refl))) (rw other (tt, (tt, inside))) (λ is. absurd (both_ways _ refl is)) run part
 
 pub long_part : (q : ℕ) (run : List ℕ) → is_quote q ≡ true → is_part_of_text true q run ≡ true → StaysOpen open_long literal (plain (modes.Long q)) run
 unfolding field_move move_of long_move is_backslash is_quote
-long_part q run quote part =
-    let other : 92 == q ≡ false = not_quote 92 q quote refl in
-    let same : q == q ≡ true = eq-eqb q q refl in
+long_part q run quote part = let other : 92 == q ≡ false = not_quote 92 q quote refl in let same : q == q ≡ true = eq-eqb q q refl in
     let long = long_open (modes.Long q) refl refl refl in
     by_part (StaysOpen open_long literal (plain (modes.Long q))) true q long (rw other (tt, long_open (modes.LongEscape q) refl refl refl))
     (rw other (tt, (tt, long))) (rw other (tt, (tt, long)))
@@ -231,29 +208,17 @@ body_open h specification named at other = record { is = λ outer openers. refl;
 escaped_return : (h : Host) (place : Place) (named : Bool) → IfGrows (OpenText (what_in h place) place) (field_move (body h place named after_slash) [] 13)
 unfolding field_move body_move escape_move is_brace is_return is_break
 escaped_return h literal named = body_open h literal named after_return refl
-escaped_return h specification named =
-    let back = body_open h specification named after_return refl in
-    cond_both (not h.is_long) refused (grows (body h specification named after_return)) (IfGrows (OpenText open_inside specification))
-    (λ _. tt) (λ _. back)
+escaped_return h specification named = grind (arith, body_open h specification named after_return refl)
 
 escaped_name : (h : Host) (place : Place) (named : Bool) → IfGrows (OpenText (what_in h place) place) (field_move (body h place named after_slash) [] 78)
 unfolding field_move body_move escape_move is_brace is_return is_break
-escaped_name h place named = go place
-  where
-    by : (p : Place) → IfGrows (OpenText (what_in h p) p) (if names h 78 then grows (body h p named after_name) else grows (body h p named between))
-    by p =
-        cond_both (names h 78) (grows (body h p named after_name)) (grows (body h p named between)) (IfGrows (OpenText (what_in h p) p))
-        (λ _. body_open h p named after_name refl) (λ _. body_open h p named between refl)
-
-    go : (p : Place) → IfGrows (OpenText (what_in h p) p) (field_move (body h p named after_slash) [] 78)
-    go literal = by literal
-    go specification = by specification
+escaped_name h literal named = grind (arith, body_open h literal named after_name refl, body_open h literal named between refl)
+escaped_name h specification named = grind (arith, body_open h specification named after_name refl, body_open h specification named between refl)
 
 pub body_part : (h : Host) (place : Place) (named : Bool) (run : List ℕ) → is_quote h.quote ≡ true → is_part_of_text h.is_long h.quote run ≡ true
     → StaysOpen (what_in h place) place (body h place named between) run
 unfolding field_move body_move between_move is_backslash is_quote
-body_part h place named run quote part =
-    let other : 92 == h.quote ≡ false = not_quote 92 h.quote quote refl in
+body_part h place named run quote part = let other : 92 == h.quote ≡ false = not_quote 92 h.quote quote refl in
     let same : h.quote == h.quote ≡ true = eq-eqb h.quote h.quote refl in
     by_part (StaysOpen (what_in h place) place (body h place named between)) h.is_long h.quote (body_open h place named between refl)
     (rw other (tt, body_open h place named after_slash refl)) (rw other (tt, (tt, escaped_return h place named)))
@@ -276,15 +241,12 @@ goes_same t u v (c ∷ cs) one (open_yet, next, is, on, goes) = goes_same next u
 
 -- the piece of code that is open may end there, and is no CR
 abbrev EndsMode : FieldMode → Type 0
-EndsMode m =
-    ((outer : List Level) (openers : List ℕ) → unfinished_in outer openers m ≡ unfinished_code outer openers)
+EndsMode m = ((outer : List Level) (openers : List ℕ) → unfinished_in outer openers m ≡ unfinished_code outer openers)
     × (is_waiting m ≡ false) × (is_return_at m ≡ false)
 
 code_mode_ends : (m : OpenMode) → is_text m ≡ false → EndsMode (mode_from m)
-code_mode_ends (opens.Short q) code = absurd (both_ways _ code refl)
-code_mode_ends (opens.Long q) code = absurd (both_ways _ code refl)
-code_mode_ends (opens.Fields host region named) code = absurd (both_ways _ code refl)
-code_mode_ends m code = (λ outer openers. refl, refl, refl)
+code_mode_ends (opens.Word s) code = (λ outer openers. refl, refl, refl)
+code_mode_ends m code = grind arith
 
 two_quotes_end : (b : Bool) (s : Spelling) (q : ℕ) → EndsMode (two_quotes b s q)
 two_quotes_end true s q = (λ outer openers. refl, refl, refl)
@@ -310,26 +272,15 @@ lone_brace region named run is = absurd (both_ways _ refl is)
 
 -- characters that don't tell in code
 pub code_parts : (m : OpenMode) (run : List ℕ) → is_text m ≡ false → is_pending m run ≡ true → (is_part_of_code run ≡ true) × (is_begun_after m run ≡ true)
-code_parts (opens.Short q) run code is = absurd (both_ways _ code refl)
-code_parts (opens.Long q) run code is = absurd (both_ways _ code refl)
-code_parts (opens.Fields host region named) run code is = absurd (both_ways _ code refl)
-code_parts m run code is = and_parts _ _ is
+code_parts (opens.Word s) run code is = and_parts _ _ is
+code_parts m run code is = grind arith
 
 -- What holds of each of them: none, CR, a backslash, CR after it, or one or two quotes.
 by_code : (P : List ℕ → Type 0) → P [] → P (13 ∷ []) → P (92 ∷ []) → P (92 ∷ 13 ∷ []) → ((q : ℕ) → is_quote q ≡ true → P (q ∷ []) × P (q ∷ q ∷ []))
     → (run : List ℕ) → is_part_of_code run ≡ true → P run
 by_code P none back slash join quotes [] part = none
-by_code P none back slash join quotes (c ∷ []) part =
-    ⊎_elim (λ is. rw (slash_only c is) slash)
-    (λ other. ⊎_elim (λ quote. (quotes c quote).0) (λ is. rw (eqb-true c 13 is) back) (or_cases (is_quote c) (c == 13) other))
-    (or_cases (is_backslash c) (is_quote c || (c == 13)) part)
-by_code P none back slash join quotes (c ∷ d ∷ []) part =
-    ⊎_elim
-    (λ both. let k = and_parts (is_backslash c) (d == 13) both in
-    rw (slash_only c k.0, eqb-true d 13 k.1) join)
-    (λ both. let k = and_parts (is_quote c) (d == c) both in
-    rw (eqb-true d c k.1) (quotes c k.0).1)
-    (or_cases (is_backslash c && (d == 13)) (is_quote c && (d == c)) part)
+by_code P none back slash join quotes (c ∷ []) part = grind (arith, slash_only c, eqb-true c 13)
+by_code P none back slash join quotes (c ∷ d ∷ []) part = grind (arith, slash_only c, eqb-true d c, eqb-true d 13)
 by_code P none back slash join quotes (c ∷ d ∷ e ∷ run) part = absurd (both_ways _ refl part)
 
 -- what the machine comes to by them: no piece is open that may not end there, unless a quote or a backslash is all that was read; and no CR
@@ -341,8 +292,7 @@ pub record CodeOver (t u : FieldScanned) (fs : List Frame) (run : List ℕ) : Ty
 module _ (old : Scan) (t u : FieldScanned) (follow : Follows old t) (code : is_text old.mode ≡ false) where
   -- a backslash is open
   pub slash_end : ends_before old.mode 92 ≡ true → Goes t (92 ∷ []) u → (line_fault : LineFault) → line_fault.kind ≡ fault_kind.BadJoin → line_fault.place ≡ old.stop → IsFieldEnd u (Some line_fault)
-  slash_end after goes line_fault kind place =
-      let s = slashes old t follow after in
+  slash_end after goes line_fault kind place = let s = slashes old t follow after in
       subst (λ (x : FieldScanned). IsFieldEnd x (Some line_fault)) (goes_next t _ u 92 [] s.0 goes) (open_join, refl, kind, place ∙ s.1.begins)
 
   -- a string is
@@ -365,12 +315,10 @@ module _ (old : Scan) (t u : FieldScanned) (follow : Follows old t) (code : is_t
 
   pub code_over : (run : List ℕ) → is_pending old.mode run ≡ true → Goes t run u → CodeOver t u old.frames run
   unfolding is_backslash
-  code_over run pending goes =
-      by_code (λ cs. is_begun_after old.mode cs ≡ true → Goes t cs u → CodeOver t u old.frames cs)
+  code_over run pending goes = by_code (λ cs. is_begun_after old.mode cs ≡ true → Goes t cs u → CodeOver t u old.frames cs)
       (λ begun same. over [] t same (subst EndsMode follow.mode (code_mode_ends old.mode code)) follow.frames)
       (λ begun on.
-      let r = returns old t follow code in
-      let there = goes_next t _ u 13 [] r.0 on in
+      let r = returns old t follow code in let there = goes_next t _ u 13 [] r.0 on in
       record {
         ends = λ no_quote no_slash. subst (λ (x : FieldScanned). EndsCode x old.frames) there
             (record { code = refl; calm = refl; frames = r.1.frames });
@@ -385,16 +333,14 @@ module _ (old : Scan) (t u : FieldScanned) (follow : Follows old t) (code : is_t
       over (92 ∷ 13 ∷ []) _ (goes_next _ _ u 13 [] h.0 (goes_next t _ u 92 (13 ∷ []) (slashes old t follow begun).0 on))
       (λ outer openers. refl, refl, refl) h.1.frames)
       (λ q quote. (
-        λ begun on.
-            let (s, start, string) = some_string old t q follow quote begun in
+        λ begun on. let (s, start, string) = some_string old t q follow quote begun in
             record {
               ends = λ no_quote no_slash. absurd (both_ways _ (no_quote refl) quote);
               open_yet = λ other. ap has_returned (sym (goes_next t _ u q [] string.step on))
                   ∙ ap (λ b. b && (frames t == 0)) (one_quote_open (is_field_spelling s) s q).1;
             },
         λ begun on.
-            let (s, start, string) = some_string old t q follow quote begun in
-            let w = two old t q quote (follows_open old t follow) s start string in
+            let (s, start, string) = some_string old t q follow quote begun in let w = two old t q quote (follows_open old t follow) s start string in
             over (q ∷ q ∷ []) _ (goes_next _ _ u q [] w.0 (goes_next t _ u q (q ∷ []) string.step on))
             (two_quotes_end (is_field_spelling s) s q) w.1.frames,
       ))
@@ -404,17 +350,14 @@ module _ (old : Scan) (t u : FieldScanned) (follow : Follows old t) (code : is_t
 pub brace_end : (old : Scan) (t u : FieldScanned) (host : StringWithFields) (room : Bool) (line_fault : LineFault) → Follows old t → old.mode ≡ opens.Fields host regions.Literal false → Goes t (123 ∷ []) u → room ≡ nat_lt (length old.frames + 1) 201
     → line_fault.kind ≡ (if room then fault_kind.OpenField else fault_kind.TooDeep) → line_fault.place ≡ old.stop → IsFieldEnd u (Some line_fault)
 brace_end old t u host room line_fault follow mode goes room_is kind place =
-    subst (λ (x : FieldScanned). IsFieldEnd x (Some line_fault)) (goes_same t At u (123 ∷ []) (goes_literal old t follow host is) goes)
+    subst (λ (x : FieldScanned). IsFieldEnd x (Some line_fault)) (goes_same t At u (123 ∷ []) (goes_literal old t follow host (ap mode_from mode)) goes)
     (by (nat_lt (frames t) 200) refl (kind ∙ ap (λ (b : Bool). if b then fault_kind.OpenField else fault_kind.TooDeep) (room_is ∙ same)))
   where
-    is : mode_from old.mode ≡ body (host_in host) literal false between
-    is = ap mode_from mode
-
     At : FieldScanned
     At = after_it t (host_in host)
 
     here_is : line_fault.place ≡ here At - 1
-    here_is = place ∙ brace_here old t follow host is
+    here_is = place ∙ brace_here old t follow host (ap mode_from mode)
 
     same : nat_lt (length old.frames + 1) 201 ≡ nat_lt (frames t) 200
     same = below_so (length old.frames + 1) (frames t) (omega (arith, open-length old t follow))
@@ -431,8 +374,7 @@ text_part : (R : Type 0) (m : OpenMode) (run : List ℕ) → HasQuote m → is_t
 text_part R (opens.Short q) run quote text part lone kept = kept open_short literal (short_part q run quote part)
 text_part R (opens.Long q) run quote text part lone kept = kept open_long literal (long_part q run quote part)
 text_part R (opens.Fields host region named) run quote text part lone kept =
-    ⊎_elim (λ brace. let (place, none, is) = lone_brace region named run brace in
-    lone host (rw (place, none) refl) is)
+    ⊎_elim (λ brace. let (place, none, is) = lone_brace region named run brace in lone host (rw (place, none) refl) is)
     (λ other. kept _ (region_in region) (body_part (host_in host) (region_in region) named run quote other))
     (or_cases (is_lone_brace region named run) (is_part_of_text host.is_long host.quote run) part)
 text_part R m run quote text part lone kept = absurd (both_ways _ refl text)
@@ -446,8 +388,7 @@ pending_open old t u run follow pending goes other = by (is_text old.mode) refl
     open_at s same no_return = ap has_returned (sym same) ∙ ap (λ b. b && (frames s == 0)) no_return
 
     by : (b : Bool) → is_text old.mode ≡ b → has_returned u ≡ false
-    by true text =
-        text_part (has_returned u ≡ false) old.mode run follow.quote text pending
+    by true text = text_part (has_returned u ≡ false) old.mode run follow.quote text pending
         (λ host is lone. open_at _ (goes_same t _ u (123 ∷ []) (goes_literal old t follow host is)
         (subst (λ (x : List ℕ). Goes t x u) lone goes)) refl)
         (λ what place kept.
@@ -458,49 +399,35 @@ pending_open old t u run follow pending goes other = by (is_text old.mode) refl
 -- what doesn't tell yet are characters of ASCII
 part_low : (long : Bool) (q : ℕ) (run : List ℕ) → is_quote q ≡ true → is_part_of_text long q run ≡ true → AreLow run
 part_low long q run quote part =
-    let low = quote_low q quote in
-    by_part AreLow long q tt (omega arith, tt) (omega arith, (omega arith, tt)) (omega arith, (omega arith, tt))
-    (λ is. ((low, tt), (low, (low, tt)))) run part
+    let low = quote_ascii q quote in by_part AreLow long q refl refl refl refl (λ is. (one_low q low, two_low q low)) run part
 
 pending_low : (m : OpenMode) (run : List ℕ) → HasQuote m → is_pending m run ≡ true → AreLow run
 pending_low (opens.Short q) run quote part = part_low false q run quote part
 pending_low (opens.Long q) run quote part = part_low true q run quote part
 pending_low (opens.Fields host region named) run quote part =
-    ⊎_elim (λ lone. subst AreLow (sym (lone_brace region named run lone).2) (omega arith, tt)) (λ other. part_low host.is_long host.quote run quote other)
+    ⊎_elim (λ lone. subst AreLow (sym (lone_brace region named run lone).2) refl) (λ other. part_low host.is_long host.quote run quote other)
     (or_cases (is_lone_brace region named run) (is_part_of_text host.is_long host.quote run) part)
 pending_low m run quote part =
-    by_code AreLow tt (omega arith, tt) (omega arith, tt) (omega arith, (omega arith, tt))
-    (λ q is. ((quote_low q is, tt), (quote_low q is, (quote_low q is, tt))))
-    run (code_parts m run refl part).0
+    by_code AreLow refl refl refl refl (λ q is. (one_low q (quote_ascii q is), two_low q (quote_ascii q is))) run (code_parts m run refl part).0
 
 -- these are all characters with which bytes begin that don't tell yet
 pub pending_run : (m : OpenMode) (bytes run rest : List ℕ) → HasQuote m → HasPending m bytes → all_scalars run ≡ true → StartsWithNoChar rest → encode_utf8_all run ++ rest ≡ bytes → (is_pending m run ≡ true) × AreLow run
-pending_run m bytes run rest quote p scalars none spell =
-    let low = pending_low m p.run quote p.is in
+pending_run m bytes run rest quote p scalars none spell = let low = pending_low m p.run quote p.is in
     let same : p.run ≡ run = (one_decoding p.run run p.rest rest (low_scalars p.run low) scalars p.none none (p.spell ∙ sym spell)).0 in
     (subst (λ (x : List ℕ). is_pending m x ≡ true) same p.is, subst AreLow same low)
 
 -- they are the longest prefix of the bytes that is text
 pub whole_run : (bytes prefix run rest : List ℕ) → prefix ≡ take (length prefix) bytes → ((x : List ℕ) × ((all_scalars x ≡ true) × (encode_utf8_all x ≡ prefix))) → StartsWithNoChar (drop (length prefix) bytes)
     → all_scalars run ≡ true → StartsWithNoChar rest → encode_utf8_all run ++ rest ≡ bytes → (encode_utf8_all run ≡ prefix) × (rest ≡ drop (length prefix) bytes)
-whole_run bytes prefix run rest is (x, (scalars, spelled_so)) bad fine none spell =
-    let left : List ℕ = drop (length prefix) bytes in
+whole_run bytes prefix run rest is (x, (scalars, spelled_so)) bad fine none spell = let left : List ℕ = drop (length prefix) bytes in
     let whole : encode_utf8_all x ++ left ≡ bytes = ap (λ p. p ++ left) (spelled_so ∙ is) ∙ take-append-drop (length prefix) bytes in
-    let same = one_decoding run x rest left fine scalars none bad (spell ∙ sym whole) in
-    (ap encode_utf8_all same.0 ∙ spelled_so, same.1)
+    let same = one_decoding run x rest left fine scalars none bad (spell ∙ sym whole) in (ap encode_utf8_all same.0 ∙ spelled_so, same.1)
 
 -- the line ends with CR
 pub ends_returned : (old : Scan) (t : FieldScanned) (bytes : List ℕ) (new : Scan) → Follows old t → is_text old.mode ≡ false → old.frames ≡ [] → begins (λ c. c == 13) bytes ≡ true → new ≡ passed old 1 → EndsReturned t bytes old 1 new
-ends_returned old t bytes new follow code none first like =
-    let r = returns old t follow code in
-    record {
-      first = first;
-      size = refl;
-      to = _;
-      goes = (follows_open old t follow, _, r.0.0, r.0.1, refl);
-      returned = ap (λ n. n == 0) (sym (open-length old t follow) ∙ ap length none);
-      stop = like;
-    }
+ends_returned old t bytes new follow code none first like = let r = returns old t follow code in
+    let goes : Goes t (13 ∷ []) _ = (follows_open old t follow, _, r.0.0, r.0.1, refl) in
+    search (first, goes, ap (λ n. n == 0) (sym (open-length old t follow) ∙ ap length none), like)
 
 -- CR stands first
 pub begins_there : (bytes : List ℕ) → slice_index bytes 0 == 13 ≡ true → begins (λ c. c == 13) bytes ≡ true

@@ -19,8 +19,7 @@ use Rattle.py_lines.proofs.LogicalLines.Cuts.{byte_len-append}
 pub frames-length : (outer : List Level) (done : List Piece) (openers : List ℕ) (fs : List Frame) → FramesFollow outer done openers fs → length fs ≡ length openers + levels_open outer
 frames-length [] done openers fs (bs, stack, openers_are, frames_are) =
     omega (arith, ap length frames_are, length-map bs (λ (b : Bracket). frame.Bracket b.opener b.place), length-map bs (λ (b : Bracket). b.opener), ap length openers_are)
-frames-length (l ∷ ls) done openers fs (bs, field, others, stack, openers_are, frames_are, at) =
-    let start = byte_len (before literal (l ∷ ls)) in
+frames-length (l ∷ ls) done openers fs (bs, field, others, stack, openers_are, frames_are, at) = let start = byte_len (before literal (l ∷ ls)) in
     omega (arith, ap length frames_are ∙ length-append (bracket_frames start bs) (frame.Field field ∷ others), length-map bs (λ (b : Bracket). frame.Bracket b.opener (start + b.place)), length-map bs (λ (b : Bracket). b.opener), ap length openers_are, frames-length ls l.done l.openers others at.round)
 
 -- other finished pieces with the same open brackets
@@ -35,8 +34,7 @@ frames_alike (l ∷ ls) done more openers fs alike (bs, field, others, stack, op
 pub innermost_bracket : (outer : List Level) (done : List Piece) (openers : List ℕ) (fs others : List Frame) (opener at : ℕ) → FramesFollow outer done openers fs → fs ≡ frame.Bracket opener at ∷ others → (b : Bracket) × (bs : List Bracket) × (brackets_of done ≡ Some (b ∷ bs)) × (at ≡ byte_len (before literal outer) + b.place) × (openers ≡ opener ∷ bracket_openers bs)
 innermost_bracket [] done openers fs others opener at ([], stack, openers_are, frames_are) top = absurd (cc (top, frames_are))
 innermost_bracket [] done openers fs others opener at ((b ∷ bs), stack, openers_are, frames_are) top =
-    let spot : at ≡ b.place = cc (top, frames_are) in
-    (b, bs, stack, omega (arith, spot), cc (top, frames_are, openers_are))
+    let spot : at ≡ b.place = cc (top, frames_are) in (b, bs, stack, omega (arith, spot), cc (top, frames_are, openers_are))
 innermost_bracket (l ∷ ls) done openers fs others opener at ([], field, rest, stack, openers_are, frames_are, is) top = absurd (cc (top, frames_are))
 innermost_bracket (l ∷ ls) done openers fs others opener at ((b ∷ bs), field, rest, stack, openers_are, frames_are, is) top =
     let spot : at ≡ byte_len (before literal (l ∷ ls)) + b.place = cc (top, frames_are) in
@@ -55,8 +53,7 @@ innermost_field [] done openers fs others field ([], stack, openers_are, frames_
 innermost_field [] done openers fs others field ((b ∷ bs), stack, openers_are, frames_are) top = absurd (cc (top, frames_are))
 innermost_field (l ∷ ls) done openers fs others field ((b ∷ bs), own, rest, stack, openers_are, frames_are, at) top = absurd (cc (top, frames_are))
 innermost_field (l ∷ ls) done openers fs others field ([], own, rest, stack, openers_are, frames_are, at) top =
-    let same : own ≡ field = cc (top, frames_are) in
-    let round : rest ≡ others = cc (top, frames_are) in
+    let same : own ≡ field = cc (top, frames_are) in let round : rest ≡ others = cc (top, frames_are) in
     record {
       level = l;
       outside = ls;
@@ -74,14 +71,12 @@ none_outside (l ∷ ls) done openers fs follow none = absurd (omega (arith, none
 -- an operator after the finished pieces
 opened_stack : (done : List Piece) (openers : List ℕ) (bs : List Bracket) (c : ℕ) → brackets_of done ≡ Some bs → openers ≡ bracket_openers bs → is_opening c ≡ true → length openers < 200
     → brackets_of (done ++ piece operator (c ∷ []) ∷ []) ≡ Some ((record { opener = c; place = byte_len (spelled done) }) ∷ bs)
-opened_stack done openers bs c stack are opens room =
-    stack_push done (piece operator (c ∷ [])) bs stack
+opened_stack done openers bs c stack are opens room = stack_push done (piece operator (c ∷ [])) bs stack
     ∙ opener_pushes bs (byte_len (spelled done)) (piece operator (c ∷ [])) opens (omega (arith, room, ap length are, length-map bs (λ (b : Bracket). b.opener)))
 
 closed_stack : (done : List Piece) (b : Bracket) (bs : List Bracket) (opener c : ℕ) → brackets_of done ≡ Some (b ∷ bs) → b.opener ≡ opener → is_closing c ≡ true → c == closing_of opener ≡ true
     → brackets_of (done ++ piece operator (c ∷ []) ∷ []) ≡ Some bs
-closed_stack done b bs opener c stack same closing fits =
-    stack_push done (piece operator (c ∷ [])) (b ∷ bs) stack
+closed_stack done b bs opener c stack same closing fits = stack_push done (piece operator (c ∷ [])) (b ∷ bs) stack
     ∙ closer_pops bs (byte_len (spelled done)) b (piece operator (c ∷ [])) closing (ap (λ (o : ℕ). c == closing_of o) same ∙ fits)
 
 pub bracket_opened : (outer : List Level) (done : List Piece) (openers : List ℕ) (fs : List Frame) (c place : ℕ) → FramesFollow outer done openers fs → is_opening c ≡ true → length openers < 200 → place ≡ byte_len (before literal outer ++ spelled done) → FramesFollow outer (done ++ piece operator (c ∷ []) ∷ []) (c ∷ openers) (frame.Bracket c place ∷ fs)

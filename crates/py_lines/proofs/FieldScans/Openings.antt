@@ -1,16 +1,16 @@
 -- What opens and ends in a string's text: a field, at its `{` in the literal part or in a specification, and its specification with the
 -- field.
-use Rattle.std.proofs.Common.{◌≡◌, ℕ, ◌+◌, ◌-◌, ◌<◌, Bool, true, false, not, ◌||◌, ◌&&◌, ◌==◌, None, Some, List, [], ◌∷◌, ◌++◌, drop, length, nat_lt, refl, sym, ap, ◌∙◌, subst, arith, append-nil, append_assoc, length-append}
-use Rattle.std.specs.Prelude.{encode_utf8, encode_utf8_all, if◌then◌else◌}
+use Rattle.std.proofs.Common.{◌≡◌, ℕ, ◌+◌, ◌-◌, ◌<◌, Bool, true, false, ◌&&◌, ◌==◌, None, Some, List, [], ◌∷◌, ◌++◌, drop, length, nat_lt, refl, sym, ap, ◌∙◌, subst, arith, append-nil, append_assoc, length-append}
+use Rattle.py_lines.proofs.FieldScans.Bytes.{byte_len-one}
+use Rattle.std.specs.Prelude.{encode_utf8_all, encode_utf8}
 use Rattle.std.specs.Char.{len_utf8}
-use Rattle.std.proofs.lemmas.Bool.{both_ways, cond_both, eq-eqb, eqb-true, le-ltb, ltb-false, ltb-true, ne_eqb}
+use Rattle.std.proofs.lemmas.Bool.{both_ways, eq-eqb, eqb-true, le-ltb, ltb-false, ltb-true, ne_eqb}
 use Rattle.std.proofs.Math.Utf8.{low_scalar}
 use Rattle.std.proofs.lemmas.Bool.Decides.{nat_tests}
-use Rattle.std.proofs.Math.Bool.{and-true}
-use Rattle.std.proofs.lemmas.Str.{length-encode, len_utf8_ascii, len_utf8_bounds}
+use Rattle.std.proofs.lemmas.Str.{encode_ascii, length-encode, len_utf8_ascii, len_utf8_bounds}
 use Rattle.py_lines.specs.Balance.{is_closing, is_opening}
-use Rattle.py_lines.specs.Character.{is_break, is_line_feed, is_backslash, is_quote}
-use Rattle.py_lines.specs.Faults.{Cause, brace_too_deep, opens_too_deep, kind_of_cause, begins_nothing, breaks_string, closes_wrong}
+use Rattle.py_lines.specs.Character.{is_break, is_backslash, is_quote}
+use Rattle.py_lines.specs.Faults.{Cause, brace_too_deep, opens_too_deep, kind_of_cause, begins_nothing, closes_wrong}
 use Rattle.py_lines.specs.FieldStrings.{Host, Place, literal, specification}
 use Rattle.py_lines.specs.LogicalLine.{byte_len}
 use Rattle.py_lines.specs.Piece.{Piece, begins, spelled}
@@ -19,8 +19,7 @@ use Rattle.py_lines.specs.Private.Machine.{move_of}
 use Rattle.py_lines.specs.Private.FieldMachine.{FieldMode, FieldMove, FieldScanned, Level, plain, body, between, after_brace, grows, breaks, begins_code, opens_field, ends_field, before, field_ended, field_fresh, field_move, field_moved, field_state, frames, has_room_at, opened_level, room_step, roomy, specification_ended, text_place, At, between_move, body_move, opening_move}
 use Rattle.py_lines.specs.Private.FieldFaults.{cause_in, cause_place, here}
 use Rattle.py_lines.specs.Private.Run.{BeginsWith}
-use Rattle.py_lines.specs.Private.Scan.{ComesTo, Follows, GoAlike, Goes, GoesOver, IsFieldFault, IsFirstByte, IsWrongIn, OpensField, OpensIf, OpensInText, Rests, StandsAs, ended_in, ends_line, entered, has_returned, is_break_move, is_line_ending, is_text, mode_from, region_in, with_bytes, HasNoList, HasQuote, IsInPlace}
-use Rattle.py_lines.specs.Private.ScanMachine.{host_in}
+use Rattle.py_lines.specs.Private.Scan.{ComesTo, FieldFollows, Follows, FramesFollow, IsOneItem, GoAlike, Goes, GoesOver, IsFieldFault, IsFirstByte, IsWrongIn, OpensField, OpensIf, OpensInText, StandsAs, ended_in, ends_line, entered, host_in, is_break_move, is_line_ending, is_text, mode_from, region_in, with_bytes, HasNoList, HasQuote, IsInPlace}
 use Rattle.py_lines.specs.declared.fault.FaultKind.TheVariants as fault_kind
 use Rattle.py_lines.specs.declared.frames.OpenField.{OpenField}
 use Rattle.py_lines.specs.declared.frames.Frame.{Frame}
@@ -35,22 +34,18 @@ use Rattle.py_lines.specs.declared.mode.Mode.{Mode as OpenMode}
 use Rattle.py_lines.specs.declared.mode.Mode.TheVariants as opens
 use Rattle.py_lines.proofs.Text.CharacterTests.{not_quote}
 use Rattle.py_lines.proofs.Text.FirstBytes.{first_low, first_other}
-use Rattle.py_lines.proofs.FieldScans.Resting.{first_byte, follows_open, rests_exact}
-use Rattle.py_lines.proofs.ScanMachine.Follows.{room_grows}
-use Rattle.py_lines.proofs.FieldScans.Bytes.{byte_len-one}
+use Rattle.py_lines.proofs.FieldScans.Taking.{first_byte, follows_open, rests_exact, StepsOn, by_room, follows_free, goes_on, no_break, no_room, over_one, steps, wrong_at}
+use Rattle.py_lines.proofs.FieldMachine.Runs.{room_grows}
 use Rattle.py_lines.proofs.FieldScans.Frames.{innermost_field}
-use Rattle.py_lines.proofs.FieldScans.LineEnds.{over_low, walks_one}
 use Rattle.py_lines.proofs.FieldScans.Moves.{bare_in}
 use Rattle.py_lines.proofs.FieldScans.Operators.{open-length, resumed}
-use Rattle.py_lines.proofs.FieldScans.Taking.{StepsOn, by_room, follows_free, goes_on, no_break, no_room, some_level, steps}
-use Rattle.py_lines.proofs.FieldScans.TextItems.{low_encoded, low_scalars, more_bytes, text_open, StaysText, held_nothing, text_is, text_stays}
+use Rattle.py_lines.proofs.FieldScans.TextItems.{low_scalars, more_bytes, text_open, StaysText, held_nothing, text_is, text_stays}
 
 -- the quote of a string with fields is one
 host_quote : (m : OpenMode) (host : Host) (place : Place) (named : Bool) (at : At) → HasQuote m → mode_from m ≡ body host place named at
     → is_quote host.quote ≡ true
 host_quote (opens.Fields h region n) host place named at quote same =
-    let own : host_in h ≡ host = cc in
-    ap (λ (x : Host). is_quote x.quote) (sym own) ∙ quote
+    let own : host_in h ≡ host = cc in ap (λ (x : Host). is_quote x.quote) (sym own) ∙ quote
 host_quote m host place named at quote same = absurd (cc same)
 
 -- a `{` that doesn't stand for itself
@@ -65,17 +60,11 @@ no_brace host held c other = rw other
 -- there is room for a field and for what its code begins with
 code_room : (n c : ℕ) (h : Host) → has_room_at n c (begins_code h) ≡ nat_lt n 200 && has_room_at (n + 1) c breaks
 unfolding has_room_at
-code_room n c h = go (is_opening c)
-  where
-    go : (b : Bool) → nat_lt (if b then n + 1 else n) 200 ≡ nat_lt n 200 && (not b || nat_lt (n + 1) 200)
-    go true = grind (arith, nat_tests)
-    go false = sym (and-true (nat_lt n 200))
+code_room n c h = grind (arith, nat_tests)
 
 -- what is wrong with a character that begins nothing stands there, whatever it is
 code_cause : (P : Cause → Type 0) (depth c : ℕ) → is_break c ≡ false → P closes_wrong → P opens_too_deep → P begins_nothing → P (cause_in depth (plain modes.Free) c)
-code_cause P depth c other closes opens nothing =
-    cond_both (is_break c) breaks_string _ P (λ is. absurd (both_ways _ other is))
-    (λ _. cond_both (is_closing c) closes_wrong _ P (λ _. closes) (λ _. cond_both (is_opening c) opens_too_deep begins_nothing P (λ _. opens) (λ _. nothing)))
+code_cause P depth c other closes opens nothing = grind arith
 
 -- nothing of a field's code is read
 abbrev pub code_start : FieldScanned → Host → Place → FieldScanned
@@ -98,13 +87,11 @@ module _ (t : FieldScanned) (host : Host) (room : nat_lt (frames t) 200 ≡ true
 
   code_step : (c : ℕ) → c == 123 ≡ false → room_step There c ≡ room_step In c
   unfolding field_move move_of
-  code_step c other =
-      by_room There c (begins_code host) (no_brace host There.held c other)
+  code_step c other = by_room There c (begins_code host) (no_brace host There.held c other)
       ∙ ap (λ b. roomy b (field_moved There c (begins_code host))) (code_room (frames t) c host ∙ ap (λ b. b && has_room_at (frames t + 1) c breaks) room ∙ ap (λ n. has_room_at n c breaks) deeper)
 
   code_ending : (c : ℕ) → c == 123 ≡ false → ends_line There c ≡ ends_line In c
-  code_ending c other =
-      goes_on There c (begins_code host) (no_brace host There.held c other) refl
+  code_ending c other = goes_on There c (begins_code host) (no_brace host There.held c other) refl
       ∙ ap (λ b. b && is_line_ending In.mode (field_move In.mode In.held c) c) (sym (ne_eqb (frames In) 0 (λ none. omega (arith, deeper, none))))
 
   code_cause_is : (c : ℕ) → cause_in (frames t) There.mode c ≡ cause_in (frames In) In.mode c
@@ -123,37 +110,23 @@ module _ (t : FieldScanned) (host : Host) (room : nat_lt (frames t) 200 ≡ true
       (is.0 ∙ ap kind_of_cause (sym (code_cause_is c)), is.1 ∙ place ∙ ap (cause_place There) (sym (code_cause_is c)))
 
   code_alike : (b : ℕ) → ((c : ℕ) → IsFirstByte b c → c == 123 ≡ false) → GoAlike b There In
-  code_alike b other = record {
-    here_is = code_here;
-    open_yet = refl;
-    step = λ c first. code_step c (other c first);
-    ending = λ c first. code_ending c (other c first);
-    fault = λ c first none f is. code_fault b c first (other c first) none f is;
-    free = λ free outside. absurd (some_level _ _ outside);
-    shut = λ is. absurd (both_ways _ refl is);
-  }
+  code_alike b other = let stepping = λ (c : ℕ) (first : IsFirstByte b c). code_step c (other c first) in
+      let ending = λ (c : ℕ) (first : IsFirstByte b c). code_ending c (other c first) in
+      let fault = λ (c : ℕ) (first : IsFirstByte b c). code_fault b c first (other c first) in grind (arith, code_here, stepping, ending, fault)
 
   code_stands : (bytes : List ℕ) (c : ℕ) → BeginsWith bytes c → c == 123 ≡ false → StandsAs bytes There In
   code_stands [] c next other = absurd (omega (arith, ap length next.spell, length-append (encode_utf8 c) (drop (len_utf8 c) []), length-encode c, len_utf8_bounds c))
-  code_stands (b ∷ rest) c next other =
-      let at : IsFirstByte b c = first_byte c b (drop (len_utf8 c) (b ∷ rest)) rest next.scalar next.spell in
+  code_stands (b ∷ rest) c next other = let at : IsFirstByte b c = first_byte c b (drop (len_utf8 c) (b ∷ rest)) rest next.scalar next.spell in
       code_alike b (λ d first. first_other b d 123 first (omega arith)
       (λ is. both_ways _ other (eq-eqb c 123 (first_low b c (omega (arith, is)) at ∙ is))))
 
-one_brace : (c : ℕ) → c < 128 → byte_len (c ∷ []) ≡ 1
-one_brace c low = byte_len-one c ∙ len_utf8_ascii c low
-
--- the sign with which bytes begin, before the others
-first_sign : (d : ℕ) (bytes : List ℕ) → d < 128 → begins (λ c. c == d) bytes ≡ true → encode_utf8_all (d ∷ []) ++ drop 1 bytes ≡ bytes
+-- the sign with which bytes begin
+first_sign : (d : ℕ) (bytes : List ℕ) → d < 128 → begins (λ c. c == d) bytes ≡ true → BeginsWith bytes d
 first_sign d [] low is = absurd (both_ways _ refl is)
-first_sign d (b ∷ rest) low is = ap (λ x. x ++ rest) (low_encoded (d ∷ []) (low, tt)) ∙ ap (λ x. x ∷ rest) (sym (eqb-true b d is))
-
--- the machine goes over it
-over_sign : (d : ℕ) (t to : FieldScanned) (bytes : List ℕ) (new : Scan) → d < 128 → begins (λ c. c == d) bytes ≡ true
-    → has_returned t ≡ false → StepsOn t d to → Rests new to (drop 1 bytes) → GoesOver t bytes 1 new
-over_sign d t to bytes new low is open_yet step rests =
-    subst (λ (x : List ℕ). GoesOver t x 1 new) (ap (λ x. x ++ drop 1 bytes) (sym (low_encoded (d ∷ []) (low, tt))) ∙ first_sign d bytes low is)
-    (over_low t to (d ∷ []) (drop 1 bytes) (walks_one t to d low open_yet step) new (omega arith) rests)
+first_sign d (b ∷ rest) low is = record {
+  scalar = low_scalar d (omega (arith, low));
+  spell = ap (λ x. x ++ drop (len_utf8 d) (b ∷ rest)) (encode_ascii d low) ∙ ap (λ n. d ∷ drop n (b ∷ rest)) (len_utf8_ascii d low) ∙ ap (λ x. x ∷ rest) (sym (eqb-true b d is));
+}
 
 -- a field is opened in a text of such a place
 module _ (old : Scan) (t : FieldScanned) (follow : Follows old t) (host : StringWithFields) (region : Region) (is : mode_from old.mode ≡ body (host_in host) (region_in region) false between) where
@@ -169,38 +142,20 @@ module _ (old : Scan) (t : FieldScanned) (follow : Follows old t) (host : String
   brace : field_move t.mode t.held 123 ≡ opening_move (host_in host) (region_in region)
   brace = ap (λ (m : FieldMode). field_move m t.held 123) mode ∙ brace_moves (host_in host) (region_in region) t.held quote
 
-  open_yet : has_returned t ≡ false
-  open_yet = follows_open old t follow
-
   stop : old.stop ≡ byte_len (before (region_in region) t.outer ++ (spelled t.done ++ t.held))
   stop = follow.stop ∙ ap (λ p. byte_len (before p t.outer ++ (spelled t.done ++ t.held))) place
 
   after : old.stop + 1 ≡ byte_len (before (region_in region) t.outer ++ (spelled t.done ++ (t.held ++ 123 ∷ [])))
-  after = more_bytes (before (region_in region) t.outer) (spelled t.done) t.held (123 ∷ []) old.stop 1 stop (one_brace 123 (omega arith))
+  after = more_bytes (before (region_in region) t.outer) (spelled t.done) t.held (123 ∷ []) old.stop 1 stop (byte_len-one 123)
 
   -- the scan is in the code of the field
   enters : Follows (entered old host region) (code_start t (host_in host) (region_in region))
-  enters =
-      let field : OpenField = record { place = old.stop; host = host; region = region; start = old.start } in
+  enters = let field : OpenField = record { place = old.stop; host = host; region = region; start = old.start } in
       let start : old.start ≡ byte_len (before (region_in region) t.outer ++ spelled t.done) = follow.start ∙ ap (λ p. byte_len (before p t.outer ++ spelled t.done)) place in
       let level : Level = opened_level t (host_in host) (region_in region) (t.held ++ 123 ∷ []) in
-      follows_free (with_bytes (record old { frames = frame.Field field ∷ old.frames }) 1) (level ∷ t.outer) [] [] (
-        [],
-        field,
-        old.frames,
-        refl,
-        refl,
-        refl,
-        record {
-          place = inner_place region old.stop level.front after;
-          host = refl;
-          quote = quote;
-          region = refl;
-          start = start;
-          bare = subst (λ (m : FieldMode). HasNoList m t.done t.openers) mode follow.no_list;
-          round = follow.frames;
-        },
-      )
+      let bare = subst (λ (m : FieldMode). HasNoList m t.done t.openers) mode follow.no_list in
+      let at : FieldFollows level t.outer field (FramesFollow t.outer t.done t.openers old.frames) = search (inner_place region old.stop level.front after, quote, start, bare, follow.frames) in
+      follows_free (with_bytes (record old { frames = frame.Field field ∷ old.frames }) 1) (level ∷ t.outer) [] [] ([], field, old.frames, refl, refl, refl, at)
       (after ∙ ap byte_len (sym (append-nil (before literal (level ∷ t.outer)))))
     where
       inner_place : (r : Region) (n : ℕ) (front : List ℕ) → n + 1 ≡ byte_len (before (region_in r) t.outer ++ (spelled t.done ++ front)) → n ≡ byte_len (before (region_in r) t.outer ++ (spelled t.done ++ front)) - 1
@@ -216,8 +171,7 @@ module _ (old : Scan) (t : FieldScanned) (follow : Follows old t) (host : String
 -- in a literal part
 module _ (old : Scan) (t : FieldScanned) (follow : Follows old t) (host : StringWithFields) (is : mode_from old.mode ≡ body (host_in host) literal false between) where
   opened_literal : StepsOn t 123 (after_it t (host_in host))
-  opened_literal =
-      let m : FieldMode = body (host_in host) literal false after_brace in
+  opened_literal = let m : FieldMode = body (host_in host) literal false after_brace in
       steps_brace old t follow host regions.Literal is (grows m) (after_it t (host_in host)) refl (room_grows (frames t) 123 m) refl refl
 
   pub goes_literal : Goes t (123 ∷ []) (after_it t (host_in host))
@@ -229,69 +183,42 @@ module _ (old : Scan) (t : FieldScanned) (follow : Follows old t) (host : String
 
   opens_literal : (bytes : List ℕ) (new : Scan) (c : ℕ) → begins (λ c. c == 123) bytes ≡ true → BeginsWith (drop 1 bytes) c → c == 123 ≡ false → nat_lt (frames t) 200 ≡ true → new ≡ entered old host regions.Literal → GoesOver t bytes 1 new
   opens_literal bytes new c braced next other room like =
-      over_sign 123 t (after_it t (host_in host)) bytes new (omega arith) braced (follows_open old t follow) opened_literal
-      (subst (λ (s : Scan). Rests s (after_it t (host_in host)) (drop 1 bytes)) (sym like) (record {
-        as_if = code_start t (host_in host) literal;
-        follows = enters old t follow host regions.Literal is;
-        stands = code_stands t (host_in host) room (drop 1 bytes) c next other;
-      }))
+      over_one t (after_it t (host_in host)) 123 bytes new (first_sign 123 bytes (omega arith) braced) (follows_open old t follow) opened_literal
+      (rw like (search (enters old t follow host regions.Literal is, code_stands t (host_in host) room (drop 1 bytes) c next other)))
 
   deep_literal : (bytes : List ℕ) (c : ℕ) → begins (λ c. c == 123) bytes ≡ true → BeginsWith (drop 1 bytes) c → c == 123 ≡ false → frames t ≡ 200 → IsWrongIn t bytes (record { kind = fault_kind.TooDeep; place = old.stop })
-  deep_literal bytes c braced next other full =
-      let at : FieldScanned = after_it t (host_in host) in
+  deep_literal bytes c braced next other full = let at : FieldScanned = after_it t (host_in host) in
       let because : cause_in (frames at) at.mode c ≡ brace_too_deep = rw (eq-eqb (frames t) 200 full) in
-      record {
-        run = 123 ∷ [];
-        c = c;
-        after = drop (len_utf8 c) (drop 1 bytes);
-        spell = ap (λ x. encode_utf8_all (123 ∷ []) ++ x) next.spell ∙ first_sign 123 bytes (omega arith) braced;
-        scalars = low_scalars (123 ∷ []) (omega arith, tt);
-        scalar = next.scalar;
-        to = at;
-        goes = goes_literal;
-        one = (goes_literal.1, goes_literal.2, ap (λ (x : FieldScanned). is_break_move (field_move x.mode x.held c)) goes_literal.4 ∙ ap is_break_move (no_brace (host_in host) at.held c other), tt);
-        open_yet = refl;
-        none = no_room at c (begins_code (host_in host)) (no_brace (host_in host) at.held c other)
-            (code_room (frames t) c (host_in host)
-            ∙ ap (λ b. b && has_room_at (frames t + 1) c breaks) (le-ltb (frames t) 200 (omega (arith, full))));
-        fault = (ap kind_of_cause (sym because), brace_here ∙ ap (cause_place at) (sym because));
-      }
+      let braces = no_brace (host_in host) at.held c other in
+      let spell : encode_utf8_all (123 ∷ []) ++ (encode_utf8 c ++ drop (len_utf8 c) (drop 1 bytes)) ≡ bytes =
+      ap (λ x. encode_utf8_all (123 ∷ []) ++ x) next.spell ∙ ap (λ x. x ++ drop 1 bytes) (append-nil (encode_utf8 123)) ∙ (first_sign 123 bytes (omega arith) braced).spell in
+      let one : IsOneItem t (123 ∷ c ∷ []) = (at, opened_literal.0, ap is_break_move braces, tt) in
+      let none : room_step at c ≡ None = no_room at c (begins_code (host_in host)) braces
+      (code_room (frames t) c (host_in host) ∙ ap (λ b. b && has_room_at (frames t + 1) c breaks) (le-ltb (frames t) 200 (omega (arith, full)))) in
+      let fault : IsFieldFault at c (record { kind = fault_kind.TooDeep; place = old.stop }) = (ap kind_of_cause (sym because), brace_here ∙ ap (cause_place at) (sym because)) in
+      search (spell, low_scalars (123 ∷ []) refl, next, goes_literal, one, none, fault)
 
 -- in a specification
 module _ (old : Scan) (t : FieldScanned) (follow : Follows old t) (host : StringWithFields) (is : mode_from old.mode ≡ body (host_in host) specification false between) where
   opens_specified : (bytes : List ℕ) (new : Scan) → begins (λ c. c == 123) bytes ≡ true → nat_lt (frames t) 200 ≡ true → new ≡ entered old host regions.Specification → GoesOver t bytes 1 new
   unfolding has_room_at
-  opens_specified bytes new braced room like =
-      let to : FieldScanned = code_start t (host_in host) specification in
-      over_sign 123 t to bytes new (omega arith) braced (follows_open old t follow)
+  opens_specified bytes new braced room like = let to : FieldScanned = code_start t (host_in host) specification in
+      over_one t to 123 bytes new (first_sign 123 bytes (omega arith) braced) (follows_open old t follow)
       (steps_brace old t follow host regions.Specification is (opens_field (host_in host)) to refl room refl refl)
-      (subst (λ (s : Scan). Rests s to (drop 1 bytes)) (sym like) (rests_exact (entered old host regions.Specification) to (drop 1 bytes) (enters old t follow host regions.Specification is)))
+      (rw like (rests_exact (entered old host regions.Specification) to (drop 1 bytes) (enters old t follow host regions.Specification is)))
 
   deep_specified : (bytes : List ℕ) → begins (λ c. c == 123) bytes ≡ true → nat_lt (frames t) 200 ≡ false → IsWrongIn t bytes (record { kind = fault_kind.TooDeep; place = old.stop })
   unfolding has_room_at is_break is_closing is_opening
   deep_specified bytes braced full =
       let because : cause_in (frames t) t.mode 123 ≡ opens_too_deep = ap (λ (m : FieldMode). cause_in (frames t) m 123) (mode old t follow host regions.Specification is) in
-      record {
-        run = [];
-        c = 123;
-        after = drop 1 bytes;
-        spell = ap (λ x. x ++ drop 1 bytes) (sym (append-nil (encode_utf8 123))) ∙ first_sign 123 bytes (omega arith) braced;
-        scalars = refl;
-        scalar = low_scalar 123 (omega arith);
-        to = t;
-        goes = refl;
-        one = tt;
-        open_yet = ap (λ b. b && not (is_line_feed 123)) (follows_open old t follow);
-        none = no_room t 123 (opens_field (host_in host)) (brace old t follow host regions.Specification is) full;
-        fault = (ap kind_of_cause (sym because), follow.stop ∙ ap (cause_place t) (sym because));
-      }
+      wrong_at t 123 bytes _ (first_sign 123 bytes (omega arith) braced) (follows_open old t follow) (no_room t 123 (opens_field (host_in host)) (brace old t follow host regions.Specification is) full)
+      (ap kind_of_cause (sym because), follow.stop ∙ ap (cause_place t) (sym because))
 
 -- if there is room, or else
 opens_in : (old : Scan) (t : FieldScanned) (follow : Follows old t) (host : StringWithFields) (region : Region) (bytes : List ℕ) (new : Scan)
     → OpensInText (mode_from old.mode) bytes host region → (nat_lt (frames t) 200 ≡ true → new ≡ entered old host region → GoesOver t bytes 1 new)
     × (frames t ≡ 200 → IsWrongIn t bytes (record { kind = fault_kind.TooDeep; place = old.stop }))
-opens_in old t follow host regions.Literal bytes new x =
-    let (c, next, other) = x.next refl in
+opens_in old t follow host regions.Literal bytes new x = let (c, next, other) = x.next refl in
     (opens_literal old t follow host x.is bytes new c x.brace next other, deep_literal old t follow host x.is bytes c x.brace next other)
 opens_in old t follow host regions.Specification bytes new x = (
   opens_specified old t follow host x.is bytes new x.brace,
@@ -309,8 +236,7 @@ opens_comes old t host region bytes result new follow x opens = go (nat_lt (leng
     go true room (going, like) = subst (λ (r : Progress). ComesTo t bytes old r new) (sym going)
         ((opens_in old t follow host region bytes new x).0 (ap (λ n. nat_lt n 200) (sym many) ∙ room) like)
     go false full (wrong, few, like) = subst (λ (r : Progress). ComesTo t bytes old r new) (sym wrong) (
-      (opens_in old t follow host region bytes new x).1
-          (omega (arith, many, few, ltb-false (length old.frames) 200 full)),
+      (opens_in old t follow host region bytes new x).1 (omega (arith, many, few, ltb-false (length old.frames) 200 full)),
       like,
     )
 
@@ -318,24 +244,20 @@ opens_comes old t host region bytes result new follow x opens = go (nat_lt (leng
 pub ends_over : (old : Scan) (t : FieldScanned) (field : OpenField) (others : List Frame) (bytes : List ℕ) (new : Scan) → Follows old t → is_text old.mode ≡ true → field_move (mode_from old.mode) [] 125 ≡ ends_field
     → begins (λ c. c == 125) bytes ≡ true → old.frames ≡ frame.Field field ∷ others → new ≡ ended_in old field others → IsInPlace (ended_in old field others) → GoesOver t bytes 1 new
 unfolding has_room_at
-ends_over old t field others bytes new follow text does braced top like placed =
-    let in_text = text_open old t follow text in
+ends_over old t field others bytes new follow text does braced top like placed = let in_text = text_open old t follow text in
     let own = text_is t.mode in_text in
     let bare_move : field_move t.mode [] 125 ≡ ends_field = ap (λ (m : FieldMode). field_move m [] 125) (sym follow.mode) ∙ does in
     let move : field_move t.mode t.held 125 ≡ ends_field = held_nothing t.mode t.held 125 in_text ∙ bare_move in
     let place : text_place t.mode ≡ specification = subst (StaysText (text_place t.mode)) bare_move (text_stays t.mode 125 in_text) in
-    let i = innermost_field t.outer t.done t.openers old.frames others field follow.frames top in
-    let held : List ℕ = t.held ++ 125 ∷ [] in
-    let to : FieldScanned = field_ended i.level i.outside held in
-    let none : t.done ≡ [] = (bare_in t.mode t.done t.openers place follow.no_list).0 in
+    let i = innermost_field t.outer t.done t.openers old.frames others field follow.frames top in let held : List ℕ = t.held ++ 125 ∷ [] in
+    let to : FieldScanned = field_ended i.level i.outside held in let none : t.done ≡ [] = (bare_in t.mode t.done t.openers place follow.no_list).0 in
     let stands : old.stop ≡ byte_len (before specification (i.level ∷ i.outside) ++ t.held) =
     follow.stop ∙ ap (λ p. byte_len (before p t.outer ++ (spelled t.done ++ t.held))) place ∙ ap (λ (ls : List Level). byte_len (before specification ls ++ (spelled t.done ++ t.held))) i.outer_is
     ∙ ap (λ (ps : List Piece). byte_len (before specification (i.level ∷ i.outside) ++ (spelled ps ++ t.held))) none in
     let stop : old.stop + 1 ≡ byte_len (before i.level.place i.outside ++ (spelled i.level.done ++ held)) =
-    more_bytes (before specification (i.level ∷ i.outside)) [] t.held (125 ∷ []) old.stop 1 stands (one_brace 125 (omega arith))
+    more_bytes (before specification (i.level ∷ i.outside)) [] t.held (125 ∷ []) old.stop 1 stands (byte_len-one 125)
     ∙ ap byte_len (append_assoc (before i.level.place i.outside) (spelled i.level.done) held) in
-    over_sign 125 t to bytes new (omega arith) braced (follows_open old t follow) (
+    over_one t to 125 bytes new (first_sign 125 bytes (omega arith) braced) (follows_open old t follow) (
       steps t 125 ends_field move to refl (ap (λ (ls : List Level). specification_ended ls held) i.outer_is),
       goes_on t 125 ends_field move (own.no_line ends_field 125),
-    ) (subst (λ (s : Scan). Rests s to (drop 1 bytes)) (sym like)
-    (rests_exact (ended_in old field others) to (drop 1 bytes) (resumed old t.outer t.openers field others i held placed stop)))
+    ) (rw like (rests_exact (ended_in old field others) to (drop 1 bytes) (resumed old t.outer t.openers field others i held placed stop)))

@@ -2,8 +2,8 @@
 use Rattle.std.proofs.Common.{◌≡◌, ℕ, ◌+◌, true, false, not, ◌||◌, ◌&&◌, ◌==◌, Option, None, Some, List, [], ◌∷◌, ◌++◌, length, nat_lt, refl, sym, ap, ◌∙◌, subst, arith, append-nil, append_assoc, Bool}
 use Rattle.std.specs.Str.{byte}
 use Rattle.std.specs.Char.{len_utf8}
-use Rattle.std.specs.Prelude.{codes, if◌then◌else◌}
-use Rattle.std.proofs.lemmas.Bool.{and_right, cond_both, eq-eqb, lt-ltb, ne_eqb}
+use Rattle.std.specs.Prelude.{if◌then◌else◌}
+use Rattle.std.proofs.lemmas.Bool.{and_right, eq-eqb, lt-ltb, ne_eqb}
 use Rattle.py_lines.specs.Character.{is_break, is_operator, is_quote}
 use Rattle.py_lines.specs.Piece.{operator, Piece, spelled}
 use Rattle.py_lines.specs.LogicalLine.{byte_len}
@@ -21,14 +21,13 @@ use Rattle.py_lines.specs.declared.mode.Mode.{Mode as OpenMode}
 use Rattle.py_lines.specs.declared.mode.Mode.TheVariants as opens
 use Rattle.py_lines.specs.declared.scan.Scan.{Scan}
 use Rattle.py_lines.specs.declared.scan.Progress.TheVariants as progress
-use Rattle.py_lines.specs.Private.Machine.{start_of, Bracket, brackets_of}
-use Rattle.py_lines.specs.Private.Machine.{Start as starts}
+use Rattle.py_lines.specs.Private.Machine.{start_of, Bracket, brackets_of, Start as starts}
 use Rattle.py_lines.specs.Private.FieldMachine.{between, body, breaks, Level, FieldScanned, field_state, field_fresh, field_closed, field_move, field_started, field_operator, code_operator, openers_with, field_ended, before, frames, has_room_at, room_step, text_place}
 use Rattle.py_lines.specs.Private.FieldFaults.{cause_in, cause_place, here}
 use Rattle.py_lines.specs.Private.Frames.{InField, IsInnermostFrame, ClosesBracket, OpensBracket, StandsIn}
-use Rattle.py_lines.specs.Private.ScanMachine.{host_in}
-use Rattle.py_lines.specs.Private.Scan.{region_in, bracket_openers, Follows, FramesFollow, IsFieldFault, IsInPlace, IsPlaced, TakesOne, ended_in, mode_from, passed, with_bytes, wrong_here}
+use Rattle.py_lines.specs.Private.Scan.{region_in, bracket_openers, Follows, FramesFollow, IsFieldFault, IsInPlace, IsPlaced, TakesOne, ended_in, host_in, mode_from, passed, with_bytes, wrong_here}
 use Rattle.py_lines.proofs.Machine.Starts.{start-operator}
+use Rattle.py_lines.proofs.LineScan.AsciiRuns.{operator-no_break}
 use Rattle.py_lines.proofs.Text.CharacterTests.{each_of, none_of}
 use Rattle.py_lines.proofs.Pieces.PieceLists.{piece}
 use Rattle.py_lines.proofs.Pieces.OpenBrackets.{closing-not-opening}
@@ -45,13 +44,10 @@ code_cause c = if is_closing c then closes_wrong else (if is_opening c then open
 
 cause_of : (m : OpenMode) (depth c : ℕ) → text_place (mode_from m) ≡ literal → is_break c ≡ false → cause_in depth (mode_from m) c ≡ code_cause c
 cause_of (opens.Fields h regions.Specification named) depth c place none = absurd (cc)
-cause_of (opens.Fields h regions.Literal named) depth c place none = rw none refl
 cause_of m depth c place none = rw none refl
 
 cause_here : (t : FieldScanned) (c : ℕ) → here t ≡ cause_place t (code_cause c)
-cause_here t c =
-    let P : Cause → Type 0 = λ x. here t ≡ cause_place t x in
-    cond_both (is_closing c) closes_wrong _ P (λ h. refl) (λ h. cond_both (is_opening c) opens_too_deep begins_nothing P (λ k. refl) (λ k. refl))
+cause_here t c = grind arith
 
 -- what is wrong there
 pub fault_in_code : (old : Scan) (t : FieldScanned) (c : ℕ) (kind : FaultKind) → Follows old t → text_place t.mode ≡ literal → is_break c ≡ false → kind_of_cause (code_cause c) ≡ kind → IsFieldFault t c (record { kind = kind; place = old.stop })
@@ -59,10 +55,6 @@ fault_in_code old t c kind follow place none is =
     let cause : code_cause c ≡ cause_in (frames t) t.mode c =
     sym (cause_of old.mode (frames t) c (ap text_place follow.mode ∙ place) none) ∙ ap (λ m. cause_in (frames t) m c) follow.mode in
     (sym is ∙ ap kind_of_cause cause, follow.stop ∙ cause_here t c ∙ ap (cause_place t) cause)
-
-operator_breaks : (c : ℕ) → is_operator c ≡ true → is_break c ≡ false
-unfolding is_operator is_break
-operator_breaks c h = none_of is_break (codes "+-*/%@&|^~<>=!()[]{},:.;") c refl h
 
 opening-not-closing : (c : ℕ) → is_opening c ≡ true → is_closing c ≡ false
 unfolding is_opening is_closing
@@ -110,16 +102,8 @@ ended_placed old field others stands = go field.region stands
 -- the scan is back in the string of a field that has ended
 pub resumed : (old : Scan) (outer : List Level) (openers : List ℕ) (field : OpenField) (others : List Frame) (i : InnermostField outer openers field others) (text : List ℕ) → IsInPlace (ended_in old field others) → old.stop + 1 ≡ byte_len (before i.level.place i.outside ++ (spelled i.level.done ++ text)) → Follows (ended_in old field others) (field_ended i.level i.outside text)
 resumed old outer openers field others i text placed stop =
-    record {
-      mode = ap (λ h. body h (region_in field.region) false between) i.at.host ∙ ap (λ p. body i.level.host p false between) i.at.region;
-      quote = ap (λ (h : Host). is_quote h.quote) i.at.host ∙ i.at.quote;
-      holds = tt;
-      no_list = i.at.bare;
-      placed = placed;
-      start = i.at.start;
-      frames = i.at.round;
-      stop = stop;
-    }
+    let mode = ap (λ h. body h (region_in field.region) false between) i.at.host ∙ ap (λ p. body i.level.host p false between) i.at.region in
+    search (mode, ap (λ (h : Host). is_quote h.quote) i.at.host ∙ i.at.quote, i.at, placed, stop)
 
 -- a character that ends the open piece of code, and is an operator
 module _ (old : Scan) (c : ℕ) (t : FieldScanned) (follow : Follows old t) (is : field_move t.mode t.held c ≡ breaks) (operates : is_operator c ≡ true) where
@@ -154,16 +138,13 @@ module _ (old : Scan) (c : ℕ) (t : FieldScanned) (follow : Follows old t) (is 
   -- it is refused
   wrongs : (mid : Scan) (kind : FaultKind) → mid ≡ old → room_step t c ≡ None → kind_of_cause (code_cause c) ≡ kind → TakesOne t c old (wrong_here mid kind) mid
   wrongs mid kind same none why =
-      subst (λ (s : Scan). TakesOne t c old (wrong_here s kind) s) (sym same) (none, fault_in_code old t c kind follow place (operator_breaks c operates) why, refl)
+      subst (λ (s : Scan). TakesOne t c old (wrong_here s kind) s) (sym same) (none, fault_in_code old t c kind follow place (operator-no_break c operates) why, refl)
 
   refuses : field_operator t.outer Done t.openers c ≡ None → room_step t c ≡ None
   refuses none = no_step t c breaks is (ap (field_started t.outer Done t.openers c) starts_with ∙ none)
 
   closing_cause : is_closing c ≡ true → kind_of_cause (code_cause c) ≡ kinds.WrongClose
   closing_cause closing = rw closing refl
-
-  opening_cause : is_opening c ≡ true → kind_of_cause (code_cause c) ≡ kinds.TooDeep
-  opening_cause opens = rw (opening-not-closing c opens, opens) refl
 
   -- it is a piece of its list, after which these brackets are open
   stays : (new : Scan) (fs : List Frame) (after : List ℕ) → new ≡ passed (record old { frames = fs }) 1 → openers_with t.openers c ≡ Some after → IsNoColon t.outer t.openers c → has_room_at (frames t) c breaks ≡ true → FramesFollow t.outer (Done ++ piece operator (c ∷ []) ∷ []) after fs → TakesOne t c old (progress.Going 1) new
@@ -174,8 +155,7 @@ module _ (old : Scan) (c : ℕ) (t : FieldScanned) (follow : Follows old t) (is 
 
   -- it opens a bracket, if there is room
   pub bracket_opens : is_opening c ≡ true → (met : Bool) → met ≡ true → (more : List Frame) → OpensBracket old.frames c old.stop met more → (mid new : Scan) → mid ≡ record old { frames = more } → new ≡ passed mid 1 → TakesOne t c old (progress.Going 1) new
-  bracket_opens opens true met_is more (few, more_is) mid new mid_is like =
-      let many = open-length old t follow in
+  bracket_opens opens true met_is more (few, more_is) mid new mid_is like = let many = open-length old t follow in
       stays new more (c ∷ t.openers) (like ∙ ap (λ (s : Scan). passed s 1) mid_is) (opening_pushes t.openers c opens) (no_colon t.outer t.openers c (ap (λ b. b && (length t.openers == 0)) (opening_no_colon c opens)))
       (opening_room (frames t) c opens ∙ lt-ltb (frames t) 200 (omega (arith, many, few)))
       (subst (FramesFollow t.outer (Done ++ piece operator (c ∷ []) ∷ []) (c ∷ t.openers)) (sym more_is) (bracket_opened t.outer Done t.openers old.frames c old.stop b.frames opens (omega (arith, many, few)) b.after))
@@ -184,11 +164,11 @@ module _ (old : Scan) (c : ℕ) (t : FieldScanned) (follow : Follows old t) (is 
   pub bracket_too_deep : is_opening c ≡ true → (met : Bool) → met ≡ false → (more : List Frame) → OpensBracket old.frames c old.stop met more → (mid : Scan) → mid ≡ record old { frames = more } → TakesOne t c old (wrong_here mid kinds.TooDeep) mid
   bracket_too_deep opens false met_is more (full, more_is) mid mid_is =
       wrongs mid kinds.TooDeep (mid_is ∙ ap (λ (fs : List Frame). record old { frames = fs }) more_is)
-      (no_room t c breaks is (opening_room (frames t) c opens ∙ ap (λ (n : ℕ). nat_lt n 200) (sym (open-length old t follow)) ∙ full)) (opening_cause opens)
+      (no_room t c breaks is (opening_room (frames t) c opens ∙ ap (λ (n : ℕ). nat_lt n 200) (sym (open-length old t follow)) ∙ full)) (rw (opening-not-closing c opens, opens) refl)
   bracket_too_deep opens true met_is more few mid mid_is = absurd (cc)
 
   -- a sign is taken, whatever is open
-  sign_passes : is_opening c ≡ false → is_closing c ≡ false → IsNoColon t.outer t.openers c → (new : Scan) → new ≡ passed old 1 → TakesOne t c old (progress.Going 1) new
+  pub sign_passes : is_opening c ≡ false → is_closing c ≡ false → IsNoColon t.outer t.openers c → (new : Scan) → new ≡ passed old 1 → TakesOne t c old (progress.Going 1) new
   sign_passes opens closes colon new like =
       stays new old.frames t.openers like (others_keep t.openers c opens closes) colon (no_opening (frames t) c opens)
       (frames_alike t.outer Done (Done ++ piece operator (c ∷ []) ∷ []) t.openers old.frames (neutral_alike Done operator (c ∷ []) opens closes) b.frames)
@@ -205,8 +185,7 @@ module _ (old : Scan) (c : ℕ) (t : FieldScanned) (follow : Follows old t) (is 
     colon = no_colon t.outer t.openers c (ap (λ (os : List ℕ). (c == 58) && (length os == 0)) inner.4 ∙ and_right (c == 58) (length (opener ∷ Others) == 0) (ne_eqb (length (opener ∷ Others)) 0 (λ none. omega (arith, none))))
 
     bracket_closes : is_closing c ≡ true → c ≡ closing_of opener → (new : Scan) → new ≡ passed (record old { frames = others }) 1 → TakesOne t c old (progress.Going 1) new
-    bracket_closes closing fits new like =
-        let same : c == closing_of opener ≡ true = eq-eqb c (closing_of opener) fits in
+    bracket_closes closing fits new like = let same : c == closing_of opener ≡ true = eq-eqb c (closing_of opener) fits in
         stays new others Others like (ap (λ (os : List ℕ). openers_with os c) inner.4 ∙ closing_pops opener Others c closing same) colon (no_opening (frames t) c (closing-not-opening c closing))
         (bracket_closed t.outer Done t.openers Others old.frames others opener spot c b.frames top inner.4 closing same)
 
@@ -260,14 +239,12 @@ module _ (old : Scan) (c : ℕ) (t : FieldScanned) (follow : Follows old t) (is 
 
     -- its string goes on with the text of the field's code, and this after it
     code_text : old.stop + 1 ≡ byte_len (before i.level.place i.outside ++ (spelled i.level.done ++ (i.level.front ++ (spelled Done ++ c ∷ []))))
-    code_text =
-        after_one ∙ ap (λ (ls : List Level). byte_len (before literal ls ++ spelled Done) + len_utf8 c) i.outer_is
+    code_text = after_one ∙ ap (λ (ls : List Level). byte_len (before literal ls ++ spelled Done) + len_utf8 c) i.outer_is
         ∙ sym (push_two (before literal (i.level ∷ i.outside)) (spelled Done) c) ∙ ap byte_len (simp append_assoc)
 
     pub field_ends : c ≡ byte "}" → IsInPlace (ended_in old field others) → (new : Scan) → new ≡ ended_in old field others → TakesOne t c old (progress.Going 1) new
     unfolding is_opening code_operator
-    field_ends ends placed new like =
-        let text : List ℕ = i.level.front ++ (spelled Done ++ c ∷ []) in
+    field_ends ends placed new like = let text : List ℕ = i.level.front ++ (spelled Done ++ c ∷ []) in
         takes new (ended_in old field others) (field_ended i.level i.outside text) like (in_code (Some (field_ended i.level i.outside text)) (rw (eq-eqb c (byte "}") ends)))
         (no_opening (frames t) c (ap is_opening ends)) (resumed old t.outer t.openers field others i text placed code_text)
 

@@ -1,7 +1,7 @@
 -- What a character does to the text of a string: its own quote, a backslash and what it escapes, and any other character.
 use Rattle.std.proofs.Common.{◌≡◌, ℕ, ◌<◌, ◌≤◌, Bool, true, false, not, ◌&&◌, ◌==◌, List, [], ◌∷◌, ◌++◌, drop, slice_index, refl, sym, ap, ◌∙◌, subst, arith, ⊎_elim}
 use Rattle.std.specs.Char.{len_utf8}
-use Rattle.std.proofs.lemmas.Bool.{and_left, both_ways, cases_Bool, cases_lt, eq-eqb, ne_eqb, or_from, or_right}
+use Rattle.std.proofs.lemmas.Bool.{and_left, both_ways, cases_Bool, cases_lt, eq-eqb, ne_eqb, or_from}
 use Rattle.std.proofs.lemmas.Str.{encode_ascii}
 use Rattle.py_lines.specs.Character.{is_backslash, is_brace, is_break, is_line_feed, is_quote, is_return}
 use Rattle.py_lines.specs.FieldStrings.{Host, Place, literal, specification, names}
@@ -9,12 +9,11 @@ use Rattle.py_lines.specs.declared.mode.Mode.{Mode as OpenMode}
 use Rattle.py_lines.specs.declared.mode.Mode.TheVariants as opens
 use Rattle.py_lines.specs.Private.Mode as modes
 use Rattle.py_lines.specs.Private.Machine.{Mode, class_of, is_after_backslash, long_move, move_of, short_move}
-use Rattle.py_lines.specs.Private.FieldMachine.{At, FieldMode, after_brace, after_name, after_one, after_open_backslash, after_return, after_slash, after_two, between, between_move, body, body_move, closing_move, escape_move, field_move, grows, is_after_brace, is_barred_escape, plain, refused, text_place, with_quote}
+use Rattle.py_lines.specs.Private.FieldMachine.{At, FieldMode, after_name, after_one, after_open_backslash, after_return, after_slash, after_two, between, between_move, body, body_move, closing_move, escape_move, field_move, grows, is_after_brace, is_barred_escape, plain, refused, text_place, with_quote}
 use Rattle.py_lines.specs.Private.FieldFaults.{cause_in, is_waiting, quotes_specification}
 use Rattle.py_lines.specs.Private.Run.{BeginsWith}
 use Rattle.py_lines.specs.Private.Scan.{HasQuote, IsFirstByte, IsTextAt, TextAlike, TextAs, is_part_of_text, is_pending, is_specification, is_text, mode_from}
 use Rattle.py_lines.proofs.Text.CharacterTests.{break-not-others, not_quote}
-use Rattle.std.proofs.Math.Bool.{and-true}
 pub use Rattle.py_lines.proofs.Text.FirstBytes.{first_low as the_low}
 use Rattle.py_lines.proofs.Text.FirstBytes.{first_other as differs_by, first_self}
 use Rattle.py_lines.proofs.LineScan.AsciiRuns.{quote_ascii}
@@ -39,36 +38,20 @@ record IsApart (c : ℕ) : Type 0 where
 
 high_apart : (c : ℕ) → 128 ≤ c → IsApart c
 unfolding is_backslash is_break is_return is_brace is_quote
-high_apart c high = record {
-  slash = rw (high_other c 92 high (omega arith));
-  break = rw (high_other c 10 high (omega arith), high_other c 13 high (omega arith));
-  return = rw (high_other c 13 high (omega arith));
-  brace = rw (high_other c 123 high (omega arith), high_other c 125 high (omega arith));
-  quote = rw (high_other c 39 high (omega arith), high_other c 34 high (omega arith));
-}
+high_apart c high =
+    grind (arith, high_other c 92 high, high_other c 10 high, high_other c 13 high, high_other c 123 high, high_other c 125 high, high_other c 39 high, high_other c 34 high)
 
 -- each character that begins with this byte does the same
 plain_alike : (b : ℕ) (m n : Mode) → class_of m ≡ class_of n → is_after_backslash m ≡ is_after_backslash n → ((c : ℕ) → IsFirstByte b c → field_move (plain m) [] c ≡ field_move (plain n) [] c) → TextAlike b (plain m) (plain n)
-plain_alike b m n class slash move = record {
-  place = refl;
-  class = class;
-  move = move;
-  cause = λ c depth first. rw slash refl;
-}
+plain_alike b m n class slash move = record { place = refl; class = class; move = move; cause = λ c depth first. rw slash refl }
 
 pub waits_not : (host : Host) (place : Place) (named : Bool) (at : At) → is_after_brace at ≡ false → is_waiting (body host place named at) ≡ false
-waits_not host literal named after_brace none = absurd (both_ways _ none refl)
-waits_not host literal named at none = refl
-waits_not host specification named at none = refl
+waits_not host literal named after_slash none = refl
+waits_not host place named at none = grind arith
 
 pub body_alike : (b : ℕ) (host : Host) (place : Place) (named : Bool) (at : At) → is_after_brace at ≡ false → ((c : ℕ) → IsFirstByte b c → body_move host place named at c ≡ body_move host place named between c) → TextAlike b (body host place named at) (body host place named between)
 unfolding field_move
-body_alike b host place named at none move = record {
-  place = refl;
-  class = refl;
-  move = move;
-  cause = λ c depth first. go c depth place;
-}
+body_alike b host place named at none move = record { place = refl; class = refl; move = move; cause = λ c depth first. go c depth place }
   where
     go : (c depth : ℕ) (p : Place) → cause_in depth (body host p named at) c ≡ cause_in depth (body host p named between) c
     go c depth literal = rw (waits_not host literal named at none) refl
@@ -81,18 +64,14 @@ text_as-self (b ∷ rest) m = record { place = refl; class = refl; move = λ c f
 -- where a string's text is open
 pub text_mode : (mode : OpenMode) (quote : ℕ) (long : Bool) (c : ℕ) → IsTextAt (mode_from mode) quote long c → is_quote quote ≡ true → (is_text mode ≡ true) × HasQuote mode
 text_mode (opens.Short q) quote long c at quotes = (refl, ap is_quote at.0 ∙ quotes)
-text_mode (opens.Long q) quote long c at quotes = (refl, ap is_quote at.0 ∙ quotes)
-text_mode (opens.Fields h region named) quote long c at quotes = (refl, ap is_quote at.0 ∙ quotes)
-text_mode m quote long c at quotes = absurd at
+text_mode m quote long c at quotes = grind arith
 
 pub pending_text : (mode : OpenMode) (m : FieldMode) (quote : ℕ) (long : Bool) (c : ℕ) (run : List ℕ) → IsTextAt m quote long c → is_part_of_text long quote run ≡ true → mode_from mode ≡ m → is_pending mode run ≡ true
 pending_text mode m quote long c run at part same = go mode (subst (λ x. IsTextAt x quote long c) (sym same) at)
   where
     go : (mode : OpenMode) → IsTextAt (mode_from mode) quote long c → is_pending mode run ≡ true
-    go (opens.Short q) at = ap (λ (p : ℕ). is_part_of_text false p run) at.0 ∙ ap (λ (b : Bool). is_part_of_text b quote run) (sym at.1) ∙ part
-    go (opens.Long q) at = ap (λ (p : ℕ). is_part_of_text true p run) at.0 ∙ ap (λ (b : Bool). is_part_of_text b quote run) (sym at.1) ∙ part
-    go (opens.Fields h region named) at = or_right _ _ (ap (λ (p : ℕ). is_part_of_text h.is_long p run) at.0 ∙ ap (λ (b : Bool). is_part_of_text b quote run) at.1 ∙ part)
-    go other at = absurd at
+    go (opens.Short q) at = grind arith
+    go other at = grind arith
 
 -- what holds of the first byte holds of the character
 pub text_at : (m : FieldMode) (quote : ℕ) (long : Bool) (bytes : List ℕ) (c : ℕ) → BeginsWith bytes c → IsTextAt m quote long (slice_index bytes 0) → IsTextAt m quote long c
@@ -102,10 +81,8 @@ text_at m quote long bytes c next at = ⊎_elim (λ (low : c < 128). subst (λ (
     first low = sym (ap (λ t. slice_index t 0) (ap (λ t. t ++ drop (len_utf8 c) bytes) (sym (encode_ascii c low)) ∙ next.spell))
 
     high : (m : FieldMode) → IsTextAt m quote long (slice_index bytes 0) → 128 ≤ c → IsTextAt m quote long c
-    high (plain (modes.Inside q)) at is = at
-    high (plain (modes.Long q)) at is = at
-    high (body host place named between) at is = (at.0, at.1, (high_apart c is).slash, high_other c 125 is (omega arith), and_left _ _ (high_other c 123 is (omega arith)))
-    high m at is = absurd at
+    high (body host place named between) at is = grind (arith, high_apart c is, high_other c 125 is, high_other c 123 is)
+    high m at is = grind arith
 
 -- after one quote more of a long string
 abbrev pub with_one : FieldMode → FieldMode
@@ -121,18 +98,12 @@ pub record IsAtQuote (m : FieldMode) (quote : ℕ) (is : FieldMode) : Type 0 whe
   pub specified : quotes_specification is quote ≡ is_specification (text_place m)
   pub does : field_move is [] quote ≡ closing_move (text_place m)
 
-quotes_placed : (host : Host) (place : Place) (named : Bool) (at : At) (q : ℕ) → q == host.quote ≡ true → quotes_specification (body host place named at) q ≡ is_specification place
-quotes_placed host literal named at q own = refl
-quotes_placed host specification named at q own = own
-
 pub quote_closes : (m : FieldMode) (q : ℕ) → IsTextAt m q false q → IsAtQuote m q m
 unfolding field_move move_of body_move between_move
-quote_closes (plain (modes.Inside p)) q at = record { waits = refl; apart = refl; specified = refl; does = rw (eq-eqb q p (sym at.0)) }
-quote_closes (plain (modes.Long p)) q at = absurd (cc)
-quote_closes (body host place named between) q at =
-    let is = eq-eqb q host.quote (sym at.0) in
-    record { waits = waits_not host place named between refl; apart = refl; specified = quotes_placed host place named between q is; does = rw (is, at.1) }
-quote_closes m q at = absurd at
+quote_closes (plain (modes.Inside p)) q at = grind (arith, eq-eqb q p)
+quote_closes (body host literal named between) q at = grind (arith, eq-eqb q host.quote)
+quote_closes (body host specification named between) q at = grind (arith, eq-eqb q host.quote)
+quote_closes m q at = grind arith
 
 pub record TakesQuotes (m : FieldMode) (quote : ℕ) : Type 0 where
   pub first : field_move m [] quote ≡ grows (with_one m)
@@ -141,23 +112,14 @@ pub record TakesQuotes (m : FieldMode) (quote : ℕ) : Type 0 where
 
 pub quotes_long : (m : FieldMode) (q : ℕ) → IsTextAt m q true q → TakesQuotes m q
 unfolding field_move move_of body_move between_move
-quotes_long (plain (modes.Inside p)) q at = absurd (cc)
-quotes_long (plain (modes.Long p)) q at =
-    let is = eq-eqb q p (sym at.0) in
-    record { first = rw is; second = rw is; third = record { waits = refl; apart = refl; specified = refl; does = rw is } }
-quotes_long (body host place named between) q at =
-    let is = eq-eqb q host.quote (sym at.0) in
-    record {
-      first = rw (is, at.1);
-      second = rw (is, at.1);
-      third = record { waits = waits_not host place named after_two refl; apart = refl; specified = quotes_placed host place named after_two q is; does = rw (is, at.1) };
-    }
-quotes_long m q at = absurd at
+quotes_long (plain (modes.Long p)) q at = grind (arith, eq-eqb q p)
+quotes_long (body host literal named between) q at = grind (arith, eq-eqb q host.quote)
+quotes_long (body host specification named between) q at = grind (arith, eq-eqb q host.quote)
+quotes_long m q at = grind arith
 
 -- before another byte than the quote they are as if they weren't there
 pub quotes_apart : (m : FieldMode) (q b : ℕ) → IsTextAt m q true q → is_quote q ≡ true → b == q ≡ false → TextAlike b (with_one m) m × TextAlike b (with_one (with_one m)) m
 unfolding field_move move_of body_move between_move
-quotes_apart (plain (modes.Inside p)) q b at quotes other = absurd (cc)
 quotes_apart (plain (modes.Long p)) q b at quotes other =
     let none : (c : ℕ) → IsFirstByte b c → c == p ≡ false = λ c first. ap (λ (x : ℕ). c == x) at.0 ∙ first_other b c q first (quote_ascii q quotes) other in (
       plain_alike b (modes.LongOne p) (modes.Long p) refl refl (λ c first. rw (none c first)),
@@ -168,29 +130,20 @@ quotes_apart (body host place named between) q b at quotes other =
       body_alike b host place named after_one refl (λ c first. rw (none c first)),
       body_alike b host place named after_two refl (λ c first. rw (none c first)),
     )
-quotes_apart m q b at quotes other = absurd at
+quotes_apart m q b at quotes other = grind arith
 
 -- another character than quote, backslash and line end
 pub other_grows : (m : FieldMode) (q : ℕ) (long : Bool) (c : ℕ) → IsTextAt m q long c → c == q ≡ false → is_backslash c ≡ false → is_break c && not long ≡ false → field_move m [] c ≡ grows m
 unfolding field_move move_of short_move long_move body_move between_move
-other_grows (plain (modes.Inside p)) q long c at other slash break =
-    rw (ap (λ (x : ℕ). c == x) at.0 ∙ other, slash, sym (and-true (is_break c)) ∙ ap (λ b. is_break c && not b) (sym at.1) ∙ break)
-other_grows (plain (modes.Long p)) q long c at other slash break = rw (ap (λ (x : ℕ). c == x) at.0 ∙ other, slash)
-other_grows (body host place named between) q long c at other slash break =
-    rw (ap (λ (x : ℕ). c == x) at.0 ∙ other, slash, ap (λ b. is_break c && not b) at.1 ∙ break, at.4, at.3)
-other_grows m q long c at other slash break = absurd at
+other_grows (plain (modes.Inside p)) q long c at other slash break = grind arith
+other_grows m q long c at other slash break = grind arith
 
 -- a line end in a short string
 pub break_refused : (m : FieldMode) (q c : ℕ) → IsTextAt m q false c → is_quote q ≡ true → is_break c ≡ true → (field_move m [] c ≡ refused) × (is_waiting m ≡ false)
 unfolding field_move move_of short_move body_move between_move
-break_refused (plain (modes.Inside p)) q c at quotes break =
-    let none = break-not-others c break in
-    (rw (ap (λ (x : ℕ). c == x) at.0 ∙ not_quote c q quotes none.2, none.3, break), refl)
-break_refused (plain (modes.Long p)) q c at quotes break = absurd (cc)
-break_refused (body host place named between) q c at quotes break =
-    let none = break-not-others c break in
-    (rw (ap (λ (x : ℕ). c == x) at.0 ∙ not_quote c q quotes none.2, none.3, break, at.1), waits_not host place named between refl)
-break_refused m q c at quotes break = absurd at
+break_refused (plain (modes.Inside p)) q c at quotes break = grind (arith, break-not-others c break, not_quote c q quotes)
+break_refused (body host literal named between) q c at quotes break = grind (arith, break-not-others c break, not_quote c q quotes)
+break_refused m q c at quotes break = grind (arith, break-not-others c break, not_quote c q quotes)
 
 -- A backslash, and what this byte and others after it come to: a character of more bytes is as good as any other; CR may be the first of
 -- a line end; another one stands for itself.
@@ -216,21 +169,18 @@ pub record EscapesBy (m : FieldMode) (c : ℕ) (rest : List ℕ) : Type 0 where
 -- in a string without fields
 pub plain_escapes : (m : FieldMode) (q : ℕ) (long : Bool) (c : ℕ) (rest : List ℕ) → IsTextAt m q long 92 → is_quote q ≡ true → EscapesBy m c rest
 unfolding field_move move_of short_move long_move is_backslash is_return is_line_feed is_quote
-plain_escapes (plain (modes.Inside p)) q long c rest at quotes =
-    let own : is_quote p ≡ true = ap is_quote at.0 ∙ quotes in
+plain_escapes (plain (modes.Inside p)) q long c rest at quotes = let own : is_quote p ≡ true = ap is_quote at.0 ∙ quotes in
     record {
       slash = rw (not_quote 92 p own refl);
       wide = λ high. plain_alike c (modes.Escape p) (modes.Inside p) refl refl (λ d first.
-          let is = first_high c d first high in
-          let apart = high_apart d is in
+          let is = first_high c d first high in let apart = high_apart d is in
           rw (apart.return, high_other d p is (quote_ascii p own), apart.slash, apart.break) refl);
       low = λ low other. (plain (modes.Inside p), rw other, text_as-self rest (plain (modes.Inside p)));
       return = λ is. refl;
       feed = refl;
       no_feed = λ b other. plain_alike b (modes.EscapeReturn p) (modes.Inside p) refl refl (λ d first. rw (first_other b d 10 first (omega arith) other) refl);
     }
-plain_escapes (plain (modes.Long p)) q long c rest at quotes =
-    let own : is_quote p ≡ true = ap is_quote at.0 ∙ quotes in
+plain_escapes (plain (modes.Long p)) q long c rest at quotes = let own : is_quote p ≡ true = ap is_quote at.0 ∙ quotes in
     record {
       slash = rw (not_quote 92 p own refl);
       wide = λ high. plain_alike c (modes.LongEscape p) (modes.Long p) refl refl (λ d first.
@@ -255,33 +205,18 @@ not_barred host specification d none = and_left (is_break d) (not host.is_long) 
 -- a character that isn't ASCII stands for itself, after a backslash too
 wide_alike : (host : Host) (place : Place) (named : Bool) (d : ℕ) → is_quote host.quote ≡ true → 128 ≤ d → body_move host place named after_slash d ≡ body_move host place named between d
 unfolding body_move between_move escape_move
-wide_alike host place named d quotes is =
-    let apart = high_apart d is in
-    rw (
-      apart.brace,
-      not_barred host place d apart.break,
-      apart.return,
-      and_left (d == 78) (not host.is_raw) (high_other d 78 is (omega arith)),
-      not_quote d host.quote quotes apart.quote,
-      apart.slash,
-      and_left (is_break d) (not host.is_long) apart.break,
-      and_left (d == 123) (not named) (high_other d 123 is (omega arith)),
-      high_other d 125 is (omega arith),
-    ) refl
+wide_alike host place named d quotes is = let apart = high_apart d is in
+    grind (arith, apart, not_barred host place d apart.break, high_other d 78 is, not_quote d host.quote quotes apart.quote, high_other d 123 is, high_other d 125 is)
 
 -- another one after a backslash
 low_escaped : (host : Host) (place : Place) (named : Bool) (c : ℕ) (rest : List ℕ) → is_brace c ≡ false → is_barred_escape host place c ≡ false → is_return c ≡ false → HasNoName host c rest
     → (to : FieldMode) × (body_move host place named after_slash c ≡ grows to) × TextAs rest to (body host place named between)
 unfolding body_move escape_move
-low_escaped host place named c rest brace barred return named_so =
-    ⊎_elim
-    (λ (is : names host c ≡ true). let (d, after, same, other) = named_so is in (
-      body host place named after_name,
-      rw (brace, barred, return, is),
-      subst (λ x. TextAs x (body host place named after_name) (body host place named between)) (sym same)
-          (body_alike d host place named after_name refl (λ e first. rw (first_other d e 123 first (omega arith) other) refl)),
-    ))
-    (λ (none : names host c ≡ false). (body host place named between, rw (brace, barred, return, none), text_as-self rest (body host place named between))) (cases_Bool (names host c))
+low_escaped host place named c rest brace barred return named_so = ⊎_elim
+    (λ (is : names host c ≡ true). let (d, after, same, other) = named_so is in
+    let alike = body_alike d host place named after_name refl (λ e first. rw (first_other d e 123 first (omega arith) other) refl) in
+    (body host place named after_name, grind arith, subst (λ x. TextAs x (body host place named after_name) (body host place named between)) (sym same) alike))
+    (λ (none : names host c ≡ false). (body host place named between, grind arith, text_as-self rest (body host place named between))) (cases_Bool (names host c))
 
 pub body_escapes : (host : Host) (place : Place) (named : Bool) (c : ℕ) (rest : List ℕ) → is_quote host.quote ≡ true → is_brace c ≡ false → is_barred_escape host place c ≡ false → HasNoName host c rest → EscapesBy (body host place named between) c rest
 unfolding field_move body_move between_move escape_move is_backslash is_quote is_return is_line_feed is_brace

@@ -1,38 +1,205 @@
--- What one more character comes to, by what it does in the machine with fields: the open piece goes on, closes, or ends before another.
-use Rattle.std.proofs.Common.{◌≡◌, ℕ, ◌+◌, Bool, true, false, None, Some, List, [], ◌∷◌, ◌++◌, refl, sym, ap, ◌∙◌, subst, not, ◌||◌, ◌&&◌, ◌==◌, nat_lt, arith, append-nil, drop, ◌<◌, slice_index, inr}
-use Rattle.std.proofs.lemmas.Bool.{and_from, and_right, both_ways, false_from_ne_true, cond_both}
-use Rattle.std.specs.Prelude.{if◌then◌else◌, encode_utf8}
-use Rattle.std.specs.Char.{len_utf8}
-use Rattle.std.proofs.lemmas.Str.{len_utf8_ascii, len_utf8_bounds, encode_ascii}
-use Rattle.py_lines.specs.Character.{is_line_feed, is_break, is_return}
-use Rattle.py_lines.specs.Piece.{Piece, spelled, Class}
-use Rattle.py_lines.specs.Balance.{is_opening, is_closing}
-use Rattle.py_lines.specs.LogicalLine.{byte_len}
-use Rattle.py_lines.specs.FieldStrings.{literal, specification}
-use Rattle.py_lines.specs.declared.frames.Frame.{Frame}
+-- Where the scan stands as the machine does before some bytes: what holds of the state that it keeps count of holds of the one in which
+-- the machine is. And what one more character comes to, by what it does there: the open piece goes on, closes, or ends before another.
+use Rattle.std.proofs.Common.{◌≡◌, ℕ, ◌<◌, ◌==◌, ◌&&◌, not, inl, inr, ◌⊎◌, Bool, true, false, None, List, [], ◌∷◌, ◌++◌, length, refl, sym, ap, ◌∙◌, subst, arith, append_assoc, append-nil, slice_index, drop, ◌+◌, Some, ◌||◌, nat_lt}
+use Rattle.std.specs.Prelude.{encode_utf8, encode_utf8_all}
+use Rattle.std.specs.Char.{IsScalar, len_utf8}
+use Rattle.std.specs.Str.{all_scalars}
+use Rattle.std.proofs.lemmas.Bool.{and_from, and_parts, both_ways, and_right, false_from_ne_true}
+use Rattle.std.proofs.lemmas.Str.{encode_ascii, encodes-append, length-encode, len_utf8_bounds, len_utf8_ascii}
+use Rattle.py_lines.proofs.Text.Utf8Prefixes.{all_scalars-append}
 use Rattle.py_lines.specs.declared.mode.Mode.{Mode as OpenMode}
 use Rattle.py_lines.specs.declared.mode.Mode.TheVariants as opens
 use Rattle.py_lines.specs.declared.scan.LineFault.{LineFault}
 use Rattle.py_lines.specs.declared.scan.Progress.{Progress}
 use Rattle.py_lines.specs.declared.scan.Progress.TheVariants as progress
 use Rattle.py_lines.specs.declared.scan.Scan.{Scan}
-use Rattle.py_lines.specs.Private.Machine.{Mode, Move, Move as moves, Start, Start as starts, start_of, move_of}
+use Rattle.py_lines.specs.Piece.{Piece, spelled, Class}
+use Rattle.py_lines.specs.Character.{is_line_feed, is_break, is_return}
+use Rattle.py_lines.specs.LogicalLine.{byte_len}
 use Rattle.py_lines.specs.Private.Mode as modes
-use Rattle.py_lines.specs.Private.FieldMachine.{FieldMode, FieldMove, closes, Level, FieldScanned, body, field_fresh, field_move, field_moved, before, frames, has_room_at, roomy, room_step, plain, grows, breaks, field_state, field_class_of, field_closed, field_started, text_place, empty, field_pieces}
-use Rattle.py_lines.specs.Private.ScanMachine.{string_move, fielded_move}
+use Rattle.py_lines.specs.Private.Machine.{move_of, Mode, Start, Start as starts, start_of}
+use Rattle.py_lines.specs.Private.FieldMachine.{FieldMode, FieldScanned, Level, field_move, field_state, frames, plain, room_step, FieldMove, closes, body, field_fresh, field_moved, before, has_room_at, roomy, grows, breaks, field_class_of, field_closed, field_started, text_place, field_pieces}
+use Rattle.py_lines.specs.Private.FieldFaults.{here, cause_in, cause_place}
+use Rattle.py_lines.specs.Private.Scan.{ComesTo, EndsThere, EndsWithFeed, Follows, GoAlike, Goes, IsFirstByte, IsOneItem, IsWrongIn, Rests, StandsAs, Steps, IsFieldFault, ends_line, has_returned, is_return_at, mode_from, FramesFollow, GoesOver, HasQuote, HoldsCode, IsPlaced, TakesOne, is_line_ending, is_ending}
+use Rattle.py_lines.specs.Balance.{is_opening}
+use Rattle.py_lines.specs.FieldStrings.{literal, specification}
+use Rattle.py_lines.specs.declared.frames.Frame.{Frame}
 use Rattle.py_lines.specs.Private.Run.{BeginsWith}
-use Rattle.py_lines.specs.Private.Scan.{ComesTo, Follows, FramesFollow, GoesOver, HasNoList, HasQuote, HoldsCode, IsFieldFault, IsPlaced, IsWrongIn, Rests, TakesOne, ends_line, has_returned, is_line_ending, mode_from, GoAlike, IsFirstByte, is_ending}
 use Rattle.py_lines.proofs.Text.CharacterTests.{operator_ascii, each_of}
 use Rattle.py_lines.proofs.Pieces.PieceLists.{piece, spelled-push}
 use Rattle.py_lines.proofs.Machine.Starts as begun_so
-use Rattle.py_lines.proofs.Machine.Starts.{StartsSo, start-feed, start-return}
-use Rattle.py_lines.proofs.ScanMachine.Follows.{room_grows, room_closes, opens_no}
+use Rattle.py_lines.proofs.Machine.Starts.{StartsSo, opens_no, start-feed, start-return}
+use Rattle.py_lines.proofs.FieldMachine.Runs.{room_grows, room_closes}
 use Rattle.py_lines.proofs.FieldScans.Bytes.{byte_len-one, push_two, push_three}
 use Rattle.py_lines.proofs.FieldScans.Frames.{frames_alike}
-use Rattle.py_lines.proofs.FieldScans.Moves.{EndsBefore, ending_before, said}
-use Rattle.py_lines.proofs.FieldScans.Resting.{follows_open, rests_exact}
-use Rattle.py_lines.specs.Faults.{Cause, kind_of_cause, closes_wrong, opens_too_deep, begins_nothing}
-use Rattle.py_lines.specs.Private.FieldFaults.{cause_in, cause_place, here}
+use Rattle.py_lines.proofs.FieldScans.Moves.{EndsBefore, ending_before, list_at, said}
+use Rattle.py_lines.specs.Faults.{kind_of_cause}
+
+-- what the scan keeps count of is never the CR of a line end
+not_return : (m : OpenMode) → is_return_at (mode_from m) ≡ false
+not_return opens.Start = refl
+not_return m = refl
+
+pub follows_open : (scan : Scan) (t : FieldScanned) → Follows scan t → has_returned t ≡ false
+follows_open scan t follows = ap (λ b. b && (frames t == 0)) (ap is_return_at (sym follows.mode) ∙ not_return scan.mode)
+
+-- where no piece is open, none goes on
+ends_free : (b : ℕ) (outer : List Level) (done : List Piece) (openers : List ℕ) (m : FieldMode) (held : List ℕ) → m ≡ plain modes.Free → outer ≡ []
+    → EndsThere b (field_state outer done openers m held) (field_state outer done openers m held)
+unfolding field_move move_of
+ends_free b outer done openers (plain modes.Free) held is none = record { outside = none; pieces = refl; ends = λ c first. refl; ending = refl }
+ends_free b outer done openers m held is none = absurd (cc)
+
+-- a state is as good as itself
+pub alike_self : (b : ℕ) (t : FieldScanned) → has_returned t ≡ false → GoAlike b t t
+alike_self b t open_yet = grind (arith, ends_free b t.outer t.done t.openers t.mode t.held)
+
+pub stands_self : (rest : List ℕ) (t : FieldScanned) → has_returned t ≡ false → StandsAs rest t t
+stands_self [] t open_yet = refl
+stands_self (b ∷ rest) t open_yet = alike_self b t open_yet
+
+pub rests_exact : (scan : Scan) (t : FieldScanned) (rest : List ℕ) → Follows scan t → Rests scan t rest
+rests_exact scan t rest follows = record { as_if = t; follows = follows; stands = stands_self rest t (follows_open scan t follows) }
+
+-- before more bytes too
+stands_more : (rest more : List ℕ) (t u : FieldScanned) → has_returned u ≡ false → StandsAs rest t u → StandsAs (rest ++ more) t u
+stands_more [] more t u open_yet same = subst (λ x. StandsAs more x u) (sym same) (stands_self more u open_yet)
+stands_more (b ∷ rest) more t u open_yet alike = alike
+
+pub rests_more : (scan : Scan) (t : FieldScanned) (rest more : List ℕ) → Rests scan t rest → Rests scan t (rest ++ more)
+rests_more scan t rest more rests = record {
+  as_if = rests.as_if;
+  follows = rests.follows;
+  stands = stands_more rest more t rests.as_if (follows_open scan rests.as_if rests.follows) rests.stands;
+}
+
+-- it stops where the machine is
+stands_here : (rest : List ℕ) (t u : FieldScanned) → StandsAs rest t u → here t ≡ here u
+stands_here [] t u same = ap here same
+stands_here (b ∷ rest) t u alike = alike.here_is
+
+pub rests_stop : (scan : Scan) (t : FieldScanned) (rest : List ℕ) → Rests scan t rest → scan.stop ≡ here t
+rests_stop scan t rest rests = rests.follows.stop ∙ sym (stands_here rest t rests.as_if rests.stands)
+
+pub stands_open : (rest : List ℕ) (t u : FieldScanned) → has_returned u ≡ false → StandsAs rest t u → has_returned t ≡ false
+stands_open [] t u open_yet same = ap has_returned same ∙ open_yet
+stands_open (b ∷ rest) t u open_yet alike = alike.open_yet
+
+-- a character with which bytes begin begins with their first
+first_of : (code : List ℕ) (b : ℕ) (after rest : List ℕ) → 0 < length code → code ++ after ≡ b ∷ rest → slice_index code 0 ≡ b
+first_of [] b after rest some spell = absurd (omega (arith, some))
+first_of (x ∷ xs) b after rest some spell = let h = spell in cc
+
+pub first_byte : (c b : ℕ) (after rest : List ℕ) → IsScalar c → encode_utf8 c ++ after ≡ b ∷ rest → IsFirstByte b c
+first_byte c b after rest scalar spell = (scalar, first_of (encode_utf8 c) b after rest (omega (arith, length-encode c, len_utf8_bounds c)) spell)
+
+-- where the machine is, it goes the same way
+pub goes_real : (t u to : FieldScanned) (bytes run after : List ℕ) → StandsAs bytes t u → all_scalars run ≡ true → encode_utf8_all run ++ after ≡ bytes → 0 < length run → Goes u run to → Goes t run to
+goes_real t u to bytes [] after stands scalars spell some goes = absurd (omega (arith, some))
+goes_real t u to [] (c ∷ cs) after stands scalars spell some goes = subst (λ x. Goes x (c ∷ cs) to) (sym stands) goes
+goes_real t u to (b ∷ bytes) (c ∷ cs) after alike scalars spell some (open_yet, next, step, going, others) =
+    let first : IsFirstByte b c = first_byte c b (encode_utf8_all cs ++ after) bytes (and_parts _ _ scalars).0 (sym (append_assoc (encode_utf8 c) (encode_utf8_all cs) after) ∙ spell) in
+    (alike.open_yet, next, alike.step c first ∙ step, alike.ending c first ∙ going, others)
+
+-- its first step too
+pub first_real : (t u : FieldScanned) (bytes : List ℕ) (c : ℕ) (cs after : List ℕ) → StandsAs bytes t u → IsScalar c → encode_utf8_all (c ∷ cs) ++ after ≡ bytes → room_step t c ≡ room_step u c
+first_real t u [] c cs after same scalar spell = ap (λ x. room_step x c) same
+first_real t u (b ∷ bytes) c cs after alike scalar spell =
+    alike.step c (first_byte c b (encode_utf8_all cs ++ after) bytes scalar (sym (append_assoc (encode_utf8 c) (encode_utf8_all cs) after) ∙ spell))
+
+-- by one item too
+pub one_real : (t u : FieldScanned) (bytes run after : List ℕ) → StandsAs bytes t u → all_scalars run ≡ true → encode_utf8_all run ++ after ≡ bytes → IsOneItem u run → IsOneItem t run
+one_real t u bytes [] after stands scalars spell one = tt
+one_real t u bytes (c ∷ []) after stands scalars spell one = tt
+one_real t u [] (c ∷ d ∷ cs) after stands scalars spell one = subst (λ x. IsOneItem x (c ∷ d ∷ cs)) (sym stands) one
+one_real t u (b ∷ bytes) (c ∷ d ∷ cs) after alike scalars spell (next, step, on, others) =
+    let first : IsFirstByte b c = first_byte c b (encode_utf8_all (d ∷ cs) ++ after) bytes (and_parts _ _ scalars).0 (sym (append_assoc (encode_utf8 c) (encode_utf8_all (d ∷ cs)) after) ∙ spell) in
+    (next, alike.step c first ∙ step, on, others)
+
+some_run : (run : List ℕ) (len : ℕ) → byte_len run ≡ len → 0 < len → 0 < length run
+some_run [] len size some = absurd (omega (arith, size, some))
+some_run (c ∷ cs) len size some = omega arith
+
+-- over all characters
+record OverAll (t u : FieldScanned) (run : List ℕ) (to : FieldScanned) : Type 0 where
+  at : FieldScanned
+  goes : Goes t run at
+  returns : has_returned at ≡ true → has_returned to ≡ true
+
+over_all : (t u : FieldScanned) (bytes run rest : List ℕ) (to : FieldScanned) → 0 < length bytes → StandsAs bytes t u → all_scalars run ≡ true → encode_utf8_all run ++ rest ≡ bytes → Goes u run to → OverAll t u run to
+over_all t u [] run rest to some stands scalars spell goes = absurd (omega (arith, some))
+over_all t u (b ∷ bytes) [] rest to some alike scalars spell goes = record { at = t; goes = refl; returns = λ is. absurd (both_ways _ alike.open_yet is) }
+over_all t u (b ∷ bytes) (c ∷ cs) rest to some alike scalars spell goes =
+    record { at = to; goes = goes_real t u to (b ∷ bytes) (c ∷ cs) rest alike scalars spell (omega arith) goes; returns = λ is. is }
+
+-- LF or CR is one byte
+low_spell : (c : ℕ) (after : List ℕ) → c < 128 → encode_utf8_all (c ∷ []) ++ after ≡ c ∷ after
+low_spell c after low = ap (λ x. (x ++ []) ++ after) (encode_ascii c low)
+
+low_run : (run after : List ℕ) → (run ≡ []) ⊎ (run ≡ 13 ∷ []) → (all_scalars run ≡ true) × (encode_utf8_all run ++ after ≡ run ++ after)
+low_run run after (inl is) = rw is (refl, refl)
+low_run run after (inr is) = rw is (refl, low_spell 13 after (omega arith))
+
+-- where it comes to by all characters before another, that one does to it what it does where the scan keeps count
+record Next (t : FieldScanned) (run : List ℕ) (c : ℕ) (to : FieldScanned) : Type 0 where
+  at : FieldScanned
+  goes : Goes t run at
+  step : room_step at c ≡ room_step to c
+  ending : ends_line at c ≡ ends_line to c
+  fault : room_step at c ≡ None → (f : LineFault) → IsFieldFault to c f → IsFieldFault at c f
+  returns : (b : Bool) → has_returned to && b ≡ false → has_returned at && b ≡ false
+
+next_real : (t u to : FieldScanned) (bytes run after : List ℕ) (c : ℕ) → StandsAs bytes t u → all_scalars run ≡ true → IsScalar c → encode_utf8_all run ++ (encode_utf8 c ++ after) ≡ bytes → Goes u run to → Next t run c to
+next_real t u to [] run after c same scalars scalar spell goes =
+    record { at = to; goes = subst (λ x. Goes x run to) (sym same) goes; step = refl; ending = refl; fault = λ none f is. is; returns = λ b is. is }
+next_real t u to (b ∷ bytes) [] after c alike scalars scalar spell goes = let first : IsFirstByte b c = first_byte c b after bytes scalar spell in
+    subst (Next t [] c) goes
+    (record { at = t; goes = refl; step = alike.step c first; ending = alike.ending c first; fault = alike.fault c first; returns = λ x is. ap (λ y. y && x) alike.open_yet })
+next_real t u to (b ∷ bytes) (d ∷ ds) after c alike scalars scalar spell goes =
+    let over = goes_real t u to (b ∷ bytes) (d ∷ ds) (encode_utf8 c ++ after) alike scalars spell (omega arith) goes in
+    record { at = to; goes = over; step = refl; ending = refl; fault = λ none f is. is; returns = λ x is. is }
+
+-- what ends with LF
+feed_real : (t u : FieldScanned) (bytes : List ℕ) (len : ℕ) (new : Scan) → StandsAs bytes t u → EndsWithFeed u bytes len new → EndsWithFeed t bytes len new
+feed_real t u bytes len new stands e = let low = low_run e.run (10 ∷ e.rest) e.first in
+    let spell = ap (λ x. encode_utf8_all e.run ++ (x ++ e.rest)) (encode_ascii 10 (omega arith)) ∙ low.1 ∙ e.spell in
+    let at = next_real t u e.to bytes e.run e.rest 10 stands low.0 refl spell e.goes in search (e, at.goes, at.ending ∙ e.ends, at.step ∙ e.step)
+
+-- a character is refused for the same reason
+wrong_real : (t u : FieldScanned) (bytes : List ℕ) (f : LineFault) → StandsAs bytes t u → IsWrongIn u bytes f → IsWrongIn t bytes f
+wrong_real t u bytes f stands w = let last = w.c ∷ [] in
+    let spell_all : encode_utf8_all (w.run ++ last) ++ w.after ≡ bytes =
+    ap (λ x. x ++ w.after) (encodes-append w.run last) ∙ append_assoc (encode_utf8_all w.run) (encode_utf8_all last) w.after
+    ∙ ap (λ x. encode_utf8_all w.run ++ (x ++ w.after)) (append-nil (encode_utf8 w.c)) ∙ w.spell in
+    let at = next_real t u w.to bytes w.run w.after w.c stands w.scalars w.scalar w.spell w.goes in
+    let none : room_step at.at w.c ≡ None = at.step ∙ w.none in
+    search (
+      w,
+      at.goes,
+      one_real t u bytes (w.run ++ last) w.after stands (all_scalars-append w.run last w.scalars (and_from _ _ w.scalar refl)) spell_all w.one,
+      at.returns (not (is_line_feed w.c)) w.open_yet,
+      none,
+      at.fault none f w.fault,
+    )
+
+-- so what a step comes to
+pub comes_real : (old new : Scan) (bytes : List ℕ) (p : Progress) (t : FieldScanned) → 0 < length bytes → Rests old t bytes → Steps old bytes p new → ComesTo t bytes old p new
+comes_real old new bytes p t some rests steps = by p (steps rests.as_if rests.follows)
+  where
+    by : (q : Progress) → ComesTo rests.as_if bytes old q new → ComesTo t bytes old q new
+    by (progress.Going len) o =
+        search (o, goes_real t rests.as_if o.to bytes o.run (drop len bytes) rests.stands o.scalars o.spell (some_run o.run len o.size o.some) o.goes, one_real t rests.as_if bytes o.run (drop len bytes) rests.stands o.scalars o.spell o.one)
+    by (progress.LineEnded len) (inl e) = inl (feed_real t rests.as_if bytes len new rests.stands e)
+    by (progress.LineEnded len) (inr e) =
+        inr (search (e, goes_real t rests.as_if e.to bytes (13 ∷ []) (e.b ∷ e.rest) rests.stands refl (low_spell 13 (e.b ∷ e.rest) (omega arith) ∙ sym e.spell) (omega arith) e.goes))
+    by progress.Waits (all, alone, pending, same) =
+        let o = over_all t rests.as_if bytes all.run all.rest all.to some rests.stands all.scalars all.spell all.goes in (
+          search (all, o.goes, one_real t rests.as_if bytes all.run all.rest rests.stands all.scalars all.spell all.one),
+          (λ is. alone (o.returns is)),
+          pending,
+          same,
+        )
+    by (progress.Wrong f) (wrong, same) = (wrong_real t rests.as_if bytes f rests.stands wrong, same)
 
 -- a contradiction, which `cc` finds faster here than where much is known
 pub some_level : (l : Level) (ls : List Level) → l ∷ ls ≡ [] → ⊥
@@ -46,24 +213,11 @@ is_closing_move _ = false
 pub keeps_open : (v : FieldMove) → is_closing_move v ≡ false → v ≡ closes → ⊥
 keeps_open v other is = both_ways _ other (ap is_closing_move is)
 
--- what doesn't close a string that is alone goes on in it
-string_goes : (outer : List Level) (v : FieldMove) (next : FieldScanned) → (outer ≡ [] → v ≡ closes → ⊥) → string_move outer v (Some next) ≡ moves.Grows modes.Fielded
-string_goes [] closes next open_still = absurd (open_still refl refl)
-string_goes [] v next open_still = refl
-string_goes (l ∷ ls) v next open_still = refl
-
 -- the machine goes on by a character that ends no line
 abbrev pub StepsOn : FieldScanned → ℕ → FieldScanned → Type 0
 StepsOn t c u = (room_step t c ≡ Some u) × (ends_line t c ≡ false)
 
 module _ (t : FieldScanned) (c : ℕ) (v : FieldMove) (is : field_move t.mode t.held c ≡ v) where
-  -- such a string goes on, where so many brackets are open round it
-  pub goes_through : (depth : ℕ) (next : FieldScanned) → has_room_at (depth + frames t) c v ≡ true → field_moved t c v ≡ Some next → (t.outer ≡ [] → v ≡ closes → ⊥) → fielded_move depth (Some t) c ≡ moves.Grows modes.Fielded
-  goes_through depth next room comes open_still =
-      let if_room : Bool → Move → Move = λ b w. if b then w else moves.Refused in
-      ap (λ w. if_room (has_room_at (depth + frames t) c w) (string_move t.outer w (field_moved t c w))) is
-      ∙ ap (λ b. if_room b (string_move t.outer v (field_moved t c v))) room ∙ ap (string_move t.outer v) comes ∙ string_goes t.outer v next open_still
-
   -- what the machine does, where there is room
   pub by_room : room_step t c ≡ roomy (has_room_at (frames t) c v) (field_moved t c v)
   by_room = ap (λ w. roomy (has_room_at (frames t) c w) (field_moved t c w)) is
@@ -85,11 +239,7 @@ module _ (t : FieldScanned) (c : ℕ) (v : FieldMove) (is : field_move t.mode t.
 
   -- it may not stand there
   pub no_step : field_moved t c v ≡ None → room_step t c ≡ None
-  no_step none = by_room ∙ ap (roomy (has_room_at (frames t) c v)) none ∙ go (has_room_at (frames t) c v)
-    where
-      go : (b : Bool) → roomy b None ≡ None
-      go true = refl
-      go false = refl
+  no_step none = by_room ∙ ap (roomy (has_room_at (frames t) c v)) none ∙ grind arith
 
 -- only CR with LF after it, and LF alone, end a line
 pub no_line_end : (m : FieldMode) (v : FieldMove) (c : ℕ) → (v ≡ closes → m ≡ plain modes.Return → ⊥) → (v ≡ breaks → is_line_feed c ≡ false) → is_line_ending m v c ≡ false
@@ -140,34 +290,22 @@ pub record StandsAt (t : FieldScanned) (fs : List Frame) (start stop : ℕ) : Ty
   pub ends : stop ≡ byte_len (before literal t.outer ++ (spelled t.done ++ t.held))
 
 pub stands_at : (scan : Scan) (t : FieldScanned) → Follows scan t → text_place t.mode ≡ literal → StandsAt t scan.frames scan.start scan.stop
-stands_at scan t follow place = record {
-  place = place;
-  frames = follow.frames;
-  begins = follow.start ∙ ap (λ p. byte_len (before p t.outer ++ spelled t.done)) place;
-  ends = follow.stop ∙ ap (λ p. byte_len (before p t.outer ++ (spelled t.done ++ t.held))) place;
-}
+stands_at scan t follow place = let ends = follow.stop ∙ ap (λ p. byte_len (before p t.outer ++ (spelled t.done ++ t.held))) place in
+    search (place, follow.frames, follow.start ∙ ap (λ p. byte_len (before p t.outer ++ spelled t.done)) place, ends)
+
+-- the text of a specification stands in its field, wherever its text is
+pub placed_at : (m n : FieldMode) (fs : List Frame) → text_place n ≡ text_place m → IsPlaced m fs → IsPlaced n fs
+placed_at (body h specification b a) (body host specification named at) fs same placed = placed
+placed_at m (body host specification named at) fs same placed = absurd (cc)
+placed_at m n fs same placed = tt
 
 -- the scan that follows there
-no_list_at : (m : FieldMode) (done : List Piece) (openers : List ℕ) → text_place m ≡ literal → HasNoList m done openers
-no_list_at (body h specification named at) done openers place = absurd (cc)
-no_list_at m done openers place = tt
-
-placed_at : (m : FieldMode) (fs : List Frame) → text_place m ≡ literal → IsPlaced m fs
-placed_at (body h specification named at) fs place = absurd (cc)
-placed_at m fs place = tt
-
 pub follows_at : (t : FieldScanned) (fs : List Frame) (start stop : ℕ) (code : OpenMode) → StandsAt t fs start stop → mode_from code ≡ t.mode → HoldsCode t.mode t.held → HasQuote code
     → Follows (record { mode = code; start = start; frames = fs; stop = stop }) t
-follows_at t fs start stop code at mode holds quote = record {
-  mode = mode;
-  holds = holds;
-  quote = quote;
-  frames = at.frames;
-  no_list = no_list_at t.mode t.done t.openers at.place;
-  placed = placed_at (mode_from code) fs (ap text_place mode ∙ at.place);
-  start = at.begins ∙ ap (λ p. byte_len (before p t.outer ++ spelled t.done)) (sym at.place);
-  stop = at.ends ∙ ap (λ p. byte_len (before p t.outer ++ (spelled t.done ++ t.held))) (sym at.place);
-}
+follows_at t fs start stop code at mode holds quote =
+    let begins = at.begins ∙ ap (λ p. byte_len (before p t.outer ++ spelled t.done)) (sym at.place) in
+    let ends = at.ends ∙ ap (λ p. byte_len (before p t.outer ++ (spelled t.done ++ t.held))) (sym at.place) in
+    search (mode, holds, quote, at.frames, list_at (plain modes.Free) t.mode t.done t.openers at.place tt, placed_at (plain modes.Free) (mode_from code) fs (ap text_place mode ∙ at.place) tt, begins, ends)
 
 module _ (t : FieldScanned) (fs : List Frame) (start stop : ℕ) (at : StandsAt t fs start stop) (c : ℕ) where
   -- the open piece grows
@@ -178,12 +316,7 @@ module _ (t : FieldScanned) (fs : List Frame) (start stop : ℕ) (at : StandsAt 
       steps t c (grows m) is (field_state t.outer t.done t.openers m (t.held ++ c ∷ [])) (room_grows (frames t) c m) refl,
       goes_on t c (grows m) is (no_line_end t.mode (grows m) c (λ e. absurd (cc)) (λ e. absurd (cc))),
     ),
-    record {
-      place = place;
-      frames = at.frames;
-      begins = at.begins;
-      ends = ap (λ (n : ℕ). n + len_utf8 c) at.ends ∙ sym (push_three (before literal t.outer) (spelled t.done) t.held c);
-    },
+    search (place, at, ap (λ (n : ℕ). n + len_utf8 c) at.ends ∙ sym (push_three (before literal t.outer) (spelled t.done) t.held c)),
   )
 
   -- it closes
@@ -191,8 +324,7 @@ module _ (t : FieldScanned) (fs : List Frame) (start stop : ℕ) (at : StandsAt 
   Shut = field_fresh t.outer (t.done ++ piece (field_class_of t.mode) (t.held ++ c ∷ []) ∷ []) t.openers
 
   pub stands_shut : HoldsCode t.mode t.held → field_move t.mode t.held c ≡ closes → (room_step t c ≡ Some Shut) × Follows (record { mode = opens.Free; start = stop + len_utf8 c; frames = fs; stop = stop + len_utf8 c }) Shut
-  stands_shut holds is =
-      let so = said t.mode t.held c closes holds is in
+  stands_shut holds is = let so = said t.mode t.held c closes holds is in
       let done : List Piece = t.done ++ piece (field_class_of t.mode) (t.held ++ c ∷ []) ∷ [] in
       let made : Scan = record { mode = opens.Free; start = start; frames = fs; stop = stop + len_utf8 c } in (
         steps t c closes is Shut (room_closes (frames t) c) refl,
@@ -207,12 +339,8 @@ module _ (t : FieldScanned) (fs : List Frame) (start stop : ℕ) (at : StandsAt 
     pub after : stop ≡ byte_len (before literal t.outer ++ spelled (field_closed t.mode t.done t.held))
 
   pub broken : HoldsCode t.mode t.held → field_move t.mode t.held c ≡ breaks → Broken
-  broken holds is =
-      let b = said t.mode t.held c breaks holds is in
-      record {
-        frames = frames_alike t.outer t.done (field_closed t.mode t.done t.held) t.openers fs (b.neutral t.done) at.frames;
-        after = at.ends ∙ ap (λ x. byte_len (before literal t.outer ++ x)) (sym (b.spells t.done));
-      }
+  broken holds is = let b = said t.mode t.held c breaks holds is in
+      search (frames_alike t.outer t.done (field_closed t.mode t.done t.held) t.openers fs (b.neutral t.done) at.frames, at.ends ∙ ap (λ x. byte_len (before literal t.outer ++ x)) (sym (b.spells t.done)))
 
   -- another begins with it
   abbrev pub Opening : Mode → FieldScanned
@@ -226,27 +354,13 @@ module _ (t : FieldScanned) (fs : List Frame) (start stop : ℕ) (at : StandsAt 
               (ap (field_started t.outer (field_closed t.mode t.done t.held) t.openers c) starts_with),
           goes_on t c breaks is (no_line_before t.mode c (starts.Open m) starts_with (λ other. absurd (cc))),
         ),
-        record {
-          place = refl;
-          frames = b.frames;
-          begins = b.after;
-          ends = ap (λ (n : ℕ). n + len_utf8 c) b.after ∙ sym (push_two (before literal t.outer) (spelled (field_closed t.mode t.done t.held)) c);
-        },
+        search (b, ap (λ (n : ℕ). n + len_utf8 c) b.after ∙ sym (push_two (before literal t.outer) (spelled (field_closed t.mode t.done t.held)) c)),
       )
 
 -- one character with which the bytes begin is taken
 pub over_one : (t u : FieldScanned) (c : ℕ) (bytes : List ℕ) (new : Scan) → BeginsWith bytes c → has_returned t ≡ false → StepsOn t c u → Rests new u (drop (len_utf8 c) bytes) → GoesOver t bytes (len_utf8 c) new
-over_one t u c bytes new first open_yet step rests = record {
-  some = omega (arith, len_utf8_bounds c);
-  run = c ∷ [];
-  spell = ap (λ x. x ++ drop (len_utf8 c) bytes) (append-nil (encode_utf8 c)) ∙ first.spell;
-  scalars = and_from _ _ first.scalar refl;
-  size = byte_len-one c;
-  to = u;
-  goes = (open_yet, u, step.0, step.1, refl);
-  one = tt;
-  rests = rests;
-}
+over_one t u c bytes new first open_yet step rests = let goes : Goes t (c ∷ []) u = (open_yet, u, step.0, step.1, refl) in
+    search ((len_utf8_bounds c).0, ap (λ x. x ++ drop (len_utf8 c) bytes) (append-nil (encode_utf8 c)) ∙ first.spell, and_from _ _ first.scalar refl, byte_len-one c, goes, rests)
 
 -- or it is refused
 pub wrong_at : (t : FieldScanned) (c : ℕ) (bytes : List ℕ) (line_fault : LineFault) → BeginsWith bytes c → has_returned t ≡ false → room_step t c ≡ None → IsFieldFault t c line_fault → IsWrongIn t bytes line_fault
@@ -276,14 +390,7 @@ one_comes t c bytes old new progress.Waits first one follow none = absurd none
 -- A piece that ends before the next byte counts as finished: the machine comes to the same from its state and from that after the piece.
 ending_cause : (m : FieldMode) (depth c : ℕ) → is_ending m ≡ true → cause_in depth m c ≡ cause_in depth (plain modes.Free) c
 ending_cause (plain modes.Start) depth c may = refl
-ending_cause (plain modes.Free) depth c may = refl
-ending_cause (plain modes.Space) depth c may = refl
-ending_cause (plain modes.Comment) depth c may = refl
-ending_cause (plain (modes.Empty q)) depth c may = refl
-ending_cause (plain modes.JoinReturn) depth c may = refl
-ending_cause (plain modes.Return) depth c may = refl
-ending_cause (empty host) depth c may = refl
-ending_cause m depth c may = absurd (both_ways _ refl may)
+ending_cause m depth c may = grind arith
 
 -- LF ends a line before which a piece ends
 ending_breaks : (m : FieldMode) (c : ℕ) → is_line_ending m breaks c ≡ is_line_ending (plain modes.Free) breaks c
@@ -305,10 +412,8 @@ break_starts c h =
     ) h
 
 taken_some : (outer : List Level) (done : List Piece) (openers : List ℕ) (c : ℕ) (x : Start) → IsTaken x → field_started outer done openers c x ≡ None → ⊥
-taken_some outer done openers c (starts.Open m) taken none = cc
-taken_some outer done openers c starts.LineEnd taken none = cc
 taken_some outer done openers c starts.Operator taken none = taken
-taken_some outer done openers c starts.Nothing taken none = taken
+taken_some outer done openers c x taken none = grind arith
 
 module _ (b : ℕ) (t : FieldScanned) (may : is_ending t.mode ≡ true) (holds : HoldsCode t.mode t.held) (open_yet : has_returned t ≡ false) (ends : (c : ℕ) → IsFirstByte b c → field_move t.mode t.held c ≡ breaks) where
   abbrev U : FieldScanned
@@ -318,8 +423,7 @@ module _ (b : ℕ) (t : FieldScanned) (may : is_ending t.mode ≡ true) (holds :
   before_it = ending_before t.mode t.held may holds
 
   here_same : here t ≡ here U
-  here_same =
-      ap (λ p. byte_len (before p t.outer ++ (spelled t.done ++ t.held))) before_it.place
+  here_same = ap (λ p. byte_len (before p t.outer ++ (spelled t.done ++ t.held))) before_it.place
       ∙ ap (λ x. byte_len (before literal t.outer ++ x)) (sym (before_it.spells t.done) ∙ sym (append-nil (spelled (field_pieces t))))
 
   free_breaks : (c : ℕ) → field_move U.mode U.held c ≡ breaks
@@ -342,9 +446,7 @@ module _ (b : ℕ) (t : FieldScanned) (may : is_ending t.mode ≡ true) (holds :
 
   -- the place of the fault
   place_same : (c depth : ℕ) → is_break c ≡ false → cause_place U (cause_in depth U.mode c) ≡ cause_place t (cause_in depth U.mode c)
-  place_same c depth none =
-      rw none (cond_both (is_closing c) closes_wrong (if is_opening c then opens_too_deep else begins_nothing) (λ (x : Cause). cause_place U x ≡ cause_place t x) (λ h. sym here_same)
-      (λ h. cond_both (is_opening c) opens_too_deep begins_nothing (λ (x : Cause). cause_place U x ≡ cause_place t x) (λ k. sym here_same) (λ k. sym here_same)))
+  place_same c depth none = grind (arith, here_same)
 
   pub ends_alike : GoAlike b t U
   ends_alike = record {
@@ -370,14 +472,9 @@ free_at fs stop = record { mode = opens.Free; start = stop; frames = fs; stop = 
 -- it stands as if before the next byte
 pub rests_ended : (t : FieldScanned) (fs : List Frame) (start stop b : ℕ) (rest : List ℕ) → StandsAt t fs start stop → is_ending t.mode ≡ true → HoldsCode t.mode t.held → has_returned t ≡ false
     → ((c : ℕ) → IsFirstByte b c → field_move t.mode t.held c ≡ breaks) → Rests (free_at fs stop) t (b ∷ rest)
-rests_ended t fs start stop b rest at may holds open_yet ends = record {
-  as_if = field_fresh t.outer (field_pieces t) t.openers;
-  follows =
-      let e = ending_before t.mode t.held may holds in
-      follows_free (free_at fs stop) t.outer (field_pieces t) t.openers (frames_alike t.outer t.done (field_pieces t) t.openers fs (e.neutral t.done) at.frames)
-      (at.ends ∙ ap (λ x. byte_len (before literal t.outer ++ x)) (sym (e.spells t.done)));
-  stands = ends_alike b t may holds open_yet ends;
-}
+rests_ended t fs start stop b rest at may holds open_yet ends = let e = ending_before t.mode t.held may holds in
+    let follows = follows_free (free_at fs stop) t.outer (field_pieces t) t.openers (frames_alike t.outer t.done (field_pieces t) t.openers fs (e.neutral t.done) at.frames)
+    (at.ends ∙ ap (λ x. byte_len (before literal t.outer ++ x)) (sym (e.spells t.done))) in search (follows, ends_alike b t may holds open_yet ends)
 
 -- a character that begins with another byte than one of ASCII isn't that one
 pub not_first : (b c d : ℕ) → d < 128 → (b ≡ d → ⊥) → IsFirstByte b c → c ≡ d → ⊥

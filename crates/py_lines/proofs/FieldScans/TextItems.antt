@@ -1,28 +1,32 @@
 -- How the machine with fields goes through the text of a string: its mode alone tells what a character does, and it alone changes, with the
 -- text that the string holds. And what the items of the text come to for the scan: it goes on, closes the string, waits, or finds a fault.
 -- What opens and ends a field there stands in Openings.
-use Rattle.std.proofs.Common.{◌≡◌, ℕ, ◌-◌, true, false, ◌==◌, ◌&&◌, Some, List, [], ◌∷◌, ◌++◌, refl, sym, ap, ◌∙◌, subst, append-nil, append_assoc, leb, ◌+◌, ◌<◌, inl, inr, ◌⊎◌, not, drop, length, length-append, arith}
-use Rattle.std.specs.Prelude.{if◌then◌else◌, encode_utf8, encode_utf8_all}
-use Rattle.std.proofs.lemmas.Bool.{cond_both, both_ways, and_from, leb-false}
-use Rattle.py_lines.specs.Character.{is_backslash, is_break, is_line_feed, is_return, is_quote}
+use Rattle.std.proofs.Common.{◌≡◌, ℕ, true, false, ◌==◌, ◌&&◌, Some, List, [], ◌∷◌, ◌++◌, refl, sym, ap, ◌∙◌, subst, append-nil, append_assoc, ◌+◌, ◌<◌, inl, inr, ◌⊎◌, not, drop, length, length-append, arith}
+use Rattle.std.specs.Prelude.{encode_utf8, encode_utf8_all}
+use Rattle.std.proofs.lemmas.Bool.{both_ways, and_from}
+use Rattle.py_lines.specs.Character.{is_break, is_line_feed, is_quote}
 use Rattle.py_lines.specs.Piece.{Piece, spelled, string}
-use Rattle.py_lines.specs.Faults.{Cause, brace_too_deep, breaks_string, breaks_join, ends_specification, kind_of_cause}
+use Rattle.py_lines.specs.Faults.{Cause, brace_too_deep, breaks_string, ends_specification, kind_of_cause}
 use Rattle.py_lines.specs.FieldStrings.{Place, literal, specification}
 use Rattle.py_lines.specs.LogicalLine.{byte_len}
 use Rattle.py_lines.specs.Private.Mode as modes
-use Rattle.py_lines.specs.Private.Machine.{Move, move_of, short_move, long_move, Move as moves}
-use Rattle.py_lines.specs.Private.FieldMachine.{FieldMode, FieldMove, FieldScanned, Level, plain, empty, body, grows, closes, breaks, ends_field, before, field_class_of, field_closed, field_move, field_moved, field_state, frames, has_room_at, plain_move, room_step, roomy, text_place, refused, field_fresh}
+use Rattle.py_lines.specs.Private.Machine.{move_of, short_move, long_move, Move as moves}
+use Rattle.py_lines.specs.Private.FieldMachine.{after_slash, between_move, body_move, escape_move, FieldMode, FieldMove, FieldScanned, Level, plain, body, grows, closes, breaks, ends_field, before, field_class_of, field_closed, field_move, field_moved, field_state, frames, has_room_at, room_step, roomy, text_place, refused}
 use Rattle.py_lines.specs.Private.FieldFaults.{cause_in, cause_place, here, piece_start, field_start}
-use Rattle.py_lines.specs.Private.Scan.{GoAlike, Goes, IsFirstByte, IsOneItem, StandsAs, TextAs, TextGoes, is_break_move, is_line_ending, is_return_at, is_shut, is_text, mode_from, BreaksInText, Follows, GoesOver, GoesOverAll, GrowsInText, HasPending, HasQuote, HoldsCode, IsPlaced, IsWrongIn, QuotesInText, Rests, WaitsInText, has_returned, passed, with_bytes}
+use Rattle.py_lines.specs.Private.Scan.{GoAlike, Goes, IsFirstByte, IsOneItem, StandsAs, TextAs, TextGoes, is_break_move, is_line_ending, is_return_at, is_shut, is_text, mode_from, BreaksInText, Follows, GoesOver, GoesOverAll, GrowsInText, HasPending, HasQuote, HoldsCode, IsFieldFault, IsPlaced, IsWrongIn, QuotesInText, Rests, WaitsInText, has_returned, passed}
 use Rattle.py_lines.specs.declared.mode.Mode.{Mode as OpenMode}
 use Rattle.py_lines.specs.declared.mode.Mode.TheVariants as opens
-use Rattle.py_lines.proofs.Pieces.PieceLists.{piece, spelled-push}
-use Rattle.py_lines.proofs.ScanMachine.Follows.{room_grows, room_closes}
-use Rattle.py_lines.proofs.FieldScans.Moves.{BodyMoved, body_moved, list_at}
-use Rattle.py_lines.proofs.FieldScans.Taking.{by_line, by_room, goes_on, steps, follows_free, no_step}
+use Rattle.py_lines.proofs.Pieces.PieceLists.{piece}
+use Rattle.py_lines.proofs.FieldMachine.Runs.{room_grows}
+use Rattle.py_lines.proofs.FieldScans.Moves.{list_at}
+use Rattle.py_lines.proofs.FieldScans.Taking.{Shut, placed_at, StandsAt, by_line, by_room, free_at, goes_on, steps, no_step, stands_at, stands_shut, rests_exact}
+use Rattle.std.specs.Char.{len_utf8}
+use Rattle.std.specs.List.{list_all}
+use Rattle.std.proofs.lemmas.List.Folds.{list_all-append}
+use Rattle.py_lines.proofs.LineScan.AsciiRuns.{break_low, is_low, is_low_from, low_encodes, low_is, quote_ascii}
 use Rattle.std.specs.Str.{all_scalars}
 use Rattle.std.proofs.Math.Utf8.{low_scalar}
-use Rattle.std.proofs.lemmas.Str.{encode_ascii}
+use Rattle.std.proofs.lemmas.Str.{encode_ascii, len_utf8_ascii}
 use Rattle.py_lines.specs.Balance.{is_closing, is_opening}
 use Rattle.py_lines.specs.Private.Frames.{InField}
 use Rattle.py_lines.specs.declared.fault.FaultKind.TheVariants as fault_kind
@@ -31,8 +35,7 @@ use Rattle.py_lines.specs.declared.scan.LineFault.{LineFault}
 use Rattle.py_lines.specs.declared.scan.Scan.{Scan}
 use Rattle.py_lines.proofs.Text.CharacterTests.{none_of}
 use Rattle.py_lines.proofs.LogicalLines.Cuts.{byte_len-append}
-use Rattle.py_lines.proofs.FieldScans.Frames.{frames_alike, neutral_alike}
-use Rattle.py_lines.proofs.FieldScans.Resting.{rests_exact}
+use Rattle.py_lines.proofs.FieldScans.Takes.{goes-append}
 
 -- the text of a string is open
 abbrev pub InText : FieldMode → Type 0
@@ -48,9 +51,7 @@ InText other = ⊥
 
 pub text_mode : (m : OpenMode) → is_text m ≡ true → InText (mode_from m)
 text_mode (opens.Short q) is = tt
-text_mode (opens.Long q) is = tt
-text_mode (opens.Fields h region named) is = tt
-text_mode m is = absurd (both_ways _ refl is)
+text_mode m is = grind arith
 
 -- what it holds counts for nothing
 pub held_nothing : (m : FieldMode) (held : List ℕ) (c : ℕ) → InText m → field_move m held c ≡ field_move m [] c
@@ -68,18 +69,8 @@ pub record IsTextMode (m : FieldMode) : Type 0 where
   pub not_shut : is_shut m ≡ false
 
 pub text_is : (m : FieldMode) → InText m → IsTextMode m
-text_is (plain modes.Start) in_text = absurd in_text
-text_is (plain modes.Free) in_text = absurd in_text
-text_is (plain modes.Space) in_text = absurd in_text
-text_is (plain (modes.Word s)) in_text = absurd in_text
-text_is (plain modes.Comment) in_text = absurd in_text
-text_is (plain (modes.Empty q)) in_text = absurd in_text
-text_is (plain modes.Backslash) in_text = absurd in_text
-text_is (plain modes.JoinReturn) in_text = absurd in_text
-text_is (plain modes.Return) in_text = absurd in_text
-text_is (empty host) in_text = absurd in_text
-text_is m in_text =
-    record { class = refl; closed = λ done held. refl; no_return = refl; no_line = λ v c. refl; not_free = λ e. cc; not_shut = refl }
+text_is (plain (modes.Inside q)) in_text = grind arith
+text_is m in_text = grind arith
 
 -- by a character with which it goes on it stays so, in the same place; it is closed in a literal part, and a field is ended in a
 -- specification
@@ -89,43 +80,12 @@ StaysText place closes = place ≡ literal
 StaysText place ends_field = place ≡ specification
 StaysText place other = Unit {0}
 
-module _ (q c : ℕ) where
-  abbrev Stays : Move → Type 0
-  Stays v = StaysText literal (plain_move v)
-
-  short_stays : Stays (short_move q c)
-  unfolding short_move
-  short_stays =
-      cond_both (is_backslash c) (moves.Grows (modes.Escape q)) _ Stays (λ _. (tt, refl))
-      (λ _. cond_both (is_break c) moves.Refused (moves.Grows (modes.Inside q)) Stays (λ _. tt) (λ _. (tt, refl)))
-
-  long_stays : Stays (long_move q c)
-  unfolding long_move
-  long_stays = cond_both (is_backslash c) (moves.Grows (modes.LongEscape q)) (moves.Grows (modes.Long q)) Stays (λ _. (tt, refl)) (λ _. (tt, refl))
-
-  quote_stays : (v w : Move) → Stays v → Stays w → Stays (if c == q then v else w)
-  quote_stays v w one other = cond_both (c == q) v w Stays (λ _. one) (λ _. other)
-
 pub text_stays : (m : FieldMode) (c : ℕ) → InText m → StaysText (text_place m) (field_move m [] c)
-unfolding field_move move_of
-text_stays (plain (modes.Inside q)) c in_text = quote_stays q c moves.Closes _ refl (short_stays q c)
-text_stays (plain (modes.Escape q)) c in_text =
-    cond_both (is_return c) (moves.Grows (modes.EscapeReturn q)) (moves.Grows (modes.Inside q)) (Stays q c) (λ _. (tt, refl)) (λ _. (tt, refl))
-text_stays (plain (modes.EscapeReturn q)) c in_text =
-    cond_both (is_line_feed c) (moves.Grows (modes.Inside q)) _ (Stays q c) (λ _. (tt, refl))
-    (λ _. quote_stays q c moves.Closes _ refl (short_stays q c))
-text_stays (plain (modes.Long q)) c in_text = quote_stays q c (moves.Grows (modes.LongOne q)) _ (tt, refl) (long_stays q c)
-text_stays (plain (modes.LongOne q)) c in_text = quote_stays q c (moves.Grows (modes.LongTwo q)) _ (tt, refl) (long_stays q c)
-text_stays (plain (modes.LongTwo q)) c in_text = quote_stays q c moves.Closes _ refl (long_stays q c)
-text_stays (plain (modes.LongEscape q)) c in_text = (tt, refl)
-text_stays (body host place named at) c in_text = go (field_move (body host place named at) [] c) (body_moved host place named at [] c)
-  where
-    go : (v : FieldMove) → BodyMoved host place named at c v → StaysText place v
-    go (grows n) (b, a, is, fit) = (subst InText (sym is) tt, ap text_place is)
-    go closes moved = moved.0
-    go ends_field moved = moved.0
-    go v moved = tt
-text_stays m c in_text = absurd in_text
+unfolding field_move move_of short_move long_move body_move escape_move between_move
+text_stays (plain (modes.Inside q)) c in_text = grind arith
+text_stays (body host literal named after_slash) c in_text = grind arith
+text_stays (body host specification named after_slash) c in_text = grind arith
+text_stays m c in_text = grind arith
 
 grows_text : (m n : FieldMode) (c : ℕ) → InText m → field_move m [] c ≡ grows n → InText n × (text_place n ≡ text_place m)
 grows_text m n c in_text is = subst (StaysText (text_place m)) is (text_stays m c in_text)
@@ -164,13 +124,10 @@ text_way outer done openers m n held [] in_text same = record {
   in_text = subst InText same in_text;
   place = ap text_place (sym same);
 }
-text_way outer done openers m n held (c ∷ cs) in_text (next, is, goes) =
-    let t : FieldScanned = field_state outer done openers m held in
+text_way outer done openers m n held (c ∷ cs) in_text (next, is, goes) = let t : FieldScanned = field_state outer done openers m held in
     let u : FieldScanned = field_state outer done openers next (held ++ c ∷ []) in
-    let move : field_move m held c ≡ grows next = held_nothing m held c in_text ∙ is in
-    let k = grows_text m next c in_text is in
-    let way = text_way outer done openers next n (held ++ c ∷ []) cs k.0 goes in
-    let own = text_is m in_text in
+    let move : field_move m held c ≡ grows next = held_nothing m held c in_text ∙ is in let k = grows_text m next c in_text is in
+    let way = text_way outer done openers next n (held ++ c ∷ []) cs k.0 goes in let own = text_is m in_text in
     let step : room_step t c ≡ Some u = steps t c (grows next) move u (room_grows (frames t) c next) refl in
     record {
       goes = (
@@ -203,11 +160,8 @@ module _ (outer : List Level) (done : List Piece) (openers : List ℕ) (m n : Fi
   start_alike same = ap (λ p. byte_len (before p outer ++ spelled done)) same
 
   place_alike : text_place m ≡ text_place n → (cause : Cause) → cause_place (T m) cause ≡ cause_place (T n) cause
-  place_alike same brace_too_deep = ap (λ k. k - 1) (here_alike same)
-  place_alike same breaks_string = start_alike same
-  place_alike same breaks_join = start_alike same
-  place_alike same ends_specification = refl
-  place_alike same cause = here_alike same
+  place_alike same brace_too_deep = grind (arith, here_alike same)
+  place_alike same cause = grind (arith, here_alike same, start_alike same)
 
   pub same_alike : (b : ℕ) → IsTextMode m → IsTextMode n → text_place m ≡ text_place n → ((c : ℕ) → IsFirstByte b c → field_move m held c ≡ field_move n held c)
       → ((c depth : ℕ) → IsFirstByte b c → cause_in depth m c ≡ cause_in depth n c) → GoAlike b (T m) (T n)
@@ -217,8 +171,7 @@ module _ (outer : List Level) (done : List Piece) (openers : List ℕ) (m n : Fi
     step = λ c first.
         by_room (T m) c (field_move n held c) (moves c first)
         ∙ ap (roomy (has_room_at (frames (T m)) c (field_move n held c))) (moved_alike c (field_move n held c) one other);
-    ending = λ c first.
-        by_line (T m) c (field_move n held c) (moves c first)
+    ending = λ c first. by_line (T m) c (field_move n held c) (moves c first)
         ∙ ap (λ x. (frames (T m) == 0) && x) (one.no_line (field_move n held c) c ∙ sym (other.no_line (field_move n held c) c));
     fault = λ c first none f is.
         let cause = causes c (frames (T m)) first in
@@ -229,43 +182,28 @@ module _ (outer : List Level) (done : List Piece) (openers : List ℕ) (m n : Fi
 
   pub text_stands : (bytes : List ℕ) → InText m → InText n → TextAs bytes m n → StandsAs bytes (T m) (T n)
   text_stands [] in_text there same = ap T same
-  text_stands (b ∷ rest) in_text there alike =
-      same_alike b (text_is m in_text) (text_is n there) alike.place
+  text_stands (b ∷ rest) in_text there alike = same_alike b (text_is m in_text) (text_is n there) alike.place
       (λ c first. held_nothing m held c in_text ∙ alike.move c first ∙ sym (held_nothing n held c there)) alike.cause
-
--- the machine goes on after it has gone
-goes_then : (t u v : FieldScanned) (run more : List ℕ) → Goes t run u → Goes u more v → Goes t (run ++ more) v
-goes_then t u v [] more same goes = subst (λ x. Goes x more v) (sym same) goes
-goes_then t u v (c ∷ cs) more (open_yet, next, step, on, others) goes = (open_yet, next, step, on, goes_then next u v cs more others goes)
 
 -- characters of ASCII are their bytes
 abbrev pub AreLow : List ℕ → Type 0
-AreLow [] = Unit {0}
-AreLow (c ∷ cs) = (c < 128) × AreLow cs
+AreLow cs = list_all is_low cs ≡ true
 
 pub low_encoded : (cs : List ℕ) → AreLow cs → encode_utf8_all cs ≡ cs
-low_encoded [] low = refl
-low_encoded (c ∷ cs) low = ap (λ x. x ++ encode_utf8_all cs) (encode_ascii c low.0) ∙ ap (λ x. c ∷ x) (low_encoded cs low.1)
+low_encoded cs low = (low_encodes is_low cs low_is low).0
 
 pub low_scalars : (cs : List ℕ) → AreLow cs → all_scalars cs ≡ true
-low_scalars [] low = refl
-low_scalars (c ∷ cs) low = and_from _ _ (low_scalar c (omega (arith, low.0))) (low_scalars cs low.1)
+low_scalars cs low = (low_encodes is_low cs low_is low).1
 
-pub quote_low : (q : ℕ) → is_quote q ≡ true → q < 128
-unfolding is_quote
-quote_low q is = leb-false 128 q (none_of (λ d. leb 128 d) (39 ∷ 34 ∷ []) q refl is)
+pub one_low : (c : ℕ) → c < 128 → AreLow (c ∷ [])
+one_low c low = and_from _ _ (is_low_from c low) refl
 
--- the text of a specification stands in its field, wherever its text is
-pub placed_at : (m n : FieldMode) (fs : List Frame) → text_place n ≡ text_place m → IsPlaced m fs → IsPlaced n fs
-placed_at (body h specification b a) (body host specification named at) fs same placed = placed
-placed_at m (body host specification named at) fs same placed = absurd (cc)
-placed_at m n fs same placed = tt
+pub two_low : (c : ℕ) → c < 128 → AreLow (c ∷ c ∷ [])
+two_low c low = and_from _ _ (is_low_from c low) (one_low c low)
 
-text_holds : (m : OpenMode) (held : List ℕ) → is_text m ≡ true → HoldsCode (mode_from m) held
-text_holds (opens.Short q) held is = tt
-text_holds (opens.Long q) held is = tt
-text_holds (opens.Fields h region named) held is = tt
-text_holds m held is = absurd (both_ways _ refl is)
+text_holds : (m : FieldMode) (held : List ℕ) → InText m → HoldsCode m held
+text_holds (plain (modes.Inside q)) held in_text = tt
+text_holds m held in_text = grind arith
 
 as_places : (bytes : List ℕ) (m n : FieldMode) → TextAs bytes m n → text_place n ≡ text_place m
 as_places [] m n same = ap text_place (sym same)
@@ -276,21 +214,13 @@ pub more_bytes : (a d held run : List ℕ) (stop len : ℕ) → stop ≡ byte_le
 more_bytes a d held run stop len at size =
     omega (arith, at, size, byte_len-append a (d ++ held), byte_len-append d held, byte_len-append a (d ++ (held ++ run)), byte_len-append d (held ++ run), byte_len-append held run)
 
-low_append : (a b : List ℕ) → AreLow a → AreLow b → AreLow (a ++ b)
-low_append [] b low more = more
-low_append (c ∷ cs) b low more = (low.0, low_append cs b low.1 more)
-
 quotes_low : (q : ℕ) (run : List ℕ) → is_quote q ≡ true → (run ≡ []) ⊎ (run ≡ q ∷ q ∷ []) → AreLow run
-quotes_low q run is (inl none) = subst AreLow (sym none) tt
-quotes_low q run is (inr two) = subst AreLow (sym two) (quote_low q is, (quote_low q is, tt))
+quotes_low q run is (inl none) = ap (list_all is_low) none
+quotes_low q run is (inr two) = ap (list_all is_low) two ∙ two_low q (quote_ascii q is)
 
 slash_low : (run : List ℕ) → (run ≡ []) ⊎ (run ≡ 92 ∷ []) → AreLow run
-slash_low run (inl none) = subst AreLow (sym none) tt
-slash_low run (inr one) = subst AreLow (sym one) (omega arith, tt)
-
-break_low : (c : ℕ) → is_break c ≡ true → c < 128
-unfolding is_break
-break_low c is = leb-false 128 c (none_of (λ d. leb 128 d) (10 ∷ 13 ∷ []) c refl is)
+slash_low run (inl none) = ap (list_all is_low) none
+slash_low run (inr one) = ap (list_all is_low) one
 
 -- a quote is none of these
 quote-not-others : (q : ℕ) → is_quote q ≡ true → (is_break q ≡ false) × (is_closing q ≡ false) × (is_opening q ≡ false)
@@ -314,7 +244,7 @@ module _ (old : Scan) (t : FieldScanned) (follow : Follows old t) (is : is_text 
       → Follows (record old { mode = mode; stop = old.stop + len }) (with_run (mode_from mode) run)
   text_follows mode run len text quote place size = record {
     mode = refl;
-    holds = text_holds mode (t.held ++ run) text;
+    holds = text_holds (mode_from mode) (t.held ++ run) (text_mode mode text);
     no_list = list_at t.mode (mode_from mode) t.done t.openers place follow.no_list;
     quote = quote;
     placed = placed_at (mode_from old.mode) (mode_from mode) old.frames (place ∙ ap text_place (sym follow.mode)) follow.placed;
@@ -325,66 +255,34 @@ module _ (old : Scan) (t : FieldScanned) (follow : Follows old t) (is : is_text 
 
   -- it goes on
   pub grows_over : (bytes : List ℕ) (mode : OpenMode) (len : ℕ) (new : Scan) → GrowsInText t.mode bytes mode len → new ≡ record old { mode = mode; stop = old.stop + len } → GoesOver t bytes len new
-  grows_over bytes mode len new g like =
-      let way = text_way t.outer t.done t.openers t.mode g.to t.held g.run text_open g.goes in
-      let n = mode_from mode in
-      record {
-        some = g.some;
-        run = g.run;
-        spell = g.spell;
-        scalars = g.scalars;
-        size = g.size;
-        to = with_run g.to g.run;
-        goes = way.goes;
-        one = way.one;
-        rests = subst (λ (s : Scan). Rests s (with_run g.to g.run) (drop len bytes)) (sym like) (record {
-          as_if = with_run n g.run;
-          follows = text_follows mode g.run len g.text g.quote (as_places (drop len bytes) g.to n g.alike ∙ way.place) g.size;
-          stands = text_stands t.outer t.done t.openers g.to n (t.held ++ g.run) (drop len bytes) way.in_text (text_mode mode g.text) g.alike;
-        });
-      }
+  grows_over bytes mode len new g like = let way = text_way t.outer t.done t.openers t.mode g.to t.held g.run text_open g.goes in
+      let follows = text_follows mode g.run len g.text g.quote (as_places (drop len bytes) g.to (mode_from mode) g.alike ∙ way.place) g.size in
+      let stands = text_stands t.outer t.done t.openers g.to (mode_from mode) (t.held ++ g.run) (drop len bytes) way.in_text (text_mode mode g.text) g.alike in
+      let rests : Rests (record old { mode = mode; stop = old.stop + len }) (with_run g.to g.run) (drop len bytes) = record { as_if = _; follows = follows; stands = stands } in
+      rw like (search (g, way, rests))
 
   -- quotes close it
   pub closes_over : (bytes : List ℕ) (len : ℕ) (new : Scan) → QuotesInText t.mode bytes len closes → new ≡ passed old len → GoesOver t bytes len new
-  closes_over bytes len new q like =
-      let way = text_way t.outer t.done t.openers t.mode q.to t.held q.run text_open q.goes in
-      let own = text_is q.to way.in_text in
-      let last : List ℕ = q.quote ∷ [] in
-      let run : List ℕ = q.run ++ last in
+  closes_over bytes len new q like = let way = text_way t.outer t.done t.openers t.mode q.to t.held q.run text_open q.goes in
+      let one = quote_ascii q.quote q.is_one in let low_run : AreLow q.run = quotes_low q.quote q.run q.is_one q.low in
+      let run : List ℕ = q.run ++ q.quote ∷ [] in
+      let low : AreLow run = list_all-append is_low q.run (q.quote ∷ []) ∙ and_from _ _ low_run (one_low q.quote one) in
       let at : FieldScanned = with_run q.to q.run in
-      let text : List ℕ = (t.held ++ q.run) ++ last in
-      let done : List Piece = t.done ++ piece string text ∷ [] in
-      let closed : FieldScanned = field_fresh t.outer done t.openers in
-      let low : AreLow run = low_append q.run last (quotes_low q.quote q.run q.is_one q.low) (quote_low q.quote q.is_one, tt) in
-      let size : byte_len run ≡ len = ap length (low_encoded run low) ∙ omega (arith, length-append q.run last, q.size) in
-      let move : field_move q.to (t.held ++ q.run) q.quote ≡ closes = held_nothing q.to (t.held ++ q.run) q.quote way.in_text ∙ q.does in
+      let move : field_move q.to at.held q.quote ≡ closes = held_nothing q.to at.held q.quote way.in_text ∙ q.does in
       let place : text_place t.mode ≡ literal = sym way.place ∙ subst (StaysText (text_place q.to)) q.does (text_stays q.to q.quote way.in_text) in
-      let step : room_step at q.quote ≡ Some closed =
-      steps at q.quote closes move closed (room_closes (frames at) q.quote)
-      (ap (λ k. Some (field_fresh t.outer (t.done ++ piece k text ∷ []) t.openers)) own.class) in
-      let spelled_so : byte_len (before literal t.outer ++ (spelled t.done ++ (t.held ++ run))) ≡ byte_len (before literal t.outer ++ spelled done) =
-      ap (λ x. byte_len (before literal t.outer ++ (spelled t.done ++ x))) (sym (append_assoc t.held q.run last)) ∙ ap (λ x. byte_len (before literal t.outer ++ x)) (sym (spelled-push t.done string text)) in
-      let stop : old.stop + len ≡ byte_len (before literal t.outer ++ spelled done) =
-      more_bytes (before literal t.outer) (spelled t.done) t.held run old.stop len (follow.stop ∙ ap (λ p. byte_len (before p t.outer ++ (spelled t.done ++ t.held))) place) size ∙ spelled_so in
-      let follows : Follows (passed old len) closed =
-      follows_free (with_bytes old len) t.outer done t.openers (frames_alike t.outer t.done done t.openers old.frames (neutral_alike t.done string text refl refl) follow.frames) stop in
-      record {
-        some = omega (arith, q.size);
-        run = run;
-        spell = ap (λ x. x ++ drop len bytes) (low_encoded run low) ∙ append_assoc q.run last (drop len bytes) ∙ q.spell;
-        scalars = low_scalars run low;
-        size = size;
-        to = closed;
-        goes = goes_then t at closed q.run last way.goes (
-          ap (λ b. b && (frames at == 0)) own.no_return,
-          closed,
-          step,
-          goes_on at q.quote closes move (own.no_line closes q.quote),
-          refl,
-        );
-        one = way.one_then q.quote (ap is_break_move q.does);
-        rests = subst (λ (s : Scan). Rests s closed (drop len bytes)) (sym like) (rests_exact (passed old len) closed (drop len bytes) follows);
-      }
+      let here = stands_at old t follow place in let stop : ℕ = old.stop + byte_len q.run in let there : StandsAt at old.frames old.start stop =
+      record { place = way.place ∙ place; frames = follow.frames; begins = here.begins; ends = more_bytes _ _ t.held q.run old.stop (byte_len q.run) here.ends refl } in
+      let shut = stands_shut at old.frames old.start stop there q.quote (text_holds q.to at.held way.in_text) move in
+      let closed : FieldScanned = Shut at old.frames old.start stop there q.quote in
+      let own = text_is q.to way.in_text in
+      let far : stop + len_utf8 q.quote ≡ old.stop + len = omega (arith, q.size, ap length (low_encoded q.run low_run), len_utf8_ascii q.quote one) in
+      let some : 0 < len = omega (arith, q.size) in
+      let spell : encode_utf8_all run ++ drop len bytes ≡ bytes = ap (λ x. x ++ drop len bytes) (low_encoded run low) ∙ append_assoc q.run (q.quote ∷ []) (drop len bytes) ∙ q.spell in
+      let size : byte_len run ≡ len = ap length (low_encoded run low) ∙ omega (arith, length-append q.run (q.quote ∷ []), q.size) in
+      let goes : Goes t run closed = goes-append t at closed q.run (q.quote ∷ []) way.goes
+      (ap (λ b. b && (frames at == 0)) own.no_return, closed, shut.0, goes_on at q.quote closes move (own.no_line closes q.quote), refl) in
+      let follows : Follows (passed old len) closed = subst (λ n. Follows (free_at old.frames n) closed) far shut.1 in
+      rw like (search (some, spell, low_scalars run low, size, goes, way.one_then q.quote (ap is_break_move q.does), rests_exact (passed old len) closed (drop len bytes) follows))
 
   -- the bytes don't tell yet
   pub waits_over : (bytes : List ℕ) → WaitsInText (mode_from old.mode) bytes → (all : GoesOverAll t bytes) × (has_returned all.to ≡ true → all.rest ≡ []) × HasPending old.mode bytes × (old ≡ old)
@@ -400,27 +298,24 @@ module _ (old : Scan) (t : FieldScanned) (follow : Follows old t) (is : is_text 
   refused_in : (bytes run after : List ℕ) (c : ℕ) (to : FieldMode) (cause : Cause) (f : LineFault) → AreLow run → c < 128 → run ++ c ∷ after ≡ bytes → TextGoes t.mode run to → field_move to [] c ≡ refused
       → cause_in (frames t) to c ≡ cause → f.kind ≡ kind_of_cause cause → f.place ≡ cause_place (with_run to run) cause → IsWrongIn t bytes f
   refused_in bytes run after c to cause f low one spell goes does because kind place =
-      let way = text_way t.outer t.done t.openers t.mode to t.held run text_open goes in
-      let own = text_is to way.in_text in
-      record {
-        run = run;
-        c = c;
-        after = after;
-        spell = ap (λ x. x ++ (encode_utf8 c ++ after)) (low_encoded run low) ∙ ap (λ x. run ++ (x ++ after)) (encode_ascii c one) ∙ spell;
-        scalars = low_scalars run low;
-        scalar = low_scalar c (omega (arith, one));
-        to = with_run to run;
-        goes = way.goes;
-        one = way.one_then c (ap is_break_move does);
-        open_yet = ap (λ b. (b && (frames t == 0)) && not (is_line_feed c)) own.no_return;
-        none = no_step (with_run to run) c refused (held_nothing to (t.held ++ run) c way.in_text ∙ does) refl;
-        fault = (kind ∙ ap kind_of_cause (sym because), place ∙ ap (cause_place (with_run to run)) (sym because));
-      }
+      let way = text_way t.outer t.done t.openers t.mode to t.held run text_open goes in let own = text_is to way.in_text in
+      let spelled_so : encode_utf8_all run ++ (encode_utf8 c ++ after) ≡ bytes =
+      ap (λ x. x ++ (encode_utf8 c ++ after)) (low_encoded run low) ∙ ap (λ x. run ++ (x ++ after)) (encode_ascii c one) ∙ spell in
+      let fault : IsFieldFault (with_run to run) c f = (kind ∙ ap kind_of_cause (sym because), place ∙ ap (cause_place (with_run to run)) (sym because)) in
+      search (
+        spelled_so,
+        low_scalars run low,
+        low_scalar c (omega (arith, one)),
+        way,
+        way.one_then c (ap is_break_move does),
+        ap (λ b. (b && (frames t == 0)) && not (is_line_feed c)) own.no_return,
+        no_step (with_run to run) c refused (held_nothing to (t.held ++ run) c way.in_text ∙ does) refl,
+        fault,
+      )
 
   -- a line end may not stand there
   pub breaks_there : (bytes : List ℕ) (f : LineFault) → BreaksInText t.mode bytes → f ≡ record { kind = fault_kind.OpenString; place = old.start } → IsWrongIn t bytes f
-  breaks_there bytes f x is_f =
-      let way = text_way t.outer t.done t.openers t.mode x.to t.held x.run text_open x.goes in
+  breaks_there bytes f x is_f = let way = text_way t.outer t.done t.openers t.mode x.to t.held x.run text_open x.goes in
       refused_in bytes x.run x.after x.c x.to breaks_string f (slash_low x.run x.first) (break_low x.c x.breaking) x.spell x.goes x.does
       (rw (x.waits, x.breaking)) (ap (λ (g : LineFault). g.kind) is_f)
       (ap (λ (g : LineFault). g.place) is_f ∙ follow.start ∙ ap (λ p. byte_len (before p t.outer ++ spelled t.done)) (sym way.place))
@@ -428,9 +323,8 @@ module _ (old : Scan) (t : FieldScanned) (follow : Follows old t) (is : is_text 
   -- nor a quote that would close the string whose specification is open
   pub ends_specification_there : (bytes : List ℕ) (len place : ℕ) (f : LineFault) → QuotesInText t.mode bytes len refused → text_place t.mode ≡ specification → place ≡ field_start t
       → f ≡ record { kind = fault_kind.OpenField; place = place } → IsWrongIn t bytes f
-  ends_specification_there bytes len place f q there at is_f =
-      let other = quote-not-others q.quote q.is_one in
-      refused_in bytes q.run (drop len bytes) q.quote q.to ends_specification f (quotes_low q.quote q.run q.is_one q.low) (quote_low q.quote q.is_one) q.spell q.goes q.does
+  ends_specification_there bytes len place f q there at is_f = let other = quote-not-others q.quote q.is_one in
+      refused_in bytes q.run (drop len bytes) q.quote q.to ends_specification f (quotes_low q.quote q.run q.is_one q.low) (quote_ascii q.quote q.is_one) q.spell q.goes q.does
       (rw (q.waits, other.0, q.apart, other.1, other.2, q.specified, there)) (ap (λ (g : LineFault). g.kind) is_f) (ap (λ (g : LineFault). g.place) is_f ∙ at)
 
   pub in_field : text_place t.mode ≡ specification → InField old.frames

@@ -1,99 +1,113 @@
 -- Simple text of a string with fields: the machine goes through it, from one place to another.
-use Rattle.std.proofs.Common.{◌≡◌, ℕ, ◌+◌, ◌<◌, ◌≤◌, Bool, true, false, not, ◌&&◌, ◌||◌, ◌==◌, Some, List, [], ◌∷◌, ◌++◌, length, refl, sym, ap, ◌∙◌, subst, append_assoc, append-nil, arith, ◌⊎◌, inl, inr, ⊎_elim}
-use Rattle.std.specs.Prelude.{nat_lt, codes}
+use Rattle.std.proofs.Common.{◌≡◌, ℕ, ◌+◌, ◌<◌, ◌≤◌, Bool, true, false, not, ◌&&◌, ◌==◌, Some, List, [], ◌∷◌, ◌++◌, length, refl, sym, ap, ◌∙◌, subst, append_assoc, append-nil, arith}
+use Rattle.std.specs.Prelude.{nat_lt}
 use Rattle.std.proofs.lemmas.Bool.Decides.{nat_tests}
 use Rattle.std.specs.List.{list_all}
 use Rattle.std.specs.Str.{byte}
-use Rattle.std.proofs.lemmas.Bool.{and_from, and_parts, and_right, or_cases, both_ways, eq-eqb, not-true}
-use Rattle.py_lines.specs.Character.{is_one_of, is_space, is_word_character, is_quote, is_operator, is_break, is_backslash, is_brace}
+use Rattle.std.proofs.lemmas.Bool.{and_from, and_parts, and_right, eq-eqb}
+use Rattle.std.proofs.lemmas.List.Folds.{list_all-append}
+use Rattle.py_lines.specs.Character.{is_space, is_word_character, is_quote, is_operator, is_break, is_backslash, is_brace, is_line_feed}
 use Rattle.py_lines.specs.Piece.{Piece, spelled, operator, string}
 use Rattle.py_lines.specs.Balance.{is_opening, is_closing, closing_of}
-use Rattle.py_lines.specs.FieldStrings.{is_field_prefix, Host, Place, literal, specification}
-use Rattle.py_lines.specs.Private.Machine.{Mode}
+use Rattle.py_lines.specs.FieldStrings.{Host, Place, literal, specification}
+use Rattle.py_lines.specs.Private.Machine.{Mode, Move as moves, Start as starts, IsFull, closed, short_move, move_of, start_of, first_spelling}
 use Rattle.py_lines.specs.Private.Mode as modes
-use Rattle.py_lines.specs.Private.Machine.{Move as moves}
-use Rattle.py_lines.specs.Private.Machine.{Start as starts}
-use Rattle.py_lines.specs.Private.Machine.{IsFull, closed, short_move, move_of, start_of, first_spelling, spelling_with, is_prefix_spelling}
-use Rattle.py_lines.specs.Private.FieldMachine.{At, FieldMode, between, after_brace, after_slash, plain, body, FieldMove, grows, closes, breaks, begins_code, ends_field, Level, FieldScanned, field_state, field_fresh, field_ended, field_pieces, begins_host, plain_move, between_move, body_move, field_move, field_moved, field_started, code_operator, openers_with, levels_open, frames, has_room_at}
-use Rattle.py_lines.specs.Private.Scan.{GoesThrough}
+use Rattle.py_lines.specs.Private.FieldMachine.{At, FieldMode, between, after_brace, after_slash, plain, body, FieldMove, grows, closes, breaks, begins_code, ends_field, Level, FieldScanned, field_state, field_fresh, field_ended, begins_host, plain_move, between_move, body_move, field_move, field_moved, field_started, field_step, code_operator, openers_with, levels_open, frames, has_room, has_room_at, room_step}
+use Rattle.py_lines.specs.Private.Scan.{Goes, KeepsOpen, has_returned, is_return_at, is_shut}
 use Rattle.py_lines.specs.Private.FieldText.{is_apart_mode, is_escaped, InText, AtBrace, AtCode, InCode, StandsInCode, AtSpecification, Leads, level_after, is_code_mode, is_code_bracket}
+use Rattle.py_lines.specs.Private.Marks.{is_plain}
 use Rattle.py_lines.specs.Private.Run.{is_ascii_word, is_text_byte, is_body_byte, is_literal_byte, is_code_sign, is_code_byte}
 use Rattle.py_lines.proofs.Pieces.PieceLists.{piece}
-use Rattle.py_lines.proofs.Text.CharacterTests.{each_of, none_of, not_quote, operator_ascii, excluded, quote-not-word}
-use Rattle.py_lines.proofs.Machine.Starts.{start-word, start-space, start-operator, start-quote}
-use Rattle.py_lines.proofs.FieldMachine.Runs.{room_at, stops-fresh}
+use Rattle.py_lines.proofs.Text.CharacterTests.{each_of, none_of, not_quote, operator_ascii, excluded}
+use Rattle.py_lines.proofs.Machine.Starts.{opens_no, start-word, start-space, start-operator, start-quote}
+use Rattle.py_lines.proofs.FieldMachine.Runs.{room_at, room_closes, room_grows, stops-fresh}
 use Rattle.py_lines.proofs.FieldMachine.PlainSteps.{plain_moves}
 use Rattle.py_lines.proofs.FieldMachine.PieceRuns.{operator_stays}
 use Rattle.py_lines.proofs.FieldMachine.ListBrackets.{opening_pushes, closing_pops, others_keep}
 use Rattle.py_lines.proofs.FieldMachine.StringParts.{open_moves, other_escaped, second_brace, slash_grows}
-use Rattle.py_lines.proofs.FieldMachine.CodeRuns.{brace_ends, code_moves, colon_opens, end_moves, end_no_quote}
-use Rattle.py_lines.proofs.ScanMachine.Follows.{room_closes}
-use Rattle.py_lines.proofs.FieldScans.Frames.{AreOpenAlike, neutral_alike}
-use Rattle.py_lines.proofs.FieldScans.Operators.{no_colon}
-use Rattle.py_lines.proofs.FieldScans.Taking.{no_opening, goes_through, keeps_open, some_level}
-use Rattle.py_lines.proofs.LineScan.StringSteps.{string_grows}
-use Rattle.py_lines.proofs.LineScan.AsciiRuns.{low_is, quote_ascii, quote-no_break, space_low, space-not-quote, word-no_break, word_byte_continues, word_byte_low, word_byte_starts, space-no_word}
+use Rattle.py_lines.proofs.FieldMachine.CodeRuns.{brace_ends, code_moves, colon_opens, end_moves}
+use Rattle.py_lines.proofs.FieldScans.PlainCode.{code_result, code_results, operator_is, plain_low, plain_operator, space_is, word_is}
+use Rattle.py_lines.proofs.FieldScans.Returns.{no_line_end}
+use Rattle.py_lines.proofs.FieldScans.Taking.{goes_on, no_opening, some_level, steps}
+use Rattle.py_lines.proofs.FieldScans.Takes.{goes-append}
+use Rattle.py_lines.proofs.LineScan.AsciiRuns.{run_low, operator-no_break, word_starts, is_low, is_low_from, low_is, quote_ascii, quote-no_break, space-not-quote, word-no_break}
 use Rattle.py_lines.proofs.LineScan.Runs.{body_parts}
+use Rattle.py_lines.proofs.FieldMachine.WholeRuns.{roomy_parts}
 use Rattle.py_lines.proofs.LogicalLines.Cuts.{break-return}
-use Rattle.py_lines.proofs.Machine.LiveTexts as live
+use Rattle.py_lines.proofs.Machine.PieceSteps.{some_is}
 
 -- where the machine stands: round the string are these fields, and this says which string it is
 abbrev pub Spot : Type 1
 Spot = List Level → Level → FieldScanned → Type 0
 
+-- the machine goes through these characters so, and leaves a piece open after each that stands in no field
+abbrev GoesOpen : FieldScanned → List ℕ → FieldScanned → Type 0
+GoesOpen t run u = Goes t run u × KeepsOpen t run
+
+no_feed : (c : ℕ) → is_break c ≡ false → is_line_feed c ≡ false
+unfolding is_break is_line_feed
+no_feed c none = grind arith
+
 -- one character
-one_step : (depth : ℕ) (t next : FieldScanned) (c : ℕ) (v : FieldMove) → c < 128 → is_break c ≡ false → field_move t.mode t.held c ≡ v → (t.outer ≡ [] → v ≡ closes → ⊥) → has_room_at (depth + frames t) c v ≡ true → field_moved t c v ≡ Some next → GoesThrough depth t (c ∷ []) next
-one_step depth t next c v low none is goes_on room comes = (low, none, goes_through t c v is depth next room comes goes_on, next, ap (field_moved t c) is ∙ comes, refl)
+one_step : (t next : FieldScanned) (c : ℕ) (v : FieldMove) → is_return_at t.mode ≡ false → is_break c ≡ false → field_move t.mode t.held c ≡ v
+    → has_room_at (frames t) c v ≡ true → field_moved t c v ≡ Some next → (next.outer ≡ [] → is_shut next.mode ≡ false) → GoesOpen t (c ∷ []) next
+one_step t next c v apart none is room comes still =
+    let open_yet : has_returned t ≡ false = ap (λ b. b && (frames t == 0)) apart in let step = steps t c v is next room comes in
+    ((open_yet, next, step, no_line_end t c open_yet (no_feed c none), refl), (next, step, still, tt))
 
--- one by which the open piece grows
-grows_to : (depth : ℕ) (t : FieldScanned) (c : ℕ) (m : FieldMode) → c < 128 → is_break c ≡ false → field_move t.mode t.held c ≡ grows m → GoesThrough depth t (c ∷ []) (field_state t.outer t.done t.openers m (t.held ++ c ∷ []))
-grows_to depth t c m low none move = (low, none, string_grows depth t m c move, field_state t.outer t.done t.openers m (t.held ++ c ∷ []), ap (field_moved t c) move, refl)
+-- one by which the text of a string grows
+grows_to : (t : FieldScanned) (c : ℕ) (m : FieldMode) → is_return_at t.mode ≡ false → is_break c ≡ false → (t.outer ≡ [] → is_shut m ≡ false)
+    → field_move t.mode t.held c ≡ grows m → GoesOpen t (c ∷ []) (field_state t.outer t.done t.openers m (t.held ++ c ∷ []))
+grows_to t c m apart none still move =
+    one_step t (field_state t.outer t.done t.openers m (t.held ++ c ∷ [])) c (grows m) apart none move (room_grows (frames t) c m) refl still
 
--- one before which it ends
-breaks_to : (depth : ℕ) (t next : FieldScanned) (c : ℕ) → c < 128 → is_break c ≡ false → field_move t.mode t.held c ≡ breaks → has_room_at (depth + frames t) c breaks ≡ true → field_started t.outer (field_pieces t) t.openers c (start_of c) ≡ Some next → GoesThrough depth t (c ∷ []) next
-breaks_to depth t next c low none move room begins = one_step depth t next c breaks low none move (λ o e. keeps_open _ refl e) room begins
+-- two runs, one after the other
+keeps-append : (t u : FieldScanned) (a b : List ℕ) → Goes t a u → KeepsOpen t a → KeepsOpen u b → KeepsOpen t (a ++ b)
+keeps-append t u [] b goes keeps second = subst (λ x. KeepsOpen x b) (sym goes) second
+keeps-append t u (c ∷ a) b (open_yet, next, step, on, others) (same, again, still, keeps) second =
+    (same, again, still, keeps-append same u a b (subst (λ x. Goes x a u) (some_is next same (sym step ∙ again)) others) keeps second)
 
--- over two runs, one after the other
-pub goes_on-append : (depth : ℕ) (t u v : FieldScanned) (a b : List ℕ) → GoesThrough depth t a u → GoesThrough depth u b v → GoesThrough depth t (a ++ b) v
-goes_on-append depth t u v [] b first second = subst (λ x. GoesThrough depth x b v) (sym first) second
-goes_on-append depth t u v (c ∷ a) b (low, none, move, next, step, others) second = (low, none, move, next, step, goes_on-append depth next u v a b others second)
+open-append : (t u v : FieldScanned) (a b : List ℕ) → GoesOpen t a u → GoesOpen u b v → GoesOpen t (a ++ b) v
+open-append t u v a b first second = (goes-append t u v a b first.0 second.0, keeps-append t u a b first.0 first.1 second.1)
 
 pub leads-append : (quote : ℕ) (P Q R : Spot) (a b : List ℕ) → Leads quote P a Q → Leads quote Q b R → Leads quote P (a ++ b) R
-leads-append quote P Q R a b first second outer l depth t same quotes room at =
-    let one = first outer l depth t same quotes room at in
-    let two = second outer l depth one.0 same quotes room one.2 in
-    (two.0, goes_on-append depth t one.0 two.0 a b one.1 two.1, two.2)
+leads-append quote P Q R a b first second = record {
+  low = list_all-append is_low a b ∙ and_from _ _ first.low second.low;
+  goes = λ outer l t same quotes room at.
+      let (u, goes, keeps, to) = first.goes outer l t same quotes room at in let (v, on, more, end) = second.goes outer l u same quotes room to in
+      let all = open-append t u v a b (goes, keeps) (on, more) in (v, all.0, all.1, end);
+}
 
--- characters that are gone through are no line ends
-goes_unbroken : (depth : ℕ) (t : FieldScanned) (run : List ℕ) (u : FieldScanned) → GoesThrough depth t run u → list_all (λ d. not (is_break d)) run ≡ true
-goes_unbroken depth t [] u goes = refl
-goes_unbroken depth t (c ∷ cs) u (low, none, move, next, step, others) =
-    and_from (not (is_break c)) (list_all (λ d. not (is_break d)) cs) (ap not none) (goes_unbroken depth next cs u others)
+-- what leads so, wherever the string stands
+abbrev Few : ℕ → List Level → Level → Type 0
+Few quote outer l = (l.host.quote ≡ quote) × (is_quote quote ≡ true) × (length l.openers + levels_open outer ≤ 100)
 
-pub text_unbroken : (q : ℕ) (run : List ℕ) → is_quote q ≡ true → Leads q InText run InText → list_all (λ d. not (is_break d)) run ≡ true
-text_unbroken q run quote text =
-    let host : Host = record { quote = q; is_long = false; is_raw = false } in
-    let from = field_state [] [] [] (body host literal false between) [] in
-    let led = text [] (record { done = []; openers = []; host = host; place = literal; front = [] }) 0 from refl quote (omega arith) ([], refl) in
-    goes_unbroken 0 from run led.0 led.1
+leads_by : (quote : ℕ) (P Q : Spot) (run : List ℕ) → list_all is_low run ≡ true
+    → ((outer : List Level) (l : Level) (t : FieldScanned) → Few quote outer l → P outer l t → (u : FieldScanned) × GoesOpen t run u × Q outer l u)
+    → Leads quote P run Q
+leads_by quote P Q run low by = record {
+  low = low;
+  goes = λ outer l t same quotes room at. let (u, goes, to) = by outer l t (same, quotes, room) at in (u, goes.0, goes.1, to);
+}
+
+one_low : (c : ℕ) → c < 128 → list_all is_low (c ∷ []) ≡ true
+one_low c low = and_from _ _ (is_low_from c low) refl
 
 -- a run of characters each of which leads back
-leads-run : (passes : ℕ → Bool) (quote : ℕ) (P : Spot) → ((c : ℕ) → passes c ≡ true → Leads quote P (c ∷ []) P) → (run : List ℕ) → list_all passes run ≡ true → Leads quote P run P
-leads-run passes quote P each [] all = λ outer l depth t same quotes room at. (t, refl, at)
+leads-run : (passes : ℕ → Bool) (quote : ℕ) (P : Spot) → ((c : ℕ) → passes c ≡ true → Leads quote P (c ∷ []) P) → (run : List ℕ)
+    → list_all passes run ≡ true → Leads quote P run P
+leads-run passes quote P each [] all = record { low = refl; goes = λ outer l t same quotes room at. (t, refl, tt, at) }
 leads-run passes quote P each (c ∷ cs) all =
     let parts = and_parts (passes c) (list_all passes cs) all in
     leads-append quote P P P (c ∷ []) cs (each c parts.0) (leads-run passes quote P each cs parts.1)
-
--- two tests that both fail
-pub two_false : (a b : Bool) → not a && not b ≡ true → (a ≡ false) × (b ≡ false)
-two_false a b h = let parts = and_parts (not a) (not b) h in (not-true a parts.0, not-true b parts.1)
 
 -- what grows a string's text
 brace_parts : (c : ℕ) → is_brace c ≡ false → (c == byte "{" ≡ false) × (c == byte "}" ≡ false)
 unfolding is_brace
 brace_parts c h = (grind (arith, nat_tests), grind (arith, nat_tests))
 
-pub text_stays : (h : Host) (place : Place) (named : Bool) (c : ℕ) → c == h.quote ≡ false → is_backslash c ≡ false → is_break c ≡ false → is_brace c ≡ false → body_move h place named between c ≡ grows (body h place named between)
+pub text_stays : (h : Host) (place : Place) (named : Bool) (c : ℕ) → c == h.quote ≡ false → is_backslash c ≡ false → is_break c ≡ false
+    → is_brace c ≡ false → body_move h place named between c ≡ grows (body h place named between)
 unfolding body_move between_move
 text_stays h place named c quote slash none brace = let braces = brace_parts c brace in rw (quote, slash, none, braces.0, braces.1) refl
 
@@ -107,12 +121,11 @@ pub record IsLiteral (quote c : ℕ) : Type 0 where
 
 pub literal_parts : (quote c : ℕ) → is_literal_byte quote c ≡ true → IsLiteral quote c
 literal_parts quote c h =
-    let both = and_parts (is_text_byte quote c) (not (is_brace c)) h in
-    let text = and_parts (is_body_byte quote c) (nat_lt c 128) both.0 in
-    let parts = body_parts quote c text.0 in
-    record { low = low_is c text.1; other = parts.0; slash = parts.1; none = parts.2; brace = not-true (is_brace c) both.1 }
+    let parts = body_parts quote c (grind arith) in
+    record { low = grind (arith, nat_tests); other = parts.0; slash = parts.1; none = parts.2; brace = grind arith }
 
-pub text_grows : (h : Host) (quote c : ℕ) → h.quote ≡ quote → IsLiteral quote c → (held : List ℕ) → (place : Place) → field_move (body h place false between) held c ≡ grows (body h place false between)
+text_grows : (h : Host) (quote c : ℕ) → h.quote ≡ quote → IsLiteral quote c → (held : List ℕ) → (place : Place)
+    → field_move (body h place false between) held c ≡ grows (body h place false between)
 unfolding field_move
 text_grows h quote c same is held place = text_stays h place false c (ap (λ (q : ℕ). c == q) same ∙ is.other) is.slash is.none is.brace
 
@@ -120,13 +133,16 @@ text_grows h quote c same is held place = text_stays h place false c (ap (λ (q 
 abbrev InPart : At → Spot
 InPart at outer l t = (held : List ℕ) × (t ≡ field_state outer l.done l.openers (body l.host literal false at) held)
 
-part_leads : (quote c : ℕ) (a b : At) → c < 128 → is_break c ≡ false → ((host : Host) (held : List ℕ) → host.quote ≡ quote → is_quote host.quote ≡ true → field_move (body host literal false a) held c ≡ grows (body host literal false b)) → Leads quote (InPart a) (c ∷ []) (InPart b)
-part_leads quote c a b low none moves outer l depth t same quotes room (held, is) =
-    subst (λ x. (u : FieldScanned) × GoesThrough depth x (c ∷ []) u × InPart b outer l u) (sym is) (
+part_leads : (quote c : ℕ) (a b : At) → c < 128 → is_break c ≡ false
+    → ((host : Host) (held : List ℕ) → host.quote ≡ quote → is_quote host.quote ≡ true → field_move (body host literal false a) held c ≡ grows (body host literal false b))
+    → Leads quote (InPart a) (c ∷ []) (InPart b)
+part_leads quote c a b low none moves =
+    leads_by quote (InPart a) (InPart b) (c ∷ []) (one_low c low) (λ outer l t few (held, is).
+    subst (λ x. (u : FieldScanned) × GoesOpen x (c ∷ []) u × InPart b outer l u) (sym is) (
       field_state outer l.done l.openers (body l.host literal false b) (held ++ c ∷ []),
-      grows_to depth (field_state outer l.done l.openers (body l.host literal false a) held) c (body l.host literal false b) low none (moves l.host held same (ap is_quote same ∙ quotes)),
+      grows_to (field_state outer l.done l.openers (body l.host literal false a) held) c (body l.host literal false b) refl none (λ outside. refl) (moves l.host held few.0 (ap is_quote few.0 ∙ few.1)),
       (held ++ c ∷ [], refl),
-    )
+    ))
 
 pub texts_lead : (quote : ℕ) (run : List ℕ) → list_all (is_literal_byte quote) run ≡ true → Leads quote InText run InText
 texts_lead quote =
@@ -136,8 +152,8 @@ texts_lead quote =
 
 -- `}` and `{{`
 pub brace_leads : (quote : ℕ) → Leads quote InText (125 ∷ []) InText
-unfolding field_move body_move between_move is_backslash is_break
-brace_leads quote = part_leads quote 125 between between (omega arith) refl (λ host held same quotes. rw (not_quote 125 host.quote quotes end_no_quote))
+unfolding field_move body_move between_move is_backslash is_break is_quote
+brace_leads quote = part_leads quote 125 between between (omega arith) refl (λ host held same quotes. rw (not_quote 125 host.quote quotes refl))
 
 pub open_leads : (quote : ℕ) → Leads quote InText (123 ∷ []) AtBrace
 unfolding field_move body_move is_break
@@ -153,358 +169,320 @@ two_lead quote =
 pub escape_leads : (quote c : ℕ) → is_escaped c ≡ true → Leads quote InText (92 ∷ c ∷ []) InText
 unfolding field_move body_move is_backslash is_break
 escape_leads quote c h =
-    let low = and_parts (nat_lt c 128) (not (is_break c) && (not (is_brace c) && not (c == 78))) h in
-    let none = and_parts (not (is_break c)) (not (is_brace c) && not (c == 78)) low.1 in
-    let others = two_false (is_brace c) (c == 78) none.1 in
-    let unbroken : is_break c ≡ false = not-true (is_break c) none.0 in
+    let low : c < 128 = grind (arith, nat_tests) in let none : is_break c ≡ false = grind arith in let brace : is_brace c ≡ false = grind arith in
+    let name : c == 78 ≡ false = grind arith in
     leads-append quote InText (InPart after_slash) InText (92 ∷ []) (c ∷ [])
     (part_leads quote 92 between after_slash (omega arith) refl (λ host held same quotes. slash_grows host literal false between 92 quotes refl))
-    (part_leads quote c after_slash between (low_is c low.0) unbroken (λ host held same quotes. other_escaped host literal false held c others.0 refl (break-return c unbroken) (ap (λ b. b && not host.is_raw) others.1)))
+    (part_leads quote c after_slash between low none (λ host held same quotes. other_escaped host literal false held c brace refl (break-return c none) (ap (λ b. b && not host.is_raw) name)))
 
 -- after `{`, code begins with what is no brace of that kind
+abbrev fresh : List Level → Level → List ℕ → FieldScanned
+fresh outer l held = field_fresh (level_after l held ∷ outer) [] []
+
 pub code_after : (quote : ℕ) (Q : Spot) (c : ℕ) (cs : List ℕ) → c == 123 ≡ false → Leads quote (AtCode []) (c ∷ cs) Q → Leads quote AtBrace (c ∷ cs) Q
-code_after quote Q c cs other leads outer l depth t same quotes room (held, is) =
-    subst (λ x. (u : FieldScanned) × GoesThrough depth x (c ∷ cs) u × Q outer l u) (sym is) (go (leads outer l depth F same quotes room code))
-  where
-    T : FieldScanned
-    T = field_state outer l.done l.openers (body l.host literal false after_brace) held
-
-    F : FieldScanned
-    F = field_fresh (level_after l held ∷ outer) [] []
-
-    code : AtCode [] outer l F
-    code = record { front = held; done = []; mode = modes.Free; held = []; is = refl; simple = refl }
-
-    free : has_room_at (depth + frames T) c (begins_code l.host) ≡ true
-    free = room_at (depth + frames T) c (begins_code l.host) (omega (arith, room), λ opens. omega (arith, room))
-
-    go : (u : FieldScanned) × GoesThrough depth F (c ∷ cs) u × Q outer l u → (u : FieldScanned) × GoesThrough depth T (c ∷ cs) u × Q outer l u
-    go (u, (low, none, move, next, step, others), to) =
-        let begins : field_move (body l.host literal false after_brace) held c ≡ begins_code l.host = code_moves l.host false held c other in
-        let comes : field_moved T c (begins_code l.host) ≡ Some next = sym (ap (field_moved F c) (stops-fresh (c ∷ []))) ∙ step in
-        (u, (low, none, goes_through T c (begins_code l.host) begins depth next free comes (λ o e. keeps_open _ refl e), next, ap (field_moved T c) begins ∙ comes, others), to)
+code_after quote Q c cs other leads =
+    leads_by quote AtBrace Q (c ∷ cs) leads.low (λ outer l t (same, quotes, room) (held, is).
+    let T : FieldScanned = field_state outer l.done l.openers (body l.host literal false after_brace) held in let F : FieldScanned = fresh outer l held in
+    let (u, (open_yet, next, step, line, others), (again, once, still, keeps), to) =
+    leads.goes outer l F same quotes room (record { front = held; done = []; mode = modes.Free; held = []; is = refl; simple = refl }) in
+    let begins : field_move (body l.host literal false after_brace) held c ≡ begins_code l.host = code_moves l.host false held c other in
+    let free : has_room_at (frames T) c (begins_code l.host) ≡ true = room_at (frames T) c (begins_code l.host) (omega (arith, room), λ opens. omega (arith, room)) in
+    let real : (x : FieldScanned) → room_step F c ≡ Some x → room_step T c ≡ Some x = λ x is. steps T c (begins_code l.host) begins x free (sym (ap (field_moved F c) (stops-fresh (c ∷ []))) ∙ (roomy_parts (has_room F c) (field_step F c) x is).1) in
+    subst (λ x. (u : FieldScanned) × GoesOpen x (c ∷ cs) u × Q outer l u) (sym is)
+    (u, ((refl, next, real next step, goes_on T c (begins_code l.host) begins refl, others), (again, real again once, still, keeps)), to))
 
 -- wherever the code stands
-from_code : (passes : Mode → Bool) (os : List ℕ) (quote : ℕ) (run : List ℕ) (Q : Spot) → ((outer : List Level) (l : Level) (depth : ℕ) (front : List ℕ) (done : List Piece) (held : List ℕ) (m : Mode) → passes m ≡ true → depth + (length l.openers + levels_open outer) ≤ 100 → l.host.quote ≡ quote → is_quote quote ≡ true → (u : FieldScanned) × GoesThrough depth (field_state (level_after l front ∷ outer) done os (plain m) held) run u × Q outer l u) → Leads quote (StandsInCode passes os) run Q
-from_code passes os quote run Q from outer l depth t same quotes room at =
-    subst (λ x. (u : FieldScanned) × GoesThrough depth x run u × Q outer l u) (sym at.is) (from outer l depth at.front at.done at.held at.mode at.simple room same quotes)
+abbrev in_code : List Level → Level → List ℕ → List Piece → List ℕ → Mode → List ℕ → FieldScanned
+in_code outer l front done openers m held = field_state (level_after l front ∷ outer) done openers (plain m) held
 
--- no string begins with what is no quote
-plain_move_is : (m : Mode) (held : List ℕ) (c : ℕ) → is_quote c ≡ false → field_move (plain m) held c ≡ plain_move (move_of m c)
-plain_move_is (modes.Word s) held c none = plain_moves (modes.Word s) held c (and_right (is_field_prefix held) _ none)
-plain_move_is m held c none = plain_moves m held c refl
+from_code : (passes : Mode → Bool) (os : List ℕ) (quote : ℕ) (run : List ℕ) (Q : Spot) → list_all is_low run ≡ true
+    → ((outer : List Level) (l : Level) (front : List ℕ) (done : List Piece) (held : List ℕ) (m : Mode) → passes m ≡ true → Few quote outer l → (u : FieldScanned) × GoesOpen (in_code outer l front done os m held) run u × Q outer l u)
+    → Leads quote (StandsInCode passes os) run Q
+from_code passes os quote run Q low from =
+    leads_by quote (StandsInCode passes os) Q run low (λ outer l t few at.
+    subst (λ x. (u : FieldScanned) × GoesOpen x run u × Q outer l u) (sym at.is) (from outer l at.front at.done at.held at.mode at.simple few))
 
-no_more : (m : Mode) (held : List ℕ) (c : ℕ) → is_code_mode m ≡ true → is_word_character c ≡ false → is_space c ≡ false → is_quote c ≡ false → field_move (plain m) held c ≡ breaks
-unfolding move_of
-no_more modes.Free held c simple word space none = plain_move_is modes.Free held c none
-no_more modes.Space held c simple word space none = plain_move_is modes.Space held c none ∙ rw space refl
-no_more (modes.Word s) held c simple word space none =
-    let neither : is_prefix_spelling s && is_quote c ≡ false = and_right (is_prefix_spelling s) _ none in
-    plain_move_is (modes.Word s) held c none ∙ rw (word, neither) refl
-no_more m held c simple word space none = absurd (both_ways _ refl simple)
+-- what a character of a word, and a space, does to a word, to space, and where no piece is open: that goes on in such a mode, or ends
+abbrev Fits : (Mode → Bool) → FieldMove → Type 0
+Fits passes (grows (plain n)) = passes n ≡ true
+Fits passes breaks = Unit {0}
+Fits passes other = ⊥
 
--- a letter, digit or underscore
-word_no_quote : (c : ℕ) → is_word_character c ≡ true → is_quote c ≡ false
-word_no_quote c h = excluded is_word_character is_quote c (quote-not-word c) h
+fits_code : (m : Mode) (c : ℕ) → Fits is_code_mode (code_result m c)
+fits_code m c = grind arith
 
-pub operator-not-word : (c : ℕ) → is_operator c ≡ true → is_ascii_word c ≡ false
-unfolding is_operator is_ascii_word
-operator-not-word c h = none_of is_ascii_word (codes "+-*/%@&|^~<>=!()[]{},:.;") c refl h
+fits_apart : (m : Mode) (c : ℕ) → is_word_character c ≡ false → Fits is_apart_mode (code_result m c)
+fits_apart m c other = grind arith
 
-word_others : (c : ℕ) → is_ascii_word c ≡ true → (is_space c ≡ false) × (is_break c ≡ false) × (is_opening c ≡ false)
-unfolding is_opening is_ascii_word
-word_others c h = (
-  excluded is_ascii_word is_space c (space-no_word c) h,
-  word-no_break c h,
-  excluded is_ascii_word is_opening c (λ opens. none_of is_ascii_word (40 ∷ 91 ∷ 123 ∷ []) c refl opens) h,
-)
-
--- what a character does to a word, to space, and where no piece is open: it begins such a piece, or goes on in one
-abbrev BeginsOrGrows : (Mode → Bool) → ℕ → Mode → List ℕ → Type 0
-BeginsOrGrows passes c m held = (field_move (plain m) held c ≡ breaks) ⊎ ((n : Mode) × (field_move (plain m) held c ≡ grows (plain n)) × (passes n ≡ true))
-
--- from a place in code to another, through these characters: the list goes on, and the same brackets are open in it
-pub record CodeTo (passes : Mode → Bool) (depth : ℕ) (t : FieldScanned) (run : List ℕ) : Type 0 where
-  pub done : List Piece
-  pub mode : Mode
-  pub held : List ℕ
-  pub goes : GoesThrough depth t run (field_state t.outer done t.openers (plain mode) held)
-  pub simple : passes mode ≡ true
-  pub alike : AreOpenAlike t.done done
-
--- one character that begins or continues a piece
-piece_goes : (passes : Mode → Bool) (depth : ℕ) (outer : List Level) (ps : List Piece) (os : List ℕ) (m : Mode) (held : List ℕ) (c : ℕ) (begun : Mode) → c < 128 → is_break c ≡ false → is_opening c ≡ false → start_of c ≡ starts.Open begun → passes begun ≡ true → BeginsOrGrows passes c m held → CodeTo passes depth (field_state outer ps os (plain m) held) (c ∷ [])
-piece_goes passes depth outer ps os m held c begun low none opens_none opens simple (inl move) = record {
-  done = closed m ps held;
-  mode = begun;
-  held = c ∷ [];
-  goes = breaks_to depth (field_state outer ps os (plain m) held) (field_state outer (closed m ps held) os (plain begun) (c ∷ [])) c low none move (no_opening _ c opens_none) (ap (field_started outer (closed m ps held) os c) opens);
-  simple = simple;
-  alike = live.stack_closed m ps held;
-}
-piece_goes passes depth outer ps os m held c begun low none opens_none opens simple (inr (n, move, more)) =
-    record { done = ps; mode = n; held = held ++ c ∷ []; goes = grows_to depth (field_state outer ps os (plain m) held) c (plain n) low none move; simple = more; alike = λ st same. same }
-
--- in a word
-word_character : (c : ℕ) → is_ascii_word c ≡ true → is_word_character c ≡ true
-word_character c h = word_byte_continues c (word_byte_low c h) ∙ h
-
-pub word_starts : (c : ℕ) → is_ascii_word c ≡ true → start_of c ≡ starts.Open (modes.Word (first_spelling c))
-word_starts c h = start-word c (word_byte_starts c (word_byte_low c h) ∙ h)
-
-pub word_moves : (c : ℕ) → is_ascii_word c ≡ true → (m : Mode) (held : List ℕ) → is_code_mode m ≡ true → BeginsOrGrows is_code_mode c m held
-unfolding move_of
-word_moves c h modes.Free held simple = inl (plain_move_is modes.Free held c (word_no_quote c (word_character c h)))
-word_moves c h modes.Space held simple = inl (plain_move_is modes.Space held c (word_no_quote c (word_character c h)) ∙ rw (word_others c h).0 refl)
-word_moves c h (modes.Word s) held simple = inr (modes.Word (spelling_with s c), plain_move_is (modes.Word s) held c (word_no_quote c (word_character c h)) ∙ rw (word_character c h) refl, refl)
-word_moves c h m held simple = absurd (both_ways _ refl simple)
-
--- a space
-pub space_others : (c : ℕ) → is_space c ≡ true → (is_quote c ≡ false) × (is_break c ≡ false) × (is_opening c ≡ false)
-unfolding is_space is_quote is_break is_opening
-space_others c h = (none_of is_quote (32 ∷ 9 ∷ 12 ∷ []) c refl h, none_of is_break (32 ∷ 9 ∷ 12 ∷ []) c refl h, none_of is_opening (32 ∷ 9 ∷ 12 ∷ []) c refl h)
-
-pub space_moves : (c : ℕ) → is_space c ≡ true → (m : Mode) (held : List ℕ) → is_code_mode m ≡ true → BeginsOrGrows is_apart_mode c m held
-unfolding move_of
-space_moves c h modes.Free held simple = inl (plain_move_is modes.Free held c (space_others c h).0)
-space_moves c h modes.Space held simple = inr (modes.Space, plain_move_is modes.Space held c (space_others c h).0 ∙ rw h refl, refl)
-space_moves c h (modes.Word s) held simple =
-    let neither : is_prefix_spelling s && is_quote c ≡ false = and_right (is_prefix_spelling s) _ (space_others c h).0 in
-    inl (plain_move_is (modes.Word s) held c (space_others c h).0 ∙ rw (word_byte_continues c (space_low c h) ∙ space-no_word c h, neither) refl)
-space_moves c h m held simple = absurd (both_ways _ refl simple)
+space-no_break : (c : ℕ) → is_space c ≡ true → is_break c ≡ false
+unfolding is_space is_break
+space-no_break c h = none_of is_break (32 ∷ 9 ∷ 12 ∷ []) c refl h
 
 -- an operator
-pub operator_others : (c : ℕ) → is_operator c ≡ true → (is_space c ≡ false) × (is_quote c ≡ false) × (is_break c ≡ false)
-unfolding is_operator is_space is_quote is_break
-operator_others c h = (none_of is_space (codes "+-*/%@&|^~<>=!()[]{},:.;") c refl h, none_of is_quote (codes "+-*/%@&|^~<>=!()[]{},:.;") c refl h, none_of is_break (codes "+-*/%@&|^~<>=!()[]{},:.;") c refl h)
+operator_breaks : (m : Mode) (held : List ℕ) (c : ℕ) → is_code_mode m ≡ true → is_operator c ≡ true → field_move (plain m) held c ≡ breaks
+operator_breaks m held c simple h = let is = operator_is c h in code_results m held c simple is.1 ∙ grind (arith, is.0, is.2)
 
-pub operator_breaks : (m : Mode) (held : List ℕ) (c : ℕ) → is_code_mode m ≡ true → is_operator c ≡ true → field_move (plain m) held c ≡ breaks
-operator_breaks m held c simple h = let others = operator_others c h in no_more m held c simple (word_byte_continues c (operator_ascii c h) ∙ operator-not-word c h) others.0 others.1
-
-pub operator_goes : (depth : ℕ) (outer : List Level) (ps : List Piece) (os after : List ℕ) (m : Mode) (held : List ℕ) (c : ℕ) → is_code_mode m ≡ true → is_operator c ≡ true → openers_with os c ≡ Some after → (c == 58) && (length os == 0) ≡ false → has_room_at (depth + (length os + levels_open outer)) c breaks ≡ true → GoesThrough depth (field_state outer ps os (plain m) held) (c ∷ []) (field_fresh outer (closed m ps held ++ piece operator (c ∷ []) ∷ []) after)
-operator_goes depth outer ps os after m held c simple h stands colon room =
-    breaks_to depth (field_state outer ps os (plain m) held) (field_fresh outer (closed m ps held ++ piece operator (c ∷ []) ∷ []) after) c (operator_ascii c h) (operator_others c h).2 (operator_breaks m held c simple h) room
-    (ap (field_started outer (closed m ps held) os c) (start-operator c h) ∙ operator_stays outer (closed m ps held) os after c stands (no_colon outer os c colon))
-
-operator_leads : (os after : List ℕ) (quote c : ℕ) → is_operator c ≡ true → openers_with os c ≡ Some after → (c == 58) && (length os == 0) ≡ false → ((n : ℕ) → n ≤ 101 → has_room_at (n + length os) c breaks ≡ true) → Leads quote (InCode os) (c ∷ []) (AtCode after)
-operator_leads os after quote c h stands colon rooms =
-    from_code is_code_mode os quote (c ∷ []) (AtCode after) (λ outer l depth front done held m simple room same quotes.
-    let n = depth + (length l.openers + levels_open outer + 1) in
-    let deep : n + length os ≡ depth + (length os + (length l.openers + levels_open outer + 1)) = omega arith in (
-      field_fresh (level_after l front ∷ outer) (closed m done held ++ piece operator (c ∷ []) ∷ []) after,
-      operator_goes depth (level_after l front ∷ outer) done os after m held c simple h stands colon (subst (λ (k : ℕ). has_room_at k c breaks ≡ true) deep (rooms n (omega (arith, room)))),
-      record { front = front; done = closed m done held ++ piece operator (c ∷ []) ∷ []; mode = modes.Free; held = []; is = refl; simple = refl },
-    ))
-
--- a sign is an operator that leaves the same brackets open
-pub sign_goes : (depth : ℕ) (outer : List Level) (ps : List Piece) (os : List ℕ) (m : Mode) (held : List ℕ) (c : ℕ) → is_code_mode m ≡ true → is_operator c ≡ true → is_opening c ≡ false → is_closing c ≡ false → c == 58 ≡ false → (done : List Piece) × GoesThrough depth (field_state outer ps os (plain m) held) (c ∷ []) (field_fresh outer done os) × AreOpenAlike ps done
-sign_goes depth outer ps os m held c simple is opens shuts colon = (
-  closed m ps held ++ piece operator (c ∷ []) ∷ [],
-  operator_goes depth outer ps os os m held c simple is (others_keep os c opens shuts) (ap (λ b. b && (length os == 0)) colon) (no_opening _ c opens),
-  λ st same. neutral_alike (closed m ps held) operator (c ∷ []) opens shuts st (live.stack_closed m ps held st same),
-)
-
--- the operators that code has mostly
-sign_among : (c : ℕ) → is_code_sign c ≡ true → is_one_of (codes " !=*+,-./") c ≡ true
-unfolding is_code_sign
-sign_among c h = grind (arith, nat_tests)
-
-pub sign_cases : (P : Type 0) (c : ℕ) → is_code_sign c ≡ true → (is_space c ≡ true → P) → (is_operator c ≡ true → is_opening c ≡ false → is_closing c ≡ false → c == 58 ≡ false → P) → P
-unfolding is_space is_operator is_opening is_closing
-sign_cases P c h space sign =
-    ⊎_elim (λ is. space (ap (λ b. b || is_one_of (9 ∷ 12 ∷ []) c) is))
-    (λ others. sign (among c others) (none_of is_opening (codes "!=*+,-./") c refl others) (none_of is_closing (codes "!=*+,-./") c refl others) (none_of (λ d. d == 58) (codes "!=*+,-./") c refl others))
-    (or_cases (c == 32) (is_one_of (codes "!=*+,-./") c) (sign_among c h))
-  where
-    among : (d : ℕ) → is_one_of (codes "!=*+,-./") d ≡ true → is_operator d ≡ true
-    among d k = each_of (λ x. is_operator x ≡ true) (codes "!=*+,-./") d (refl, (refl, (refl, (refl, (refl, (refl, (refl, (refl, tt)))))))) k
-
--- a place where no word is open is one where a word may be
-pub apart_code : (m : Mode) → is_apart_mode m ≡ true → is_code_mode m ≡ true
-apart_code modes.Free h = refl
-apart_code modes.Space h = refl
-apart_code m h = absurd (both_ways _ refl h)
+-- the bytes that code has mostly
+pub code_plain : (c : ℕ) → is_code_byte c ≡ true → (is_plain c ≡ true) × (c == 58 ≡ false)
+unfolding is_plain is_ascii_word is_code_sign is_space is_operator is_opening is_closing
+code_plain c h = (grind (arith, nat_tests), grind (arith, nat_tests))
 
 -- the modes of code where a word may be open, or where none is
 abbrev pub passing : Bool → Mode → Bool
 passing true = is_code_mode
 passing false = is_apart_mode
 
-pub passes_code : (word : Bool) (m : Mode) → passing word m ≡ true → is_code_mode m ≡ true
-passes_code true m h = h
-passes_code false m h = apart_code m h
+passes_code : (word : Bool) (m : Mode) → passing word m ≡ true → is_code_mode m ≡ true
+passes_code word m h = grind arith
 
-pub leads_to_code : (word : Bool) (os : List ℕ) (quote : ℕ) (P : Spot) (run : List ℕ) → Leads quote P run (StandsInCode (passing word) os) → Leads quote P run (InCode os)
-leads_to_code word os quote P run leads outer l depth t same quotes room at =
-    let (u, goes, to) = leads outer l depth t same quotes room at in
-    (u, goes, record { front = to.front; done = to.done; mode = to.mode; held = to.held; is = to.is; simple = passes_code word to.mode to.simple })
+pub leads_to_code : (word : Bool) (os : List ℕ) (quote : ℕ) (P : Spot) (run : List ℕ) → Leads quote P run (StandsInCode (passing word) os)
+    → Leads quote P run (InCode os)
+leads_to_code word os quote P run leads =
+    leads_by quote P (InCode os) run leads.low (λ outer l t few at.
+    let (u, goes, keeps, to) = leads.goes outer l t few.0 few.1 few.2 at in (u, (goes, keeps), search (to, passes_code word to.mode to.simple)))
 
 -- whether a word stands last, where one stands before or none does
 abbrev pub ends_in_word : Bool → List ℕ → Bool
 ends_in_word word [] = word
 ends_in_word word (c ∷ cs) = ends_in_word (is_ascii_word c) cs
 
--- over a sign, over another byte of code, and over a run of them
-signs_go : (depth : ℕ) (outer : List Level) (ps : List Piece) (os : List ℕ) (m : Mode) (held : List ℕ) (c : ℕ) → is_code_mode m ≡ true → is_code_sign c ≡ true → CodeTo is_apart_mode depth (field_state outer ps os (plain m) held) (c ∷ [])
-signs_go depth outer ps os m held c simple h =
-    sign_cases (CodeTo is_apart_mode depth (field_state outer ps os (plain m) held) (c ∷ [])) c h
-    (λ is. let others = space_others c is in piece_goes is_apart_mode depth outer ps os m held c modes.Space (space_low c is) others.1 others.2 (start-space c is) refl (space_moves c is m held simple))
-    (λ is opens shuts colon. let k = sign_goes depth outer ps os m held c simple is opens shuts colon in
-    record { done = k.0; mode = modes.Free; held = []; goes = k.1; simple = refl; alike = k.2 })
+-- from a place in the code of a field to another, through these characters
+record CodeTo (passes : Mode → Bool) (outer : List Level) (l : Level) (front os : List ℕ) (t : FieldScanned) (run : List ℕ) : Type 0 where
+  done : List Piece
+  mode : Mode
+  held : List ℕ
+  goes : GoesOpen t run (in_code outer l front done os mode held)
+  simple : passes mode ≡ true
 
-code_goes : (depth : ℕ) (outer : List Level) (ps : List Piece) (os : List ℕ) (m : Mode) (held : List ℕ) (c : ℕ) → is_code_mode m ≡ true → is_code_byte c ≡ true → CodeTo (passing (is_ascii_word c)) depth (field_state outer ps os (plain m) held) (c ∷ [])
-code_goes depth outer ps os m held c simple h = go (is_ascii_word c) refl
-  where
-    go : (word : Bool) → is_ascii_word c ≡ word → CodeTo (passing word) depth (field_state outer ps os (plain m) held) (c ∷ [])
-    go true word = piece_goes is_code_mode depth outer ps os m held c (modes.Word (first_spelling c)) (word_byte_low c word) (word_others c word).1 (word_others c word).2 (word_starts c word) refl (word_moves c word m held simple)
-    go false other = signs_go depth outer ps os m held c simple (ap (λ b. b || is_code_sign c) (sym other) ∙ h)
+code_apart : (m : Mode) → is_code_mode m ≡ true → is_return_at (plain m) ≡ false
+code_apart m simple = grind arith
 
-pub codes_go : (word : Bool) (depth : ℕ) (outer : List Level) (ps : List Piece) (os : List ℕ) (m : Mode) (held : List ℕ) (run : List ℕ) → passing word m ≡ true → list_all is_code_byte run ≡ true → CodeTo (passing (ends_in_word word run)) depth (field_state outer ps os (plain m) held) run
-codes_go word depth outer ps os m held [] simple all = record { done = ps; mode = m; held = held; goes = refl; simple = simple; alike = λ st same. same }
-codes_go word depth outer ps os m held (c ∷ cs) simple all =
+module _ (outer : List Level) (l : Level) (front os : List ℕ) (ps : List Piece) (m : Mode) (held : List ℕ) (simple : is_code_mode m ≡ true) (c : ℕ) where
+  abbrev T : FieldScanned
+  T = in_code outer l front ps os m held
+
+  abbrev To : (Mode → Bool) → Type 0
+  To passes = CodeTo passes outer l front os T (c ∷ [])
+
+  abbrev Ends : FieldScanned → Type 0
+  Ends next = field_started (level_after l front ∷ outer) (closed m ps held) os c (start_of c) ≡ Some next
+
+  inside : (n : FieldMode) → level_after l front ∷ outer ≡ [] → is_shut n ≡ false
+  inside n none = absurd (some_level (level_after l front) outer none)
+
+  -- the open piece ends before one
+  breaks_to : (next : FieldScanned) → is_break c ≡ false → field_move (plain m) held c ≡ breaks → has_room_at (frames T) c breaks ≡ true → Ends next
+      → (next.outer ≡ [] → is_shut next.mode ≡ false) → GoesOpen T (c ∷ []) next
+  breaks_to next none move room begins still = one_step T next c breaks (code_apart m simple) none move room begins still
+
+  -- it begins a piece, or goes on in one
+  piece_goes : (passes : Mode → Bool) (begun : Mode) → is_quote c ≡ false → is_break c ≡ false
+      → start_of c ≡ starts.Open begun → passes begun ≡ true → Fits passes (code_result m c) → To passes
+  piece_goes passes begun quote none opens fits moves = go (code_result m c) (code_results m held c simple quote) moves
+    where
+      go : (v : FieldMove) → field_move (plain m) held c ≡ v → Fits passes v → To passes
+      go (grows (plain n)) move more =
+          record { done = ps; mode = n; held = held ++ c ∷ []; goes = grows_to T c (plain n) (code_apart m simple) none (inside (plain n)) move; simple = more }
+      go breaks move more = record {
+        done = closed m ps held;
+        mode = begun;
+        held = c ∷ [];
+        goes = breaks_to (in_code outer l front (closed m ps held) os begun (c ∷ [])) none move (no_opening _ c (opens_no c (starts.Open begun) opens (λ other. absurd (cc)))) (ap (field_started (level_after l front ∷ outer) (closed m ps held) os c) opens) (inside (plain begun));
+        simple = fits;
+      }
+      go v move none_so = absurd none_so
+
+  -- it is an operator
+  abbrev Operated : List ℕ → FieldScanned
+  Operated after = field_fresh (level_after l front ∷ outer) (closed m ps held ++ piece operator (c ∷ []) ∷ []) after
+
+  operator_goes : (after : List ℕ) → is_operator c ≡ true → openers_with os c ≡ Some after → (c == 58) && (length os == 0) ≡ false
+      → has_room_at (frames T) c breaks ≡ true → GoesOpen T (c ∷ []) (Operated after)
+  operator_goes after h stands colon room =
+      breaks_to (Operated after) (operator-no_break c h) (operator_breaks m held c simple h) room
+      (ap (field_started (level_after l front ∷ outer) (closed m ps held) os c) (start-operator c h) ∙ operator_stays (level_after l front ∷ outer) (closed m ps held) os after c stands colon) (inside (plain modes.Free))
+
+  -- a letter or digit, a space or a sign
+  signs_go : (is_operator c ≡ true) × (is_opening c ≡ false) × (is_closing c ≡ false) → c == 58 ≡ false → To is_apart_mode
+  signs_go (is, opens, shuts) colon = record {
+    done = closed m ps held ++ piece operator (c ∷ []) ∷ [];
+    mode = modes.Free;
+    held = [];
+    goes = operator_goes os is (others_keep os c opens shuts) (ap (λ b. b && (length os == 0)) colon) (no_opening _ c opens);
+    simple = refl;
+  }
+
+  code_goes : is_code_byte c ≡ true → To (passing (is_ascii_word c))
+  code_goes h = go (is_ascii_word c) (is_space c) refl refl
+    where
+      go : (word space : Bool) → is_ascii_word c ≡ word → is_space c ≡ space → To (passing word)
+      go true space word is =
+          piece_goes is_code_mode (modes.Word (first_spelling c)) (word_is c word).1 (word-no_break c word) (start-word c (word_starts c word)) refl (fits_code m c)
+      go false true word is =
+          piece_goes is_apart_mode modes.Space (space_is c is).1 (space-no_break c is) (start-space c is) refl (fits_apart m c (space_is c is).0)
+      go false false word is = let plain_so = code_plain c h in signs_go (plain_operator c plain_so.0 word is) plain_so.1
+
+-- and a run of them
+codes_go : (outer : List Level) (l : Level) (front os : List ℕ) (word : Bool) (ps : List Piece) (m : Mode) (held run : List ℕ) → passing word m ≡ true
+    → list_all is_code_byte run ≡ true → CodeTo (passing (ends_in_word word run)) outer l front os (in_code outer l front ps os m held) run
+codes_go outer l front os word ps m held [] simple all = record { done = ps; mode = m; held = held; goes = (refl, tt); simple = simple }
+codes_go outer l front os word ps m held (c ∷ cs) simple all =
     let parts = and_parts (is_code_byte c) (list_all is_code_byte cs) all in
-    let k = code_goes depth outer ps os m held c (passes_code word m simple) parts.0 in
-    let later = codes_go (is_ascii_word c) depth outer k.done os k.mode k.held cs k.simple parts.1 in
-    record { done = later.done; mode = later.mode; held = later.held; goes = goes_on-append depth _ _ _ (c ∷ []) cs k.goes later.goes; simple = later.simple; alike = λ st same. later.alike st (k.alike st same) }
+    let k = code_goes outer l front os ps m held (passes_code word m simple) c parts.0 in
+    let later = codes_go outer l front os (is_ascii_word c) k.done k.mode k.held cs k.simple parts.1 in
+    record { done = later.done; mode = later.mode; held = later.held; goes = open-append (in_code outer l front ps os m held) (in_code outer l front k.done os k.mode k.held) (in_code outer l front later.done os later.mode later.held) (c ∷ []) cs k.goes later.goes; simple = later.simple }
 
--- wherever the code stands in its string
-pub codes_lead : (os : List ℕ) (quote : ℕ) (run : List ℕ) → list_all is_code_byte run ≡ true → Leads quote (AtCode os) run (StandsInCode (passing (ends_in_word false run)) os)
+pub codes_lead : (os : List ℕ) (quote : ℕ) (run : List ℕ) → list_all is_code_byte run ≡ true
+    → Leads quote (AtCode os) run (StandsInCode (passing (ends_in_word false run)) os)
 codes_lead os quote run all =
-    from_code is_apart_mode os quote run (StandsInCode (passing (ends_in_word false run)) os) (λ outer l depth front done held m simple room same quotes.
-    let k = codes_go false depth (level_after l front ∷ outer) done os m held run simple all in
-    (field_state (level_after l front ∷ outer) k.done os (plain k.mode) k.held, k.goes, record { front = front; done = k.done; mode = k.mode; held = k.held; is = refl; simple = k.simple }))
+    from_code is_apart_mode os quote run (StandsInCode (passing (ends_in_word false run)) os) (run_low is_code_byte run (λ c h. plain_low c (code_plain c h).0) all) (λ outer l front done held m simple few.
+    let k = codes_go outer l front os false done m held run simple all in
+    (in_code outer l front k.done os k.mode k.held, k.goes, record { front = front; done = k.done; mode = k.mode; held = k.held; is = refl; simple = k.simple }))
 
 -- a string without a prefix
-module _ (quote : ℕ) (outer : List Level) (l : Level) (depth : ℕ) (front : List ℕ) (os : List ℕ) (q : ℕ) (quotes : is_quote q ≡ true) where
-  abbrev open_in : List Piece → Mode → List ℕ → FieldScanned
-  open_in ps m held = field_state (level_after l front ∷ outer) ps os (plain m) held
-
+module _ (outer : List Level) (l : Level) (front os : List ℕ) (q : ℕ) (quotes : is_quote q ≡ true) where
   -- it grows over a character
-  text_on : (ps : List Piece) (m : Mode) (held : List ℕ) (c : ℕ) → begins_host m held c ≡ false → move_of m c ≡ moves.Grows (modes.Inside q) → is_text_byte q c ≡ true → GoesThrough depth (open_in ps m held) (c ∷ []) (open_in ps (modes.Inside q) (held ++ c ∷ []))
-  text_on ps m held c none move passes =
-      let parts = and_parts (is_body_byte q c) (nat_lt c 128) passes in
-      grows_to depth (open_in ps m held) c (plain (modes.Inside q)) (low_is c parts.1) (body_parts q c parts.0).2 (plain_moves m held c none ∙ ap plain_move move)
+  text_on : (ps : List Piece) (m : Mode) (held : List ℕ) (c : ℕ) → is_return_at (plain m) ≡ false → begins_host m held c ≡ false
+      → move_of m c ≡ moves.Grows (modes.Inside q) → is_text_byte q c ≡ true
+      → GoesOpen (in_code outer l front ps os m held) (c ∷ []) (in_code outer l front ps os (modes.Inside q) (held ++ c ∷ []))
+  text_on ps m held c apart none move passes =
+      grows_to (in_code outer l front ps os m held) c (plain (modes.Inside q)) apart (body_parts q c (and_parts (is_body_byte q c) (nat_lt c 128) passes).0).2 (λ outside. refl) (plain_moves m held c none ∙ ap plain_move move)
 
-  inside_grows : (c : ℕ) → is_text_byte q c ≡ true → (move_of (modes.Inside q) c ≡ moves.Grows (modes.Inside q)) × (move_of (modes.Opened q) c ≡ moves.Grows (modes.Inside q))
+  inside_grows : (c : ℕ) → is_text_byte q c ≡ true
+      → (move_of (modes.Inside q) c ≡ moves.Grows (modes.Inside q)) × (move_of (modes.Opened q) c ≡ moves.Grows (modes.Inside q))
   unfolding move_of short_move
-  inside_grows c passes = let parts = body_parts q c (and_parts (is_body_byte q c) (nat_lt c 128) passes).0 in (rw (parts.0, parts.1, parts.2) refl, rw (parts.0, parts.1, parts.2) refl)
+  inside_grows c passes =
+      let parts = body_parts q c (and_parts (is_body_byte q c) (nat_lt c 128) passes).0 in (rw (parts.0, parts.1, parts.2) refl, rw (parts.0, parts.1, parts.2) refl)
 
-  -- and over a run
-  texts_on : (ps : List Piece) (held run : List ℕ) → list_all (is_text_byte q) run ≡ true → GoesThrough depth (open_in ps (modes.Inside q) held) run (open_in ps (modes.Inside q) (held ++ run))
-  texts_on ps held [] all = ap (open_in ps (modes.Inside q)) (sym (append-nil held))
-  texts_on ps held (c ∷ cs) all =
-      let parts = and_parts (is_text_byte q c) (list_all (is_text_byte q) cs) all in
-      subst (λ x. GoesThrough depth (open_in ps (modes.Inside q) held) (c ∷ cs) (open_in ps (modes.Inside q) x)) (append_assoc held (c ∷ []) cs)
-      (goes_on-append depth (open_in ps (modes.Inside q) held) (open_in ps (modes.Inside q) (held ++ c ∷ [])) (open_in ps (modes.Inside q) ((held ++ c ∷ []) ++ cs)) (c ∷ []) cs
-      (text_on ps (modes.Inside q) held c refl (inside_grows c parts.0).0 parts.0) (texts_on ps (held ++ c ∷ []) cs parts.1))
-
+  -- and over a run, up to its quote
   inside_closes : (held : List ℕ) → field_move (plain (modes.Inside q)) held q ≡ closes
   unfolding move_of
   inside_closes held = plain_moves (modes.Inside q) held q refl ∙ rw (eq-eqb q q refl) refl
 
-  abbrev closed_in : List Piece → List ℕ → FieldScanned
-  closed_in ps held = field_fresh (level_after l front ∷ outer) (ps ++ piece string (held ++ q ∷ []) ∷ []) os
+  abbrev Closed : List Piece → List ℕ → FieldScanned
+  Closed ps held = field_fresh (level_after l front ∷ outer) (ps ++ piece string (held ++ q ∷ []) ∷ []) os
 
-  text_ends : (ps : List Piece) (held : List ℕ) → GoesThrough depth (open_in ps (modes.Inside q) held) (q ∷ []) (closed_in ps held)
-  text_ends ps held = one_step depth (open_in ps (modes.Inside q) held) (closed_in ps held) q closes (quote_ascii q quotes) (quote-no_break q quotes) (inside_closes held) (λ o. absurd (some_level (level_after l front) outer o)) (room_closes _ q) refl
+  texts_on : (ps : List Piece) (held run : List ℕ) → list_all (is_text_byte q) run ≡ true
+      → GoesOpen (in_code outer l front ps os (modes.Inside q) held) (run ++ q ∷ []) (Closed ps (held ++ run))
+  texts_on ps held [] all =
+      subst (λ x. GoesOpen (in_code outer l front ps os (modes.Inside q) held) (q ∷ []) (Closed ps x)) (sym (append-nil held))
+      (one_step (in_code outer l front ps os (modes.Inside q) held) (Closed ps held) q closes refl (quote-no_break q quotes) (inside_closes held) (room_closes _ q) refl (λ none. absurd (some_level (level_after l front) outer none)))
+  texts_on ps held (c ∷ cs) all =
+      let parts = and_parts (is_text_byte q c) (list_all (is_text_byte q) cs) all in
+      subst (λ x. GoesOpen (in_code outer l front ps os (modes.Inside q) held) ((c ∷ cs) ++ q ∷ []) (Closed ps x)) (append_assoc held (c ∷ []) cs)
+      (open-append (in_code outer l front ps os (modes.Inside q) held) (in_code outer l front ps os (modes.Inside q) (held ++ c ∷ [])) (Closed ps ((held ++ c ∷ []) ++ cs)) (c ∷ []) (cs ++ q ∷ []) (text_on ps (modes.Inside q) held c refl refl (inside_grows c parts.0).0 parts.0) (texts_on ps (held ++ c ∷ []) cs parts.1))
 
   -- from its first quote to its last
-  text_goes : (ps : List Piece) (d : ℕ) (ds : List ℕ) → list_all (is_text_byte q) (d ∷ ds) ≡ true → GoesThrough depth (open_in ps (modes.Opened q) (q ∷ [])) ((d ∷ ds) ++ q ∷ []) (closed_in ps ((q ∷ d ∷ []) ++ ds))
+  text_goes : (ps : List Piece) (d : ℕ) (ds : List ℕ) → list_all (is_text_byte q) (d ∷ ds) ≡ true
+      → GoesOpen (in_code outer l front ps os (modes.Opened q) (q ∷ [])) ((d ∷ ds) ++ q ∷ []) (Closed ps ((q ∷ d ∷ []) ++ ds))
   text_goes ps d ds all =
       let parts = and_parts (is_text_byte q d) (list_all (is_text_byte q) ds) all in
-      let one = open_in ps (modes.Inside q) (q ∷ d ∷ []) in
-      let two = open_in ps (modes.Inside q) ((q ∷ d ∷ []) ++ ds) in
-      goes_on-append depth (open_in ps (modes.Opened q) (q ∷ [])) two (closed_in ps ((q ∷ d ∷ []) ++ ds)) (d ∷ ds) (q ∷ [])
-      (goes_on-append depth (open_in ps (modes.Opened q) (q ∷ [])) one two (d ∷ []) ds (text_on ps (modes.Opened q) (q ∷ []) d refl (inside_grows d parts.0).1 parts.0) (texts_on ps (q ∷ d ∷ []) ds parts.1))
-      (text_ends ps ((q ∷ d ∷ []) ++ ds))
-
-quote_opens_none : (q : ℕ) → is_quote q ≡ true → is_opening q ≡ false
-unfolding is_quote is_opening
-quote_opens_none q h = none_of is_opening (codes "'\"") q refl h
+      open-append (in_code outer l front ps os (modes.Opened q) (q ∷ [])) (in_code outer l front ps os (modes.Inside q) (q ∷ d ∷ [])) (Closed ps ((q ∷ d ∷ []) ++ ds)) (d ∷ []) (ds ++ q ∷ []) (text_on ps (modes.Opened q) (q ∷ []) d refl refl (inside_grows d parts.0).1 parts.0) (texts_on ps (q ∷ d ∷ []) ds parts.1)
 
 -- no word is open where it begins
 quote_breaks : (m : Mode) (held : List ℕ) (q : ℕ) → is_apart_mode m ≡ true → is_quote q ≡ true → field_move (plain m) held q ≡ breaks
-unfolding move_of
-quote_breaks modes.Free held q apart quotes = plain_moves modes.Free held q refl
-quote_breaks modes.Space held q apart quotes = plain_moves modes.Space held q refl ∙ rw (excluded is_quote is_space q (space-not-quote q) quotes) refl
-quote_breaks m held q apart quotes = absurd (both_ways _ refl apart)
+unfolding field_move move_of
+quote_breaks m held q apart quotes = grind (arith, excluded is_quote is_space q (space-not-quote q) quotes)
 
-pub string_leads : (os : List ℕ) (quote q : ℕ) (run : List ℕ) → is_quote q ≡ true → IsFull run → list_all (is_text_byte q) run ≡ true → Leads quote (AtCode os) (q ∷ (run ++ q ∷ [])) (AtCode os)
+string_low : (q : ℕ) (run : List ℕ) → is_quote q ≡ true → list_all (is_text_byte q) run ≡ true → list_all is_low (q ∷ (run ++ q ∷ [])) ≡ true
+string_low q run quotes all =
+    let one = is_low_from q (quote_ascii q quotes) in
+    let text = run_low (is_text_byte q) run (λ c h. low_is c (and_parts (is_body_byte q c) (is_low c) h).1) all in
+    and_from _ _ one (list_all-append is_low run (q ∷ []) ∙ and_from _ _ text (and_from _ _ one refl))
+
+pub string_leads : (os : List ℕ) (quote q : ℕ) (run : List ℕ) → is_quote q ≡ true → IsFull run → list_all (is_text_byte q) run ≡ true
+    → Leads quote (AtCode os) (q ∷ (run ++ q ∷ [])) (AtCode os)
 string_leads os quote q [] quotes full all = absurd full
 string_leads os quote q (d ∷ ds) quotes full all =
-    from_code is_apart_mode os quote (q ∷ ((d ∷ ds) ++ q ∷ [])) (AtCode os) (λ outer l depth front done held m apart room same own.
-    let C : FieldScanned = field_state (level_after l front ∷ outer) done os (plain m) held in
-    let ps = field_pieces C in
-    let opened : FieldScanned = open_in quote outer l depth front os q quotes ps (modes.Opened q) (q ∷ []) in
-    let ended : FieldScanned = closed_in quote outer l depth front os q quotes ps ((q ∷ d ∷ []) ++ ds) in (
+    from_code is_apart_mode os quote (q ∷ ((d ∷ ds) ++ q ∷ [])) (AtCode os) (string_low q (d ∷ ds) quotes all) (λ outer l front done held m apart few.
+    let ps : List Piece = closed m done held in let opened : FieldScanned = in_code outer l front ps os (modes.Opened q) (q ∷ []) in
+    let ended : FieldScanned = Closed outer l front os q quotes ps ((q ∷ d ∷ []) ++ ds) in
+    let begins = breaks_to outer l front os done m held (passes_code false m apart) q opened (quote-no_break q quotes) (quote_breaks m held q apart quotes) (no_opening _ q (opens_no q (starts.Open (modes.Opened q)) (start-quote q quotes) (λ other. absurd (cc))))
+    (ap (field_started (level_after l front ∷ outer) ps os q) (start-quote q quotes)) (λ none. absurd (some_level (level_after l front) outer none)) in (
       ended,
-      goes_on-append depth C opened ended (q ∷ []) ((d ∷ ds) ++ q ∷ [])
-          (breaks_to depth C opened q (quote_ascii q quotes) (quote-no_break q quotes) (quote_breaks m held q apart quotes) (no_opening _ q (quote_opens_none q quotes)) (ap (field_started (level_after l front ∷ outer) ps os q) (start-quote q quotes)))
-          (text_goes quote outer l depth front os q quotes ps d ds all),
+      open-append (in_code outer l front done os m held) opened ended (q ∷ []) ((d ∷ ds) ++ q ∷ []) begins (text_goes outer l front os q quotes ps d ds all),
       record { front = front; done = ps ++ piece string (((q ∷ d ∷ []) ++ ds) ++ q ∷ []) ∷ []; mode = modes.Free; held = []; is = refl; simple = refl },
     ))
 
 -- a bracket, and the one that closes it
-bracket_is : (c : ℕ) → is_code_bracket c ≡ true → (is_operator c ≡ true) × (is_opening c ≡ true) × (c == 58 ≡ false) × (is_operator (closing_of c) ≡ true) × (is_closing (closing_of c) ≡ true)
+operator_leads : (os after : List ℕ) (quote c : ℕ) → is_operator c ≡ true → openers_with os c ≡ Some after → (c == 58) && (length os == 0) ≡ false
+    → ((n : ℕ) → n ≤ 101 → has_room_at (length os + n) c breaks ≡ true) → Leads quote (InCode os) (c ∷ []) (AtCode after)
+operator_leads os after quote c h stands colon rooms =
+    from_code is_code_mode os quote (c ∷ []) (AtCode after) (one_low c (operator_ascii c h)) (λ outer l front done held m simple few. (
+      field_fresh (level_after l front ∷ outer) (closed m done held ++ piece operator (c ∷ []) ∷ []) after,
+      operator_goes outer l front os done m held simple c after h stands colon (rooms (length l.openers + levels_open outer + 1) (let room = few.2 in omega (arith, room))),
+      record { front = front; done = closed m done held ++ piece operator (c ∷ []) ∷ []; mode = modes.Free; held = []; is = refl; simple = refl },
+    ))
+
+bracket_is : (c : ℕ) → is_code_bracket c ≡ true
+    → (is_operator c ≡ true) × (is_opening c ≡ true) × (c == 58 ≡ false) × (is_operator (closing_of c) ≡ true) × (is_closing (closing_of c) ≡ true)
 unfolding is_code_bracket is_operator is_opening is_closing
-bracket_is c h = each_of (λ x. (is_operator x ≡ true) × (is_opening x ≡ true) × (x == 58 ≡ false) × (is_operator (closing_of x) ≡ true) × (is_closing (closing_of x) ≡ true)) (40 ∷ 91 ∷ []) c ((refl, refl, refl, refl, refl), ((refl, refl, refl, refl, refl), tt)) h
+bracket_is c h =
+    each_of (λ x. (is_operator x ≡ true) × (is_opening x ≡ true) × (x == 58 ≡ false) × (is_operator (closing_of x) ≡ true) × (is_closing (closing_of x) ≡ true)) (40 ∷ 91 ∷ []) c ((refl, refl, refl, refl, refl), ((refl, refl, refl, refl, refl), tt)) h
 
 pub opening_leads : (quote c : ℕ) → is_code_bracket c ≡ true → Leads quote (InCode []) (c ∷ []) (AtCode (c ∷ []))
 opening_leads quote c h =
     let is = bracket_is c h in
-    operator_leads [] (c ∷ []) quote c is.0 (opening_pushes [] c is.1) (ap (λ b. b && true) is.2) (λ n few. room_at (n + length {A = ℕ} []) c breaks (λ opens. omega (arith, few)))
+    operator_leads [] (c ∷ []) quote c is.0 (opening_pushes [] c is.1) (ap (λ b. b && true) is.2) (λ n few. room_at (length {A = ℕ} [] + n) c breaks (λ opens. omega (arith, few)))
 
 pub closing_leads : (quote o c : ℕ) → is_code_bracket o ≡ true → c ≡ closing_of o → Leads quote (InCode (o ∷ [])) (c ∷ []) (AtCode [])
 closing_leads quote o c h same =
     subst (λ (x : ℕ). Leads quote (InCode (o ∷ [])) (x ∷ []) (AtCode [])) (sym same) (
     let is = bracket_is o h in
-    operator_leads (o ∷ []) [] quote (closing_of o) is.3 (closing_pops o [] (closing_of o) is.4 (eq-eqb (closing_of o) (closing_of o) refl)) (and_right (closing_of o == 58) _ refl) (λ n few. room_at (n + 1) (closing_of o) breaks (λ opens. omega (arith, few)))
+    operator_leads (o ∷ []) [] quote (closing_of o) is.3 (closing_pops o [] (closing_of o) is.4 (eq-eqb (closing_of o) (closing_of o) refl)) (and_right (closing_of o == 58) _ refl) (λ n few. room_at (1 + n) (closing_of o) breaks (λ opens. omega (arith, few)))
     )
 
 -- the end of the code
-end_leads : (quote c : ℕ) (Q : Spot) (to : Level → List Level → List Piece → FieldScanned) → is_operator c ≡ true → is_opening c ≡ false → ((level : Level) (outer : List Level) (ps : List Piece) → code_operator level outer ps c ≡ Some (to level outer ps)) → ((outer : List Level) (l : Level) (front : List ℕ) (ps : List Piece) → Q outer l (to (level_after l front) outer ps)) → Leads quote (InCode []) (c ∷ []) Q
-end_leads quote c Q to h opens ends there =
-    from_code is_code_mode [] quote (c ∷ []) Q (λ outer l depth front done held m simple room same quotes.
+end_leads : (quote c : ℕ) (Q : Spot) (to : Level → List Level → List Piece → FieldScanned) → is_operator c ≡ true → is_opening c ≡ false
+    → ((level : Level) (outer : List Level) (ps : List Piece) → code_operator level outer ps c ≡ Some (to level outer ps))
+    → ((level : Level) (outer : List Level) (ps : List Piece) → is_shut (to level outer ps).mode ≡ false)
+    → ((outer : List Level) (l : Level) (front : List ℕ) (ps : List Piece) → Q outer l (to (level_after l front) outer ps))
+    → Leads quote (InCode []) (c ∷ []) Q
+end_leads quote c Q to h opens ends still there =
+    from_code is_code_mode [] quote (c ∷ []) Q (one_low c (operator_ascii c h)) (λ outer l front done held m simple few.
     let level = level_after l front in
-    let C : FieldScanned = field_state (level ∷ outer) done [] (plain m) held in
-    let ps = field_pieces C in (
+    let ps : List Piece = closed m done held in (
       to level outer ps,
-      breaks_to depth C (to level outer ps) c (operator_ascii c h) (operator_others c h).2 (operator_breaks m held c simple h) (no_opening _ c opens)
-          (ap (field_started (level ∷ outer) ps [] c) (start-operator c h) ∙ ends level outer ps),
+      breaks_to outer l front [] done m held simple c (to level outer ps) (operator-no_break c h) (operator_breaks m held c simple h) (no_opening _ c opens)
+          (ap (field_started (level ∷ outer) ps [] c) (start-operator c h) ∙ ends level outer ps) (λ outside. still level outer ps),
       there outer l front ps,
     ))
 
 pub field_ends : (quote : ℕ) → Leads quote (InCode []) (125 ∷ []) InText
 unfolding is_operator is_opening
 field_ends quote =
-    end_leads quote 125 InText (λ level outer ps. field_ended level outer (level.front ++ (spelled ps ++ 125 ∷ []))) refl refl brace_ends (λ outer l front ps. (front ++ (spelled ps ++ 125 ∷ []), refl))
+    end_leads quote 125 InText (λ level outer ps. field_ended level outer (level.front ++ (spelled ps ++ 125 ∷ []))) refl refl brace_ends (λ level outer ps. refl) (λ outer l front ps. (front ++ (spelled ps ++ 125 ∷ []), refl))
 
 pub specification_begins : (quote : ℕ) → Leads quote (InCode []) (58 ∷ []) AtSpecification
 unfolding is_operator is_opening
 specification_begins quote =
-    end_leads quote 58 AtSpecification (λ level outer ps. field_state (level ∷ outer) [] [] (body level.host specification false between) (level.front ++ (spelled ps ++ 58 ∷ []))) refl refl colon_opens (λ outer l front ps. (front, front ++ (spelled ps ++ 58 ∷ []), refl))
+    end_leads quote 58 AtSpecification (λ level outer ps. field_state (level ∷ outer) [] [] (body level.host specification false between) (level.front ++ (spelled ps ++ 58 ∷ []))) refl refl colon_opens (λ level outer ps. refl)
+    (λ outer l front ps. (front, front ++ (spelled ps ++ 58 ∷ []), refl))
 
 -- a specification
+abbrev specified : List Level → Level → List ℕ → List ℕ → FieldScanned
+specified outer l front held = field_state (level_after l front ∷ outer) [] [] (body l.host specification false between) held
+
 specified_leads : (quote c : ℕ) → is_literal_byte quote c ≡ true → Leads quote AtSpecification (c ∷ []) AtSpecification
-specified_leads quote c h outer l depth t same quotes room (front, held, is) =
+specified_leads quote c h =
     let own = literal_parts quote c h in
-    let S : List ℕ → FieldScanned = λ x. field_state (level_after l front ∷ outer) [] [] (body l.host specification false between) x in
-    subst (λ x. (u : FieldScanned) × GoesThrough depth x (c ∷ []) u × AtSpecification outer l u) (sym is) (
-      S (held ++ c ∷ []),
-      grows_to depth (S held) c (body l.host specification false between) own.low own.none (text_grows l.host quote c same own held specification),
+    leads_by quote AtSpecification AtSpecification (c ∷ []) (one_low c own.low) (λ outer l t few (front, held, is).
+    subst (λ x. (u : FieldScanned) × GoesOpen x (c ∷ []) u × AtSpecification outer l u) (sym is) (
+      specified outer l front (held ++ c ∷ []),
+      grows_to (specified outer l front held) c (body l.host specification false between) refl own.none (λ outside. refl) (text_grows l.host quote c few.0 own held specification),
       (front, held ++ c ∷ [], refl),
-    )
+    ))
 
 pub specifications_lead : (quote : ℕ) (run : List ℕ) → list_all (is_literal_byte quote) run ≡ true → Leads quote AtSpecification run AtSpecification
 specifications_lead quote = leads-run (is_literal_byte quote) quote AtSpecification (specified_leads quote)
 
 pub specification_ends : (quote : ℕ) → Leads quote AtSpecification (125 ∷ []) InText
 unfolding field_move body_move has_room_at is_break
-specification_ends quote outer l depth t same quotes room (front, held, is) =
-    let S : FieldScanned = field_state (level_after l front ∷ outer) [] [] (body l.host specification false between) held in
+specification_ends quote =
+    leads_by quote AtSpecification InText (125 ∷ []) refl (λ outer l t few (front, held, is).
     let ended : FieldScanned = field_state outer l.done l.openers (body l.host literal false between) (held ++ 125 ∷ []) in
-    subst (λ x. (u : FieldScanned) × GoesThrough depth x (125 ∷ []) u × InText outer l u) (sym is) (
+    subst (λ x. (u : FieldScanned) × GoesOpen x (125 ∷ []) u × InText outer l u) (sym is) (
       ended,
-      one_step depth S ended 125 ends_field (omega arith) refl (end_moves l.host between (ap is_quote same ∙ quotes)) (λ o e. keeps_open _ refl e) refl refl,
+      one_step (specified outer l front held) ended 125 ends_field refl refl (end_moves l.host between (ap is_quote few.0 ∙ few.1)) refl refl (λ outside. refl),
       (held ++ 125 ∷ [], refl),
-    )
+    ))

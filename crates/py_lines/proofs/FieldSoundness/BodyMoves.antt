@@ -71,9 +71,7 @@ quoted_prefix prefix (inr some) = ⊎_elim (λ is. plain_quotes prefix (inr is))
 full_string : (prefix inner text rest : List ℕ) (q : ℕ) → text ≡ prefix ++ (q ∷ inner) → is_field_prefix prefix ≡ true → is_quote q ≡ true → ((r : ℕ) → inner ≡ r ∷ [] → ⊥) → MayPrecedeIn fielded string text rest
 full_string prefix inner text rest q is begun quotes more other r spell also same =
     let cut = first_quote prefix other inner (r ∷ []) q r (field_letters prefix begun).quotes (quoted_prefix other also) quotes same (sym is ∙ spell) in
-    let all : q ∷ inner ≡ r ∷ r ∷ [] = cut.1 in
-    let own : inner ≡ r ∷ [] = cc in
-    absurd (more r own)
+    let all : q ∷ inner ≡ r ∷ r ∷ [] = cut.1 in let own : inner ≡ r ∷ [] = cc in absurd (more r own)
 
 more_than_one : (xs : List ℕ) (q r : ℕ) → IsFull xs → xs ++ q ∷ [] ≡ r ∷ [] → ⊥
 more_than_one [] q r full same = full

@@ -8,26 +8,20 @@ use Rattle.py_lines.specs.PieceGrammar.{is_bare, joined, InClassIn, MayPrecedeIn
 use Rattle.py_lines.specs.Balance.{is_opening, depth_through}
 use Rattle.py_lines.specs.Fields.{AreInside, IsSpecification, simple, specified, fielded, Fields}
 use Rattle.py_lines.specs.FieldStrings.{Host, Place, literal, specification, begins_open, field, is_field_prefix, with_fields}
-use Rattle.py_lines.specs.Private.Machine.{Mode}
+use Rattle.py_lines.specs.Private.Machine.{Mode, Start, Start as starts, class_of, start_of, Holds, closed, move_of, is_prefix_spelling, Move, Move as moves}
 use Rattle.py_lines.specs.Private.Mode as modes
-use Rattle.py_lines.specs.Private.Machine.{Start}
-use Rattle.py_lines.specs.Private.Machine.{Start as starts}
-use Rattle.py_lines.specs.Private.Machine.{class_of, start_of, Holds, closed, move_of, is_prefix_spelling}
 use Rattle.py_lines.specs.Private.FieldMachine.{before, between, plain, body, Level, FieldScanned, field_state, levels_open, field_ended, code_operator, after_operator, field_operator, field_started, openers_with, specification_ended, text_place, FieldMode, opened, FieldMove, field_fresh, host_of, begins_host, plain_move, field_moved}
-use Rattle.py_lines.specs.Private.ScanMachine.{BeginsPlain}
 use Rattle.py_lines.proofs.Pieces.PieceLists.{piece}
 use Rattle.py_lines.proofs.Text.CharacterTests.{not_quote, quote-not-start}
 use Rattle.py_lines.proofs.Machine.Starts.{StartsSo, starts_so}
 use Rattle.py_lines.proofs.Machine.Soundness.{StartHolds, start_holds, MoveHolds, move_holds}
 use Rattle.py_lines.proofs.FieldSoundness.OpenLists.{OpensIf, opens-operator, opens-depth, balanced_at}
-use Rattle.py_lines.proofs.FieldSoundness.Holds.{Limit, OpensSpecification, HoldsParts, HoldsBetween, IsSingle, HoldsLevel, HoldsLevels, Stands, AtStart, IsFieldSound, HoldsMode}
+use Rattle.py_lines.proofs.FieldSoundness.Holds.{BeginsPlain, Limit, OpensSpecification, HoldsParts, HoldsBetween, IsSingle, HoldsLevel, HoldsLevels, Stands, AtStart, IsFieldSound, HoldsMode}
 use Rattle.py_lines.proofs.FieldSoundness.BodyMoves.{no_parts, longer_next, push_between}
 use Rattle.py_lines.proofs.FieldSoundness.Lists.{FieldSoundIf, not_specification, no_pieces, sound_in, list_more, levels_more, adds_neutral, fresh_sound, stands_at, stands_more, stands_push}
 use Rattle.py_lines.proofs.FieldMachine.StringParts.{field_unnamed}
 use Rattle.std.specs.List.{list_any}
 use Rattle.py_lines.specs.declared.mode.Spelling.{Spelling}
-use Rattle.py_lines.specs.Private.Machine.{Move}
-use Rattle.py_lines.specs.Private.Machine.{Move as moves}
 use Rattle.py_lines.proofs.Fields.Parts.{not_nothing}
 use Rattle.py_lines.proofs.Fields.Prefixes.{word_quotes}
 use Rattle.py_lines.proofs.FieldMachine.Runs.{HasRoomFor}
@@ -48,8 +42,7 @@ single_at specification text one at = absurd (cc)
 field_end : (limit : Limit) (level : Level) (outer : List Level) (rest read : List ℕ) → HoldsLevel limit level outer → HoldsLevels limit level.place outer (spelled level.done ++ level.front) → limit.FieldsAt (length level.openers + levels_open outer) level.host (123 ∷ rest) → (level.place ≡ literal → begins_open rest ≡ false) → before level.place outer ++ (spelled level.done ++ (level.front ++ rest)) ≡ read → IsFieldSound limit (field_ended level outer (level.front ++ rest)) read
 field_end limit level outer rest read h levels is single spell =
     let depth = length level.openers + levels_open outer in
-    let front : h.text ++ 123 ∷ rest ≡ level.front ++ rest = sym (append_assoc h.text (123 ∷ []) rest) ∙ ap (λ t. t ++ rest) (sym h.spell) in
-    record {
+    let front : h.text ++ 123 ∷ rest ≡ level.front ++ rest = sym (append_assoc h.text (123 ∷ []) rest) ∙ ap (λ t. t ++ rest) (sym h.spell) in record {
       spell = spell;
       mode = subst (λ t. HoldsBetween limit outer depth level.host level.place false t []) front
           (push_between limit outer depth level.host level.place false false h.text (123 ∷ rest) [] (longer_next limit outer depth level.host level.place false h.text (123 ∷ []) rest h.parts)
@@ -71,7 +64,7 @@ inside_is limit level outer done read c ready =
 
 -- an operator that neither ends a field nor opens its specification
 after_sound : (limit : Limit) (outer : List Level) (done : List Piece) (openers read : List ℕ) (c : ℕ) → Ready limit outer done openers read c → (is_opening c ≡ true → limit.Room (length openers + levels_open outer)) → is_operator c ≡ true → ((l : Level) (ls : List Level) → outer ≡ l ∷ ls → (c == 58) && (depth_through 0 done == 0) ≡ false) → FieldSoundIf limit (after_operator outer done c (openers_with openers c)) (read ++ c ∷ [])
-after_sound limit outer done openers read c ready room is colon = go (openers_with openers c) (opens-operator openers done c ready.list.opens)
+after_sound limit outer done openers read c ready room is colon = go (openers_with openers c) (opens-operator openers done c [] ready.list.opens)
   where
     go : (o : Option (List ℕ)) → OpensIf o (done ++ piece operator (c ∷ []) ∷ []) → FieldSoundIf limit (after_operator outer done c o) (read ++ c ∷ [])
     go None opens = tt
@@ -82,8 +75,7 @@ after_sound limit outer done openers read c ready room is colon = go (openers_wi
 -- the `}` that ends a field without a specification
 code_ends : (limit : Limit) (level : Level) (outer : List Level) (done : List Piece) (read : List ℕ) (c : ℕ) → Ready limit (level ∷ outer) done [] read c → c ≡ 125 → IsFieldSound limit (field_ended level outer (level.front ++ (spelled done ++ c ∷ []))) (read ++ c ∷ [])
 code_ends limit level outer done read c ready is =
-    let own = ready.levels.1 in
-    let rest = spelled done ++ c ∷ [] in
+    let own = ready.levels.1 in let rest = spelled done ++ c ∷ [] in
     field_end limit level outer rest (read ++ c ∷ []) own ready.levels.2
     (limit.makes_field (length level.openers + levels_open outer) level.host (123 ∷ rest) own.room
     (simple done (ap (λ (d : ℕ). 123 ∷ (spelled done ++ d ∷ [])) is) (subst (λ (d : ℕ). AreInside fielded done (d ∷ [])) is (inside_is limit level outer done read c ready)) ready.list.passes))
@@ -93,9 +85,7 @@ code_ends limit level outer done read c ready is =
 -- the `:` that opens a specification
 code_specifies : (limit : Limit) (level : Level) (outer : List Level) (done : List Piece) (read : List ℕ) (c : ℕ) → Ready limit (level ∷ outer) done [] read c → c ≡ 58 → IsFieldSound limit (field_state (level ∷ outer) [] [] (body level.host specification false between) (level.front ++ (spelled done ++ c ∷ []))) (read ++ c ∷ [])
 code_specifies limit level outer done read c ready is =
-    let own = ready.levels.1 in
-    let rest = spelled done ++ c ∷ [] in
-    let held = level.front ++ rest in
+    let own = ready.levels.1 in let rest = spelled done ++ c ∷ [] in let held = level.front ++ rest in
     let opens : OpensSpecification limit level (levels_open (level ∷ outer)) level.host held = record {
       same_host = refl;
       inside = done;
@@ -151,9 +141,7 @@ start_sound limit outer done openers read c ready room = go (start_of c) (starts
 pub specification_ends : (limit : Limit) (outer : List Level) (openers : List ℕ) (host : Host) (held read : List ℕ) (c : ℕ) → openers ≡ [] → c ≡ 125 → HoldsParts limit outer (length openers + levels_open outer) host specification false held (125 ∷ []) → HoldsLevels limit specification outer held → before specification outer ++ held ≡ read → FieldSoundIf limit (specification_ended outer (held ++ c ∷ [])) (read ++ c ∷ [])
 specification_ends limit [] openers host held read c none is h levels spell = absurd levels
 specification_ends limit (level ∷ outer) openers host held read c none is h levels spell =
-    let own = levels.1 in
-    let opens = h.opens_with in
-    let same : level.host ≡ host = opens.same_host in
+    let own = levels.1 in let opens = h.opens_with in let same : level.host ≡ host = opens.same_host in
     let depth : length openers + levels_open (level ∷ outer) ≡ levels_open (level ∷ outer) =
     let zero : length openers ≡ 0 = ap length none in
     omega (arith, zero) in
@@ -213,7 +201,7 @@ QuotedSo held c (moves.Grows n) = class_of n ≡ string → BeginsPlain (held ++
 QuotedSo held c other = Unit {0}
 
 keeps_class : (class : Class) (held : List ℕ) (c : ℕ) (v : Move) → NoWord class v → (class ≡ string → BeginsPlain held) → QuotedSo held c v
-keeps_class class held c (moves.Grows n) same own = λ at. begins_plain-more held c (own (sym same.2 ∙ at))
+keeps_class class held c (moves.Grows n) same own = λ at. begins_plain-more held c (own (sym same.1 ∙ at))
 keeps_class class held c v same own = tt
 
 quoted_so : (m : Mode) (held : List ℕ) (c : ℕ) → Holds m [] held → (class_of m ≡ string → BeginsPlain held) → begins_host m held c ≡ false → QuotedSo held c (move_of m c)
@@ -286,8 +274,7 @@ module _ (limit : Limit) (outer : List Level) (done : List Piece) (openers : Lis
       go : (v : Move) → MoveHolds m held c v → QuotedSo held c v → move_of m c ≡ v → HasRoom limit (length openers + levels_open outer) c (plain_move v) → FieldSoundIf limit (field_moved (field_state outer done openers (plain m) held) c (plain_move v)) (read ++ c ∷ [])
       go (moves.Grows n) holds quoted so room = grew limit outer done openers (plain m) (plain n) held read c sound refl (holds, quoted) (no_start n holds)
       go moves.Closes holds quoted so room =
-          let text = held ++ c ∷ [] in
-          let class = closes_class m c so in
+          let text = held ++ c ∷ [] in let class = closes_class m c so in
           let is_plain : (rest : List ℕ) → IsPlainText (class_of m) text rest = λ rest. plain_text (class_of m) text rest (λ at. begins_plain-more held c (sound.mode.1 at)) (λ at. absurd (class.1 at)) in
           closes_with limit outer done openers (plain m) held read c (class_of m) sound refl class.0 (plain_class _ (class_of m) text [] (is_plain []) holds.0)
           (λ more. plain_precede Fields (class_of m) text more (is_plain more) (holds.1 more)) (unmarked m outer done sound.start)

@@ -15,7 +15,6 @@ use Rattle.py_lines.specs.FieldStrings.{is_field_prefix, Host, Place, literal, s
 use Rattle.py_lines.specs.Private.Mode as modes
 use Rattle.py_lines.specs.Private.Machine.{IsFull, Holds, class_of}
 use Rattle.py_lines.specs.Private.FieldMachine.{text_place, before, At, between, after_one, after_two, after_slash, after_return, after_name, after_brace, FieldMode, plain, opened, empty, body, Level, FieldScanned, levels_open, frames}
-use Rattle.py_lines.specs.Private.ScanMachine.{BeginsPlain}
 use Rattle.py_lines.proofs.FieldSoundness.OpenLists.{Opens}
 
 -- what may stand at a depth: which fields have their `{` there, which pieces begin there, and whether one more bracket or field
@@ -100,6 +99,16 @@ HoldsAt limit outer depth host place named after_name held =
 HoldsAt limit outer depth host place named after_brace held =
     (text : List ℕ) × (held ≡ text ++ byte "{" ∷ []) × (place ≡ literal) × (named ≡ false)
     × HoldsParts limit outer depth host place named text (byte "{" ∷ [])
+
+-- a string without fields begins so: its prefix has neither `f` nor `t`
+pub record BeginsPlain (text : List ℕ) : Type 0 where
+  pub prefix : List ℕ
+  pub quote : ℕ
+  pub body : List ℕ
+  pub spell : text ≡ prefix ++ quote ∷ body
+  pub none : list_any is_quote prefix ≡ false
+  pub opens : is_quote quote ≡ true
+  pub plain : is_field_prefix prefix ≡ false
 
 -- the piece that is open
 abbrev pub HoldsMode : Limit → List Level → ℕ → FieldMode → List ℕ → Type 0

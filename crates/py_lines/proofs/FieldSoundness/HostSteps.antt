@@ -44,9 +44,7 @@ empty_string limit outer depth host held h quotes short =
 pub empty_before : (host : Host) (held : List ℕ) (c : ℕ) (more : List ℕ) → OpensHost host (host.quote ∷ host.quote ∷ []) held → is_quote host.quote ≡ true → c == host.quote ≡ false → MayPrecedeIn fielded string held (c ∷ more)
 empty_before host held c more h quotes other prefix r spell begun also =
     let cut = first_quote h.prefix prefix (host.quote ∷ []) (r ∷ []) host.quote r (field_letters h.prefix h.begun).quotes (quoted_prefix prefix begun) quotes also (sym h.spell ∙ spell) in
-    let both : host.quote ∷ host.quote ∷ [] ≡ r ∷ r ∷ [] = cut.1 in
-    let one : host.quote ≡ r = cc in
-    subst (λ (d : ℕ). c == d ≡ false) one other
+    let both : host.quote ∷ host.quote ∷ [] ≡ r ∷ r ∷ [] = cut.1 in let one : host.quote ≡ r = cc in subst (λ (d : ℕ). c == d ≡ false) one other
 
 module _ (limit : Limit) (outer : List Level) (done : List Piece) (openers : List ℕ) (m : FieldMode) (held read : List ℕ) (c : ℕ) (sound : IsFieldSound limit (field_state outer done openers m held) read) where
   abbrev depth : ℕ
@@ -76,15 +74,13 @@ module _ (limit : Limit) (outer : List Level) (done : List Piece) (openers : Lis
       (λ opens. subst limit.Room (omega arith) (room.1 opens))
   -- a field opens at the character, in a specification
   moved_sound host place waits (opens_field h) at class (here, is, parts) room =
-      let front = held ++ c ∷ [] in
-      let level : Level = record { done = done; openers = openers; host = h; place = specification; front = front } in
+      let front = held ++ c ∷ [] in let level : Level = record { done = done; openers = openers; host = h; place = specification; front = front } in
       let stands = stands_more limit specification outer done openers held read (c ∷ []) (stands_at limit outer done openers m held read specification sound (at ∙ here)) in
       let own : HoldsLevel limit level outer = record { text = held; spell = ap (λ (d : ℕ). held ++ d ∷ []) is; list = stands.list; parts = parts; room = room } in
       record { spell = append-nil (before specification outer ++ (spelled done ++ front)) ∙ stands.spell; mode = (refl, λ h. absurd (cc)); list = no_pieces limit literal (level ∷ outer) []; levels = (tt, own, stands.levels); start = tt }
   -- the field ends whose specification is open
   moved_sound host place waits ends_field at class (here, is, parts) room =
-      let none = sound.list.no_list (at ∙ here) in
-      let text : spelled done ++ held ≡ held = ap (λ (l : List Piece). spelled l ++ held) none.0 in
+      let none = sound.list.no_list (at ∙ here) in let text : spelled done ++ held ≡ held = ap (λ (l : List Piece). spelled l ++ held) none.0 in
       let stands = stands_at limit outer done openers m held read specification sound (at ∙ here) in
       specification_ends limit outer openers host held read c none.1 is parts
       (subst (HoldsLevels limit specification outer) text stands.levels) (ap (λ t. before specification outer ++ t) (sym text) ∙ stands.spell)
@@ -100,14 +96,12 @@ unfolding field_move body_move
 step_sound limit outer done openers (plain m) held read c sound room =
     cond_both (begins_host m held c) _ _ (IsSoundBy limit (field_state outer done openers (plain m) held) read c) (λ is room. begins_sound limit outer done openers m held read c sound is) (λ other room. plain_sound limit outer done openers m held read c sound other room) room
 step_sound limit outer done openers (opened host) held read c sound room =
-    let depth = length openers + levels_open outer in
-    let (opens, quotes, short) = sound.mode in
+    let depth = length openers + levels_open outer in let (opens, quotes, short) = sound.mode in
     cond_both (c == host.quote) _ _ (IsSoundBy limit (field_state outer done openers (opened host) held) read c)
     (λ same room. grew limit outer done openers (opened host) (empty host) held read c sound refl (more_quotes host (host.quote ∷ []) held c same opens, quotes, short) tt)
     (λ other room. moved_sound limit outer done openers (opened host) held read c sound host literal false (body_move host literal false between c) refl refl (opened_moves limit outer depth host held c sound.mode other) room) room
 step_sound limit outer done openers (empty host) held read c sound room =
-    let depth = length openers + levels_open outer in
-    let (opens, quotes, short) = sound.mode in
+    let depth = length openers + levels_open outer in let (opens, quotes, short) = sound.mode in
     cond_both (c == host.quote) _ _ (IsSoundBy limit (field_state outer done openers (empty host) held) read c)
     (λ same room.
     let three = more_quotes host (host.quote ∷ host.quote ∷ []) held c same opens in

@@ -54,8 +54,7 @@ levels_more limit place (l ∷ ls) text more h = (single place l.place h.0, h.1,
 
 pub stands_more : (limit : Limit) (place : Place) (outer : List Level) (done : List Piece) (openers held read more : List ℕ) → Stands limit place outer done openers held read → Stands limit place outer done openers (held ++ more) (read ++ more)
 stands_more limit place outer done openers held read more h =
-    let text : (spelled done ++ held) ++ more ≡ spelled done ++ (held ++ more) = append_assoc (spelled done) held more in
-    record {
+    let text : (spelled done ++ held) ++ more ≡ spelled done ++ (held ++ more) = append_assoc (spelled done) held more in record {
       spell = ap (λ t. before place outer ++ t) (sym text) ∙ sym (append_assoc (before place outer) (spelled done ++ held) more) ∙ ap (λ t. t ++ more) h.spell;
       list = list_more limit outer place done openers held more h.list;
       levels = subst (HoldsLevels limit place outer) text (levels_more limit place outer (spelled done ++ held) more h.levels);
@@ -118,8 +117,7 @@ stands_push limit outer done openers after class text next read h adds =
 -- a piece that is no operator
 pub adds_neutral : (limit : Limit) (outer : List Level) (done : List Piece) (openers : List ℕ) (class : Class) (text next : List ℕ) → Opens openers done → (class ≡ operator → ⊥) → InClassIn (with_fields (limit.FieldsAt (length openers + levels_open outer))) class text → ((more : List ℕ) → MayPrecedeIn fielded class text (next ++ more)) → (is_mark_class class ≡ false) ⊎ ((outer ≡ []) × (done ≡ [])) → Adds limit outer done openers openers class text next
 adds_neutral limit outer done openers class text next opens other is precedes unmarked =
-    let own = neutral class text other in
-    record {
+    let own = neutral class text other in record {
       is = is;
       precedes = precedes;
       unmarked = unmarked;

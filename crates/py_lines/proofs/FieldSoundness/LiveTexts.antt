@@ -2,20 +2,21 @@
 -- each of them has room: from wherever it has come, the open piece, brackets and fields can be closed, and nothing more opens.
 use Rattle.std.proofs.Common.{◌≡◌, ◌==◌, ℕ, Bool, true, false, Some, List, [], ◌∷◌, ◌++◌, refl, sym, ap, ◌∙◌, subst, ◌&&◌, Option, None}
 use Rattle.std.specs.Str.{all_scalars}
-use Rattle.std.proofs.lemmas.Bool.{and_from, both_ways, eq-eqb, and_parts, and_right}
+use Rattle.std.proofs.lemmas.Bool.{and_from, both_ways, eq-eqb, and_parts, and_right, false_from_ne_true}
 use Rattle.py_lines.specs.Character.{is_quote, is_line_feed, is_return, is_break, is_backslash, is_brace}
 use Rattle.py_lines.specs.Piece.{operator, Piece, spelled, comment, line_end}
 use Rattle.py_lines.specs.Balance.{is_opening, is_closing, closing_of}
 use Rattle.py_lines.specs.FieldStrings.{Host, Place, literal, specification}
 use Rattle.py_lines.specs.Private.Mode as modes
-use Rattle.py_lines.specs.Private.Machine.{move_of, Holds, is_final}
-use Rattle.py_lines.specs.Private.FieldMachine.{At, between, after_one, after_two, after_slash, after_brace, FieldMode, plain, body, grows, closes, breaks, Level, FieldScanned, field_state, field_fresh, between_move, escape_move, body_move, field_move, after_operator, field_operator, field_ended, field_started, field_moved, field_closed, may_end, frames, IsFieldFinal, opened, empty, field_text_start, begins_host, plain_move, field_step, field_steps_from, field_pieces, have_room, has_room}
+use Rattle.py_lines.specs.Private.Machine.{move_of, Holds, is_final, Mode}
+use Rattle.py_lines.specs.Private.FieldMachine.{At, between, after_one, after_two, after_slash, after_brace, FieldMode, plain, body, FieldMove, grows, closes, breaks, ends_field, Level, FieldScanned, field_state, field_fresh, between_move, escape_move, body_move, field_move, after_operator, field_operator, field_ended, field_started, field_moved, field_closed, may_end, frames, IsFieldFinal, opened, empty, field_text_start, begins_host, host_of, plain_move, field_step, field_steps_from, field_pieces, have_room, has_room}
 use Rattle.py_lines.proofs.Text.CharacterTests.{not_quote}
 use Rattle.py_lines.proofs.Text.Utf8Prefixes.{all_scalars-append}
 use Rattle.py_lines.proofs.Pieces.PieceLists.{piece}
 use Rattle.py_lines.proofs.Pieces.OpenBrackets.{closing-not-opening}
 use Rattle.py_lines.proofs.Machine.Starts.{start-operator}
 use Rattle.py_lines.proofs.Machine.LiveTexts.{closing-operator, closing_of-closing, closing-scalar, quote-scalar, closing-not-quote, comment-breaks, feed-starts, completes}
+use Rattle.py_lines.proofs.Machine.PieceSteps.{some_is}
 use Rattle.py_lines.proofs.FieldMachine.Runs.{HasRoomFor, Goes, goes-append, goes-grows, goes-closes, goes-begins, BelowLimit, steps_of, room_of}
 use Rattle.py_lines.proofs.FieldMachine.StringParts.{goes_on, body_moves, second_brace}
 use Rattle.py_lines.proofs.FieldMachine.ListBrackets.{closing_pops, none_some}
@@ -29,7 +30,6 @@ use Rattle.py_lines.proofs.FieldSoundness.WholeTexts.{two_hundred, rooms_at, fin
 use Rattle.py_lines.proofs.FieldMachine.StringRuns.{second_quote}
 use Rattle.std.proofs.Math.Bool.{and_assoc}
 use Rattle.py_lines.specs.Faults.{IsLive}
-use Rattle.py_lines.specs.Private.Machine.{Mode}
 
 -- a mode in which the text may end, or a closing bracket follow
 pub record IsReadyField (m : FieldMode) (held : List ℕ) : Type 0 where
@@ -40,21 +40,42 @@ pub ready-fresh : IsReadyField (plain modes.Free) []
 unfolding field_move move_of
 ready-fresh = record { ends = refl; closing = λ c h. refl }
 
+-- whether the character begins a string with fields; none begins at a text's characters
+abbrev pub host_at : FieldMode → List ℕ → ℕ → Bool
+host_at (plain m) held c = begins_host m held c
+host_at other held c = false
+
+abbrev pub BeginsNone : FieldScanned → List ℕ → Type 0
+BeginsNone s [] = Unit {0}
+BeginsNone s (c ∷ cs) = (host_at s.mode s.held c ≡ false) × ((next : FieldScanned) → field_step s c ≡ Some next → BeginsNone next cs)
+
+-- so where the move is another one
+abbrev opens_host : FieldMove → Bool
+opens_host (grows (opened host)) = true
+opens_host other = false
+
+begins_none : (m : FieldMode) (held : List ℕ) (c : ℕ) (v : FieldMove) → opens_host v ≡ false → field_move m held c ≡ v → host_at m held c ≡ false
+unfolding field_move
+begins_none (plain m) held c v other move = false_from_ne_true _ (λ begins. let is : field_move (plain m) held c ≡ grows (opened (host_of held c)) = rw begins refl in both_ways _ other (ap opens_host (sym move ∙ is)))
+begins_none m held c v other move = refl
+
 -- a text that leads to an end
 pub record Finishes (Room : ℕ → Type 0) (s : FieldScanned) : Type 0 where
   pub more : List ℕ
   pub to : FieldScanned
   pub scalars : all_scalars more ≡ true
   pub goes : Goes Room s more to
+  pub none : BeginsNone s more
   pub final : IsFieldFinal to
 
--- a text that leads to an end after one that leads to such a mode
-pub finishes_after : (Room : ℕ → Type 0) (s t : FieldScanned) (more : List ℕ) → all_scalars more ≡ true → Goes Room s more t → Finishes Room t → Finishes Room s
-finishes_after Room s t more scalars goes later = record {
-  more = more ++ later.more;
+-- one character more, and then such a text
+finishes_after : (Room : ℕ → Type 0) (s t : FieldScanned) (c : ℕ) (v : FieldMove) → all_scalars (c ∷ []) ≡ true → opens_host v ≡ false → field_move s.mode s.held c ≡ v → Goes Room s (c ∷ []) t → Finishes Room t → Finishes Room s
+finishes_after Room s t c v scalar other move goes later = record {
+  more = c ∷ later.more;
   to = later.to;
-  scalars = all_scalars-append more later.more scalars later.scalars;
-  goes = goes-append Room s t later.to more later.more goes later.goes;
+  scalars = all_scalars-append (c ∷ []) later.more scalar later.scalars;
+  goes = goes-append Room s t later.to (c ∷ []) later.more goes later.goes;
+  none = (begins_none s.mode s.held c v other move, λ next step. subst (λ x. BeginsNone x later.more) (sym goes.3 ∙ some_is goes.0 next (sym goes.1 ∙ step)) later.none);
   final = later.final;
 }
 
@@ -66,23 +87,20 @@ ReadyFinishes Room outer openers = (done : List Piece) (m : FieldMode) (held : L
 abbrev pub Readies : (ℕ → Type 0) → FieldScanned → Type 0
 Readies Room s = ReadyFinishes Room s.outer s.openers → Finishes Room s
 
-pub at_once : (Room : ℕ → Type 0) (s : FieldScanned) → IsReadyField s.mode s.held → Readies Room s
-at_once Room s ready later = later s.done s.mode s.held ready
-
 -- one character more, by which the open piece grows, or with which it ends
-grows_on : (Room : ℕ → Type 0) (s : FieldScanned) (m : FieldMode) (c : ℕ) → all_scalars (c ∷ []) ≡ true → field_move s.mode s.held c ≡ grows m → Finishes Room (field_state s.outer s.done s.openers m (s.held ++ c ∷ [])) → Finishes Room s
-grows_on Room s m c scalar move later = finishes_after Room s _ (c ∷ []) scalar (goes-grows Room s _ m c [] move refl) later
+grows_on : (Room : ℕ → Type 0) (s : FieldScanned) (m : FieldMode) (c : ℕ) → all_scalars (c ∷ []) ≡ true → opens_host (grows m) ≡ false → field_move s.mode s.held c ≡ grows m → Finishes Room (field_state s.outer s.done s.openers m (s.held ++ c ∷ [])) → Finishes Room s
+grows_on Room s m c scalar other move later = finishes_after Room s _ c (grows m) scalar other move (goes-grows Room s _ m c [] move refl) later
 
-pub grows_first : (Room : ℕ → Type 0) (s : FieldScanned) (m : FieldMode) (c : ℕ) → all_scalars (c ∷ []) ≡ true → field_move s.mode s.held c ≡ grows m → Readies Room (field_state s.outer s.done s.openers m (s.held ++ c ∷ [])) → Readies Room s
-grows_first Room s m c scalar move next later = grows_on Room s m c scalar move (next later)
+grows_first : (Room : ℕ → Type 0) (s : FieldScanned) (m : FieldMode) (c : ℕ) → all_scalars (c ∷ []) ≡ true → opens_host (grows m) ≡ false → field_move s.mode s.held c ≡ grows m → Readies Room (field_state s.outer s.done s.openers m (s.held ++ c ∷ [])) → Readies Room s
+grows_first Room s m c scalar other move next later = grows_on Room s m c scalar other move (next later)
 
-pub closes_last : (Room : ℕ → Type 0) (s : FieldScanned) (c : ℕ) → all_scalars (c ∷ []) ≡ true → field_move s.mode s.held c ≡ closes → Readies Room s
-closes_last Room s c scalar move later = finishes_after Room s _ (c ∷ []) scalar (goes-closes Room s c move) (later _ (plain modes.Free) [] ready-fresh)
+closes_last : (Room : ℕ → Type 0) (s : FieldScanned) (c : ℕ) → all_scalars (c ∷ []) ≡ true → field_move s.mode s.held c ≡ closes → Readies Room s
+closes_last Room s c scalar move later = finishes_after Room s _ c closes scalar refl move (goes-closes Room s c move) (later _ (plain modes.Free) [] ready-fresh)
 
 -- a closing bracket, or the `}` of a field, after a mode that is ready
 closes_by : (Room : ℕ → Type 0) (outer : List Level) (done : List Piece) (openers : List ℕ) (m : FieldMode) (held : List ℕ) (c : ℕ) (next : FieldScanned) → IsReadyField m held → is_closing c ≡ true → field_operator outer (field_closed m done held) openers c ≡ Some next → Finishes Room next → Finishes Room (field_state outer done openers m held)
 closes_by Room outer done openers m held c next ready is shuts later =
-    finishes_after Room (field_state outer done openers m held) next (c ∷ []) (and_from _ _ (closing-scalar c is) refl)
+    finishes_after Room (field_state outer done openers m held) next c breaks (and_from _ _ (closing-scalar c is) refl) refl (ready.closing c is)
     (goes-begins Room (field_state outer done openers m held) next next c [] (ready.closing c is)
     (ap (field_started outer (field_closed m done held) openers c) (start-operator c (closing-operator c is)) ∙ shuts) (λ opens. absurd (both_ways _ (closing-not-opening c is) opens)) refl) later
 
@@ -95,28 +113,24 @@ popped (l ∷ ls) done o os c is kind = ap (after_operator (l ∷ ls) done c) (c
 closes_list : (Room : ℕ → Type 0) (outer : List Level) (openers : List ℕ) → ReadyFinishes Room outer [] → ReadyFinishes Room outer openers
 closes_list Room outer [] later done m held ready = later done m held ready
 closes_list Room outer (o ∷ os) later done m held ready =
-    let is = closing_of-closing o in
-    let pieces = field_closed m done held in
+    let is = closing_of-closing o in let pieces = field_closed m done held in
     let next = field_fresh outer (pieces ++ piece operator (closing_of o ∷ []) ∷ []) os in
     closes_by Room outer done (o ∷ os) m held (closing_of o) next ready is (popped outer pieces o os (closing_of o) is (eq-eqb (closing_of o) (closing_of o) refl))
     (closes_list Room outer os later next.done next.mode next.held ready-fresh)
-
-closing-brace : is_closing 125 ≡ true
-unfolding is_closing
-closing-brace = refl
 
 -- code can be finished: outside fields the text may end there, and in a field `}` leads back into the string
 outside_finishes : (Room : ℕ → Type 0) (openers : List ℕ) → ReadyFinishes Room [] openers
 outside_finishes Room openers =
     closes_list Room [] openers
-    (λ done m held ready. record { more = []; to = field_state [] done [] m held; scalars = refl; goes = refl; final = record { outside = refl; closed_all = refl; ends = ready.ends } })
+    (λ done m held ready. record { more = []; to = field_state [] done [] m held; scalars = refl; goes = refl; none = tt; final = record { outside = refl; closed_all = refl; ends = ready.ends } })
 
 code_finishes : (Room : ℕ → Type 0) (l : Level) (ls : List Level) (openers : List ℕ) → ((text : List ℕ) → Finishes Room (field_ended l ls text)) → ReadyFinishes Room (l ∷ ls) openers
+unfolding is_closing
 code_finishes Room l ls openers later =
     closes_list Room (l ∷ ls) openers
     (λ done m held ready.
     let text = l.front ++ (spelled (field_closed m done held) ++ 125 ∷ []) in
-    closes_by Room (l ∷ ls) done [] m held 125 (field_ended l ls text) ready closing-brace (brace_ends l ls (field_closed m done held)) (later text))
+    closes_by Room (l ∷ ls) done [] m held 125 (field_ended l ls text) ready refl (brace_ends l ls (field_closed m done held)) (later text))
 
 quote_one : (q : ℕ) → is_quote q ≡ true → all_scalars (q ∷ []) ≡ true
 quote_one q quotes = and_from _ _ (quote-scalar q quotes) refl
@@ -129,8 +143,8 @@ literal_readies Room outer done openers host named held quotes = go host.is_long
     go : (b : Bool) → host.is_long ≡ b → Readies Room (field_state outer done openers (body host literal named between) held)
     go false short = closes_last Room _ host.quote (quote_one host.quote quotes) (rw (eq-eqb host.quote host.quote refl, short))
     go true long =
-        grows_first Room _ (body host literal named after_one) host.quote (quote_one host.quote quotes) (rw (eq-eqb host.quote host.quote refl, long))
-        (grows_first Room _ (body host literal named after_two) host.quote (quote_one host.quote quotes) (rw (eq-eqb host.quote host.quote refl, long))
+        grows_first Room _ (body host literal named after_one) host.quote (quote_one host.quote quotes) refl (rw (eq-eqb host.quote host.quote refl, long))
+        (grows_first Room _ (body host literal named after_two) host.quote (quote_one host.quote quotes) refl (rw (eq-eqb host.quote host.quote refl, long))
         (closes_last Room _ host.quote (quote_one host.quote quotes) (rw (eq-eqb host.quote host.quote refl, long))))
 
 -- a letter, and `}`, in a string
@@ -155,10 +169,9 @@ module _ (limit : Limit) (Room : ℕ → Type 0) where
       (code_finishes Room l ls openers (λ more. string_finishes l.place ls l.done l.openers l.host more _ levels.1.parts.quotes levels.2))
   string_finishes specification [] done openers host held text quotes levels = absurd levels
   string_finishes specification (l ∷ ls) done openers host held text quotes levels =
-      let s = field_state (l ∷ ls) done openers (body host specification false between) held in
-      let next = field_ended l ls (held ++ 125 ∷ []) in
+      let s = field_state (l ∷ ls) done openers (body host specification false between) held in let next = field_ended l ls (held ++ 125 ∷ []) in
       let move = body_moves host specification false between held 125 [] (goes_on host specification false (125 ∷ [])) ∙ end_moves host between quotes in
-      finishes_after Room s next (125 ∷ []) refl (next, ap (field_moved s 125) move, subst (HasRoomFor Room (frames s) 125) (sym move) tt, refl)
+      finishes_after Room s next 125 ends_field refl refl move (next, ap (field_moved s 125) move, subst (HasRoomFor Room (frames s) 125) (sym move) tt, refl)
       (string_finishes l.place ls l.done l.openers l.host (held ++ 125 ∷ []) _ levels.1.parts.quotes levels.2)
 
   -- code in any list
@@ -170,15 +183,15 @@ module _ (limit : Limit) (Room : ℕ → Type 0) where
   between_finishes : (place : Place) (outer : List Level) (done : List Piece) (openers : List ℕ) (host : Host) (named : Bool) (held text : List ℕ) → is_quote host.quote ≡ true → HoldsLevels limit place outer text → Finishes Room (field_state outer done openers (body host place named between) held)
   between_finishes place outer done openers host false held text quotes levels = string_finishes place outer done openers host held text quotes levels
   between_finishes place outer done openers host true held text quotes levels =
-      grows_on Room (field_state outer done openers (body host place true between) held) (body host place false between) 125 refl (name_ends host place held quotes)
+      grows_on Room (field_state outer done openers (body host place true between) held) (body host place false between) 125 refl refl (name_ends host place held quotes)
       (string_finishes place outer done openers host (held ++ 125 ∷ []) text quotes levels)
 
   pub body_finishes : (place : Place) (outer : List Level) (done : List Piece) (openers : List ℕ) (host : Host) (named : Bool) (at : At) (held text : List ℕ) → is_quote host.quote ≡ true → HoldsLevels limit place outer text → Finishes Room (field_state outer done openers (body host place named at) held)
   body_finishes place outer done openers host named after_brace held text quotes levels =
-      grows_on Room (field_state outer done openers (body host place named after_brace) held) (body host place named between) 123 refl (second_brace host place named held)
+      grows_on Room (field_state outer done openers (body host place named after_brace) held) (body host place named between) 123 refl refl (second_brace host place named held)
       (between_finishes place outer done openers host named (held ++ 123 ∷ []) text quotes levels)
   body_finishes place outer done openers host named at held text quotes levels =
-      grows_on Room (field_state outer done openers (body host place named at) held) (body host place named between) 97 refl (letter_moves host place named at held quotes (λ same. absurd (cc)))
+      grows_on Room (field_state outer done openers (body host place named at) held) (body host place named between) 97 refl refl (letter_moves host place named at held quotes (λ same. absurd (cc)))
       (between_finishes place outer done openers host named (held ++ 97 ∷ []) text quotes levels)
 
 -- no string with fields begins in a string or after a backslash
@@ -202,17 +215,17 @@ module _ (Room : ℕ → Type 0) (outer : List Level) (done : List Piece) (opene
   comment_ends : (held : List ℕ) → Readies Room (State modes.Comment held)
   unfolding is_opening
   comment_ends held later =
-      let pieces = done ++ piece comment held ∷ [] in
-      let next = field_fresh outer (pieces ++ piece line_end (10 ∷ []) ∷ []) openers in
-      finishes_after Room (State modes.Comment held) next (10 ∷ []) refl
-      (goes-begins Room (State modes.Comment held) next next 10 [] (plain_moves modes.Comment held 10 refl ∙ ap plain_move comment-breaks) (ap (field_started outer pieces openers 10) feed-starts) (λ opens. absurd (both_ways _ refl opens)) refl)
+      let pieces = done ++ piece comment held ∷ [] in let next = field_fresh outer (pieces ++ piece line_end (10 ∷ []) ∷ []) openers in
+      let move = plain_moves modes.Comment held 10 refl ∙ ap plain_move comment-breaks in
+      finishes_after Room (State modes.Comment held) next 10 breaks refl refl move
+      (goes-begins Room (State modes.Comment held) next next 10 [] move (ap (field_started outer pieces openers 10) feed-starts) (λ opens. absurd (both_ways _ refl opens)) refl)
       (later next.done next.mode next.held ready-fresh)
 
   -- the open piece can be finished
   plain_readies : (m : Mode) (held : List ℕ) → Holds m [] held → Readies Room (State m held)
   plain_readies m held holds =
-      completes (λ n text. Readies Room (State n text)) (λ n text ready. at_once Room (State n text) (record { ends = ready.ends; closing = λ c h. plain_moves n text c (no_host_closing n text c h) ∙ ap plain_move (ready.breaks c h) }))
-      (λ n next text c open_yet scalar move later. grows_first Room (State n text) (plain next) c (and_from _ _ scalar refl) (plain_moves n text c (no_host n text c open_yet) ∙ ap plain_move move) later)
+      completes (λ n text. Readies Room (State n text)) (λ n text ready later. later done (plain n) text (record { ends = ready.ends; closing = λ c h. plain_moves n text c (no_host_closing n text c h) ∙ ap plain_move (ready.breaks c h) }))
+      (λ n next text c open_yet scalar move later. grows_first Room (State n text) (plain next) c (and_from _ _ scalar refl) refl (plain_moves n text c (no_host n text c open_yet) ∙ ap plain_move move) later)
       (λ n text c open_yet scalar move. closes_last Room (State n text) c (and_from _ _ scalar refl) (plain_moves n text c (no_host n text c open_yet) ∙ ap plain_move move)) comment_ends m [] held holds
 
 -- the quote of a string that is open
@@ -225,8 +238,8 @@ pub state_finishes : (limit : Limit) (Room : ℕ → Type 0) (outer : List Level
 state_finishes limit Room outer done openers (plain m) held read sound = plain_readies Room outer done openers m held sound.mode.0 (list_finishes limit Room outer openers _ sound.levels)
 state_finishes limit Room outer done openers (opened host) held read sound =
     let quotes = sound.mode.1 in
-    grows_first Room (field_state outer done openers (opened host) held) (empty host) host.quote (and_from _ _ (quote-scalar host.quote quotes) refl) (second_quote host held)
-    (at_once Room (field_state outer done openers (empty host) (held ++ host.quote ∷ [])) (ready_empty host (held ++ host.quote ∷ []) quotes)) (list_finishes limit Room outer openers _ sound.levels)
+    grows_first Room (field_state outer done openers (opened host) held) (empty host) host.quote (and_from _ _ (quote-scalar host.quote quotes) refl) refl (second_quote host held)
+    (λ later. later done (empty host) (held ++ host.quote ∷ []) (ready_empty host (held ++ host.quote ∷ []) quotes)) (list_finishes limit Room outer openers _ sound.levels)
 state_finishes limit Room outer done openers (empty host) held read sound = list_finishes limit Room outer openers _ sound.levels done (empty host) held (ready_empty host held sound.mode.1)
 state_finishes limit Room outer done openers (body host place named at) held read sound =
     body_finishes limit Room place outer done openers host named at held _ (quotes_at limit outer _ host place named at held sound.mode) sound.levels

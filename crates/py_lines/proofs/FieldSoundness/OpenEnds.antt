@@ -17,9 +17,8 @@ use Rattle.py_lines.proofs.FieldSoundness.OpenLists.{Opens, opens-closes, opens-
 use Rattle.py_lines.proofs.FieldSoundness.Holds.{Limit, PartsAt, HoldsParts, HoldsList, HoldsLevel, HoldsLevels, HoldsAt, IsFieldSound}
 use Rattle.py_lines.proofs.FieldSoundness.CodeSteps.{single_at}
 use Rattle.py_lines.specs.Character.{is_backslash, is_brace}
-use Rattle.py_lines.specs.Private.Machine.{Mode}
+use Rattle.py_lines.specs.Private.Machine.{Mode, class_of, in_short, in_long}
 use Rattle.py_lines.specs.Private.Mode as modes
-use Rattle.py_lines.specs.Private.Machine.{class_of, in_short, in_long}
 use Rattle.py_lines.proofs.Pieces.TripleQuotes.{triple-other}
 use Rattle.py_lines.proofs.Machine.OpenStrings.{short_held, long_held}
 use Rattle.py_lines.proofs.Fields.Prefixes.{plain_quotes}
@@ -41,7 +40,7 @@ unfolding closers_of
 opens-close [] ps opens = subst IsBalanced (sym (append-nil ps)) (balanced_at [] ps refl opens)
 opens-close (o ∷ os) ps opens =
     let p : Piece = piece operator (closing_of o ∷ []) in
-    subst IsBalanced (append_assoc ps (p ∷ []) (closers_of os)) (opens-close os (ps ++ p ∷ []) (opens-closes o (closing_of o) os ps opens (closing_of-closing o) (eq-eqb (closing_of o) (closing_of o) refl)))
+    subst IsBalanced (append_assoc ps (p ∷ []) (closers_of os)) (opens-close os (ps ++ p ∷ []) (opens-closes o os ps p opens (closing_of-closing o) (eq-eqb (closing_of o) (closing_of o) refl)))
 
 -- so the pieces of a list are begun before a rest
 pub begun_before : (outer : List Level) (pieces : List Piece) (openers rest : List ℕ) → AreReadIn fielded pieces rest → Opens openers pieces → ((l : Level) (ls : List Level) → outer ≡ l ∷ ls → (begins_marked pieces ≡ false) × HasNoColon 0 pieces) → AreBegun (levels_open outer) pieces rest
@@ -96,23 +95,19 @@ literal_open limit outer done openers host named text rest held more same list h
       (parts_map _ Fields (limit.are_fields (length openers + levels_open outer)) host literal false h.parts rest h.fit) h.open_yet;
   place_is = refl;
   named_is = h.named_is;
-  depth_is =
-      let own = opens-depth openers done 0 list.opens in
-      omega (arith, own);
+  depth_is = let own = opens-depth openers done 0 list.opens in omega (arith, own);
 }
 
 -- and a specification
 specification_open : (limit : Limit) (l : Level) (ls : List Level) (done : List Piece) (openers : List ℕ) (host : Host) (named : Bool) (text rest : List ℕ) (own : HoldsLevel limit l ls) → done ≡ [] → openers ≡ [] → (h : PartsAt limit (l ∷ ls) (length openers + levels_open (l ∷ ls)) host specification named text rest) → IsOpenBefore l.place ls l.done l.openers l.host false own.text (byte "{" ∷ (spelled h.opens_with.inside ++ (byte ":" ∷ (joined h.parts ++ rest)))) → IsOpenBefore specification (l ∷ ls) done openers host named text rest
 specification_open limit l ls done openers host named text rest own no_done no_openers h inner =
-    let opens = h.opens_with in
-    let code = spelled opens.inside in
+    let opens = h.opens_with in let code = spelled opens.inside in
     let front : text ≡ own.text ++ (123 ∷ (code ++ (58 ∷ joined h.parts))) =
     h.spell ∙ ap (λ t. t ++ joined h.parts) (opens.spell ∙ ap (λ t. t ++ (code ++ 58 ∷ [])) own.spell) ∙ simp append_assoc in
     let whole : own.text ++ (123 ∷ (code ++ (58 ∷ (joined h.parts ++ rest)))) ≡ text ++ rest =
     (simp append_assoc) ∙ ap (λ t. t ++ rest) (sym front) in
     let spot = specification_after inner.spot own.text h.parts in
-    let string : IsOpenString l.host inner.spot own.text (123 ∷ (code ++ (58 ∷ (joined h.parts ++ rest)))) = inner.string in
-    record {
+    let string : IsOpenString l.host inner.spot own.text (123 ∷ (code ++ (58 ∷ (joined h.parts ++ rest)))) = inner.string in record {
       outside = inner.outside;
       base = inner.base;
       pieces = inner.pieces;
@@ -126,10 +121,7 @@ specification_open limit l ls done openers host named text rest own no_done no_o
           (parts_map _ Fields (limit.are_fields (length openers + levels_open (l ∷ ls))) host specification false h.parts rest h.fit) h.open_yet;
       place_is = refl;
       named_is = h.named_is;
-      depth_is =
-          let inner_depth = inner.depth_is in
-          let zero : length openers ≡ 0 = ap length no_openers in
-          omega (arith, inner_depth, zero);
+      depth_is = let inner_depth = inner.depth_is in let zero : length openers ≡ 0 = ap length no_openers in omega (arith, inner_depth, zero);
     }
 
 -- so is any string that the machine holds
@@ -137,8 +129,7 @@ pub stands_open : (limit : Limit) (place : Place) (outer : List Level) (done : L
 stands_open limit literal [] done openers host named text rest held more same list h levels =
     literal_open limit [] done openers host named text rest held more same list h (at_start [] _ 0 refl refl)
 stands_open limit literal (l ∷ ls) done openers host named text rest held more same list h levels =
-    let own = levels.1 in
-    let code = spelled done ++ (text ++ rest) in
+    let own = levels.1 in let code = spelled done ++ (text ++ rest) in
     let is : code ≡ (spelled done ++ held) ++ more = ap (λ t. spelled done ++ t) same ∙ sym (append_assoc (spelled done) held more) in
     let inner = stands_open limit l.place ls l.done l.openers l.host false own.text (123 ∷ code) l.front code
     (sym (append_assoc own.text (123 ∷ []) code) ∙ ap (λ t. t ++ code) (sym own.spell)) own.list
@@ -147,9 +138,7 @@ stands_open limit literal (l ∷ ls) done openers host named text rest held more
     (begins_in l ls own.text code own.spell (λ at. ap begins_open is ∙ single_at l.place (spelled done ++ held) levels.0 at more) inner)
 stands_open limit specification [] done openers host named text rest held more same list h levels = absurd levels
 stands_open limit specification (l ∷ ls) done openers host named text rest held more same list h levels =
-    let own = levels.1 in
-    let none = list.no_list refl in
-    let code = spelled h.opens_with.inside ++ (58 ∷ (joined h.parts ++ rest)) in
+    let own = levels.1 in let none = list.no_list refl in let code = spelled h.opens_with.inside ++ (58 ∷ (joined h.parts ++ rest)) in
     let inner = stands_open limit l.place ls l.done l.openers l.host false own.text (123 ∷ code) l.front code
     (sym (append_assoc own.text (123 ∷ []) code) ∙ ap (λ t. t ++ code) (sym own.spell)) own.list
     (parts_at limit ls (length l.openers + levels_open ls) l.host l.place false own.text (123 ∷ []) code own.parts) levels.2 in
@@ -159,8 +148,7 @@ stands_open limit specification (l ∷ ls) done openers host named text rest hel
 pub list_begins : (limit : Limit) (outer : List Level) (text more : List ℕ) → HoldsLevels limit literal outer text → BeginsList (before literal outer) (text ++ more) (levels_open outer)
 list_begins limit [] text more levels = at_start [] _ 0 refl refl
 list_begins limit (l ∷ ls) text more levels =
-    let own = levels.1 in
-    let code = text ++ more in
+    let own = levels.1 in let code = text ++ more in
     begins_in l ls own.text code own.spell (λ at. single_at l.place text levels.0 at more)
     (stands_open limit l.place ls l.done l.openers l.host false own.text (123 ∷ code) l.front code
     (sym (append_assoc own.text (123 ∷ []) code) ∙ ap (λ t. t ++ code) (sym own.spell)) own.list
@@ -225,8 +213,7 @@ module _ (limit : Limit) (outer : List Level) (done : List Piece) (openers : Lis
   -- a piece of the innermost list that is open
   pub piece_open : (IsOpen : List ℕ → Type 0) → text_place m ≡ literal → IsOpen held → StandsOpen IsOpen read (before literal outer ++ spelled done)
   piece_open IsOpen at is =
-      let here = stands_at limit outer done openers m held read literal sound at in
-      record {
+      let here = stands_at limit outer done openers m held read literal sound at in record {
         outside = before literal outer;
         depth = levels_open outer;
         pieces = done;
@@ -282,10 +269,8 @@ long_is_open limit outer done openers m held read sound is =
 -- the code of a field, whose brackets are closed
 pub code_open_at : (limit : Limit) (l : Level) (ls : List Level) (done : List Piece) (m : FieldMode) (held read start : List ℕ) → IsFieldSound limit (field_state (l ∷ ls) done [] m held) read → may_end m ≡ true → before literal (l ∷ ls) ≡ start ++ 123 ∷ [] → InFieldCode read start
 code_open_at limit l ls done m held read start sound may brace =
-    let here = stands_at limit (l ∷ ls) done [] m held read literal sound (code_at_end m may) in
-    let pieces = field_closed m done held in
-    let ends = list_ends limit (l ∷ ls) done [] m held read sound may in
-    record {
+    let here = stands_at limit (l ∷ ls) done [] m held read literal sound (code_at_end m may) in let pieces = field_closed m done held in
+    let ends = list_ends limit (l ∷ ls) done [] m held read sound may in record {
       depth = levels_open (l ∷ ls);
       pieces = pieces;
       list = subst (λ t. BeginsList (start ++ 123 ∷ []) t (levels_open (l ∷ ls))) (append-nil (spelled done ++ held) ∙ sym ends.spell)

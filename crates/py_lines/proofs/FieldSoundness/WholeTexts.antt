@@ -46,8 +46,7 @@ module _ (limit : Limit) (outer : List Level) (done : List Piece) (openers : Lis
 
   ends_piece : (class : Class) → (class ≡ operator → ⊥) → is_mark_class class ≡ false → InClassIn (with_fields (limit.FieldsAt (length openers + levels_open outer))) class held → MayPrecedeIn fielded class held [] → EndsList limit outer openers (done ++ piece class held ∷ []) (spelled done ++ held)
   ends_piece class other marked is precedes =
-      let own = neutral class held other in
-      let is_field = class_map _ Fields (limit.are_fields (length openers + levels_open outer)) class held is in
+      let own = neutral class held other in let is_field = class_map _ Fields (limit.are_fields (length openers + levels_open outer)) class held is in
       record {
         spell = spelled-push done class held;
         fit = AreReadIn-push fielded done class held [] (sound.list.fit []) is_field precedes (follows_any done class held marked);
@@ -135,8 +134,7 @@ pub final_is_reading : (characters : List ℕ) (s : FieldScanned) → field_step
 final_is_reading characters s steps room final =
     let sound : IsFieldSound two_hundred (field_state s.outer s.done s.openers s.mode s.held) characters = sound_at two_hundred characters s (rooms_at (Some field_text_start) characters room) steps in
     let own = rw (final.outside, final.closed_all) at sound in
-    let list = list_ends two_hundred [] s.done [] s.mode s.held characters own final.ends in
-    record {
+    let list = list_ends two_hundred [] s.done [] s.mode s.held characters own final.ends in record {
       reads = record { spell = list.spell ∙ sym (ap (λ p. before p [] ++ (spelled s.done ++ s.held)) (code_at_end s.mode final.ends)) ∙ own.spell; fit = list.fit };
       balanced = balanced_at [] (field_pieces s) refl list.opens;
       shallow = list.passes;

@@ -10,9 +10,9 @@ use Rattle.py_lines.specs.Fields.{Fields, fielded, IsShallowWith, ShallowFields}
 use Rattle.py_lines.specs.Reading.{IsBalancedReading}
 use Rattle.py_lines.specs.WithoutFields.{IsPlainReading}
 use Rattle.py_lines.specs.FieldStrings.{is_field_prefix, Host, quotes_of, IsFieldString, with_fields, may_have_fields}
-use Rattle.py_lines.specs.Private.ScanMachine.{BeginsPlain}
 use Rattle.std.specs.List.{list_any}
 use Rattle.py_lines.proofs.Fields.Prefixes.{plain_quotes, field_letters, first_quote}
+use Rattle.py_lines.proofs.FieldSoundness.Holds.{BeginsPlain}
 
 -- what follows some of the text has none either
 pub later : (a b : List ℕ) → may_have_fields (a ++ b) ≡ false → may_have_fields b ≡ false
@@ -61,6 +61,14 @@ other_prefix text prefix body q is spell none quotes =
     let cut = first_quote prefix is.prefix body is.body q is.quote none is.none quotes is.opens (sym spell ∙ is.spell) in
     ap is_field_prefix cut.0 ∙ is.plain
 
+-- so it is none with fields
+pub plain_unfielded : (F : Host → List ℕ → Type 0) (text : List ℕ) → BeginsPlain text → ¬ (IsFieldString F text)
+plain_unfielded F text plain is =
+    let begin = quotes_begin is.host in
+    let spell : text ≡ is.prefix ++ is.host.quote ∷ (begin.0 ++ (joined is.parts ++ quotes_of is.host)) =
+    is.spell ∙ ap (λ t. is.prefix ++ (t ++ (joined is.parts ++ quotes_of is.host))) begin.1 in
+    both_ways _ (other_prefix text is.prefix _ is.host.quote plain spell (field_letters is.prefix is.begun).quotes is.opens) is.begun
+
 -- what keeps a piece from being part of a string with fields
 abbrev pub IsPlainText : Class → List ℕ → List ℕ → Type 0
 IsPlainText word text rest = is_field_prefix text && begins is_quote rest ≡ false
@@ -99,11 +107,26 @@ class_plain class text rest h is = tt
 class_with : (F : Host → List ℕ → Type 0) (class : Class) (text rest : List ℕ) → may_have_fields (text ++ rest) ≡ false → InPlainClass class text → InClassIn (with_fields F) class text
 class_with F class text rest h is = plain_class F class text rest (class_plain class text rest h is) is
 
-class_without : (F : Host → List ℕ → Type 0) (class : Class) (text rest : List ℕ) → may_have_fields (text ++ rest) ≡ false → InClassIn (with_fields F) class text → InPlainClass class text
-class_without F string text rest h (inl (inl short)) = inl short.0
-class_without F string text rest h (inl (inr long)) = inr long.0
-class_without F string text rest h (inr is) = absurd (has_prefix F text rest h is)
-class_without F class text rest h is = is
+-- pieces of which no string has fields
+abbrev pub AreUnfielded : (Host → List ℕ → Type 0) → List Piece → Type 0
+AreUnfielded F [] = Unit {0}
+AreUnfielded F (p ∷ ps) = (p.class ≡ string → ¬ (IsFieldString F p.text)) × AreUnfielded F ps
+
+pub unfielded-push : (F : Host → List ℕ → Type 0) (ps : List Piece) (p : Piece) → AreUnfielded F ps → (p.class ≡ string → ¬ (IsFieldString F p.text)) → AreUnfielded F (ps ++ p ∷ [])
+unfielded-push F [] p own last = (last, tt)
+unfielded-push F (q ∷ ps) p own last = (own.0, unfielded-push F ps p own.1 last)
+
+unfielded_in : (F : Host → List ℕ → Type 0) (ps : List Piece) (rest : List ℕ) → may_have_fields (spelled ps ++ rest) ≡ false → AreUnfielded F ps
+unfielded_in F [] rest h = tt
+unfielded_in F (p ∷ ps) rest h =
+    let here : may_have_fields (p.text ++ (spelled ps ++ rest)) ≡ false = ap may_have_fields (sym (append_assoc p.text (spelled ps) rest)) ∙ h in
+    (λ is. has_prefix F p.text (spelled ps ++ rest) here, unfielded_in F ps rest (later p.text (spelled ps ++ rest) here))
+
+class_without : (F : Host → List ℕ → Type 0) (class : Class) (text : List ℕ) → (class ≡ string → ¬ (IsFieldString F text)) → InClassIn (with_fields F) class text → InPlainClass class text
+class_without F string text none (inl (inl short)) = inl short.0
+class_without F string text none (inl (inr long)) = inr long.0
+class_without F string text none (inr is) = absurd (none refl is)
+class_without F class text none is = is
 
 -- and what it may precede
 pub either_prefix : (x y z : Bool) → (x || y) && z ≡ false → (x && z ≡ false) × (y && z ≡ false)
@@ -126,11 +149,12 @@ read_with F (p ∷ ps) rest h fit =
     let here : may_have_fields (p.text ++ (spelled ps ++ rest)) ≡ false = subst (λ t. may_have_fields t ≡ false) (append_assoc p.text (spelled ps) rest) h in
     (class_with F p.class p.text _ here fit.0, plain_precede F p.class p.text _ (class_plain p.class p.text _ here fit.0) fit.1, fit.2, read_with F ps rest (later p.text (spelled ps ++ rest) here) fit.3)
 
+pub read_unfielded : (F : Host → List ℕ → Type 0) (ps : List Piece) (rest : List ℕ) → AreUnfielded F ps → AreReadIn (with_fields F) ps rest → AreReadPlain ps rest
+read_unfielded F [] rest own fit = tt
+read_unfielded F (p ∷ ps) rest own fit = (class_without F p.class p.text own.0 fit.0, precede_without F p.class p.text _ fit.1, fit.2, read_unfielded F ps rest own.1 fit.3)
+
 pub read_without : (F : Host → List ℕ → Type 0) (ps : List Piece) (rest : List ℕ) → may_have_fields (spelled ps ++ rest) ≡ false → AreReadIn (with_fields F) ps rest → AreReadPlain ps rest
-read_without F [] rest h fit = tt
-read_without F (p ∷ ps) rest h fit =
-    let here : may_have_fields (p.text ++ (spelled ps ++ rest)) ≡ false = subst (λ t. may_have_fields t ≡ false) (append_assoc p.text (spelled ps) rest) h in
-    (class_without F p.class p.text _ here fit.0, precede_without F p.class p.text _ fit.1, fit.2, read_without F ps rest (later p.text (spelled ps ++ rest) here) fit.3)
+read_without F ps rest h fit = read_unfielded F ps rest (unfielded_in F ps rest h) fit
 
 none_after : (pieces : List Piece) (characters : List ℕ) → may_have_fields characters ≡ false → spelled pieces ≡ characters → may_have_fields (spelled pieces ++ []) ≡ false
 none_after pieces characters h is = ap may_have_fields (append-nil (spelled pieces) ∙ is) ∙ h
@@ -142,7 +166,7 @@ pub reads_without : (pieces : List Piece) (characters : List ℕ) → may_have_f
 reads_without pieces characters h reads = record { spell = reads.spell; fit = read_without Fields pieces [] (none_after pieces characters h reads.spell) reads.fit }
 
 -- and their depth: strings without fields are shallow at each
-shallow_with : (Shallow : ℕ → Host → List ℕ → Type 0) (ps : List Piece) (rest : List ℕ) (depth : ℕ) → may_have_fields (spelled ps ++ rest) ≡ false → AreReadPlain ps rest → IsShallowPlain depth ps → IsShallowWith Shallow depth ps
+pub shallow_with : (Shallow : ℕ → Host → List ℕ → Type 0) (ps : List Piece) (rest : List ℕ) (depth : ℕ) → may_have_fields (spelled ps ++ rest) ≡ false → AreReadPlain ps rest → IsShallowPlain depth ps → IsShallowWith Shallow depth ps
 shallow_with Shallow [] rest depth h fit shallow = tt
 shallow_with Shallow (p ∷ ps) rest depth h fit shallow =
     let here : may_have_fields (p.text ++ (spelled ps ++ rest)) ≡ false = subst (λ t. may_have_fields t ≡ false) (append_assoc p.text (spelled ps) rest) h in (

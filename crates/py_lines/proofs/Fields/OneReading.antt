@@ -1,6 +1,6 @@
 -- A text has one reading with fields: the machine with fields goes over one piece, and then over no other.
-use Rattle.std.proofs.Common.{◌≡◌, ◌==◌, ℕ, true, false, ◌&&◌, Option, None, Some, List, [], ◌∷◌, ◌++◌, refl, sym, ap, ◌∙◌, subst, inl, inr, append_assoc, append-nil}
-use Rattle.std.proofs.lemmas.Bool.{cond_both, both_ways, false_from_ne_true}
+use Rattle.std.proofs.Common.{◌≡◌, ℕ, true, false, ◌&&◌, Option, None, Some, List, [], ◌∷◌, ◌++◌, refl, sym, ap, ◌∙◌, subst, inl, inr, append_assoc, append-nil, arith}
+use Rattle.std.proofs.lemmas.Bool.{and_right, both_ways, false_from_ne_true}
 use Rattle.std.proofs.lemmas.List.{append_cancel_left}
 use Rattle.std.specs.Str.{chars}
 use Rattle.std.proofs.lemmas.Str.{chars-encodes}
@@ -11,12 +11,9 @@ use Rattle.py_lines.specs.LogicalLine.{LogicalLine, lines_of}
 use Rattle.py_lines.specs.Reading.{IsBalancedReading}
 use Rattle.py_lines.specs.Lexed.{IsLexedWhole}
 use Rattle.py_lines.specs.Fields.{ReadsText, Fields, fielded}
-use Rattle.py_lines.specs.FieldStrings.{Host, literal, quotes_of, with_fields}
-use Rattle.py_lines.specs.Private.Mode as modes
-use Rattle.py_lines.specs.Private.Machine.{Start}
-use Rattle.py_lines.specs.Private.Machine.{Start as starts}
+use Rattle.py_lines.specs.FieldStrings.{Host, quotes_of, with_fields}
 use Rattle.py_lines.specs.Private.Machine.{start_of}
-use Rattle.py_lines.specs.Private.FieldMachine.{FieldMode, plain, FieldMove, grows, closes, breaks, begins_code, opens_field, ends_field, refused, Level, FieldScanned, field_state, field_text_start, field_closed, openers_with, after_operator, code_operator, field_operator, field_started, opened_level, specification_ended, field_move, field_moved, field_step, field_steps_from, field_pieces}
+use Rattle.py_lines.specs.Private.FieldMachine.{FieldScanned, field_state, field_text_start, openers_with, after_operator, field_started, field_moved, field_step, field_steps_from, field_pieces}
 use Rattle.py_lines.proofs.Pieces.PieceLists.{piece, spelled-append, AreReadIn-second}
 use Rattle.py_lines.proofs.Text.CharacterTests.{none_of}
 use Rattle.py_lines.proofs.Text.Decoding.{decoded}
@@ -29,6 +26,8 @@ use Rattle.py_lines.proofs.FieldMachine.Runs.{NoLimit, StopsAt, steps_of}
 use Rattle.py_lines.proofs.FieldSoundness.LiveTexts.{steps-append}
 use Rattle.py_lines.proofs.FieldMachine.Completeness.{start_breaks, fields_reached}
 use Rattle.py_lines.proofs.FieldMachine.PieceRuns.{FieldFinds}
+use Rattle.py_lines.proofs.FieldMachine.ListBrackets.{none_some}
+use Rattle.py_lines.proofs.FieldMachine.OuterLists.{outer_done, outer_alone, started_outer, closed_on, outer_runs}
 
 -- what follows pieces counts by its first character
 precede_before : (grammar : Grammar) (class : Class) (text x : List ℕ) (c : ℕ) (r s : List ℕ) → MayPrecedeIn grammar class text (x ++ c ∷ r) → MayPrecedeIn grammar class text (x ++ c ∷ s)
@@ -46,65 +45,31 @@ pub read_before : (grammar : Grammar) (ps : List Piece) (c : ℕ) (r s : List �
 read_before grammar [] c r s fit = tt
 read_before grammar (p ∷ ps) c r s fit = (fit.0, precede_before grammar p.class p.text (spelled ps) c r s fit.1, fit.2, read_before grammar ps c r s fit.3)
 
--- the finished pieces of the outermost list
-abbrev first_done : List Level → List Piece → List Piece
-first_done [] done = done
-first_done (l ∷ ls) done = first_done ls l.done
+-- and all may stand at a text's end
+precede_nothing : (grammar : Grammar) (class : Class) (text : List ℕ) → MayPrecedeIn grammar class text []
+precede_nothing grammar class text = grind (arith, and_right)
 
--- they begin with some pieces
-abbrev BeginWith : List Piece → List Level → List Piece → Type 0
-BeginWith first outer done = (ps : List Piece) × (first_done outer done ≡ first ++ ps)
+precede_end : (grammar : Grammar) (class : Class) (text next rest : List ℕ) → MayPrecedeIn grammar class text (next ++ rest) → MayPrecedeIn grammar class text (next ++ [])
+precede_end grammar class text [] rest before = precede_nothing grammar class text
+precede_end grammar class text (c ∷ cs) rest before = precede_before grammar class text [] c (cs ++ rest) (cs ++ []) before
 
+pub read_nothing : (grammar : Grammar) (ps : List Piece) (rest : List ℕ) → AreReadIn grammar ps rest → AreReadIn grammar ps []
+read_nothing grammar [] rest fit = tt
+read_nothing grammar (p ∷ ps) rest fit = (fit.0, precede_end grammar p.class p.text (spelled ps) rest fit.1, fit.2, read_nothing grammar ps rest fit.3)
+
+-- the outermost list begins with some pieces
 abbrev BeginIf : List Piece → Option FieldScanned → Type 0
 BeginIf first None = Unit {0}
-BeginIf first (Some s) = BeginWith first s.outer s.done
+BeginIf first (Some s) = (ps : List Piece) × (outer_done s ≡ first ++ ps)
 
--- and do so whatever each character does
-module _ (first : List Piece) where
-  one_more : (outer : List Level) (done : List Piece) (p : Piece) → BeginWith first outer done → BeginWith first outer (done ++ p ∷ [])
-  one_more [] done p (ps, is) = (ps ++ p ∷ [], ap (λ l. l ++ p ∷ []) is ∙ append_assoc first ps (p ∷ []))
-  one_more (l ∷ ls) done p begin = begin
-
-  closed_begin : (outer : List Level) (m : FieldMode) (done : List Piece) (held : List ℕ) → BeginWith first outer done → BeginWith first outer (field_closed m done held)
-  closed_begin outer (plain modes.Start) done held begin = begin
-  closed_begin outer m done held begin = search one_more
-
-  operator_begin : (outer : List Level) (done : List Piece) (openers : List ℕ) (c : ℕ) → BeginWith first outer done → BeginIf first (field_operator outer done openers c)
-  unfolding code_operator
-  operator_begin outer done openers c begin = go outer openers begin
-    where
-      after : (ls : List Level) (o : Option (List ℕ)) → BeginWith first ls done → BeginIf first (after_operator ls done c o)
-      after ls None own = tt
-      after ls (Some os) own = one_more ls done (piece operator (c ∷ [])) own
-
-      go : (ls : List Level) (os : List ℕ) → BeginWith first ls done → BeginIf first (field_operator ls done os c)
-      go [] os own = after [] (openers_with os c) own
-      go (l ∷ ls) [] own = cond_both (c == 125) _ _ (BeginIf first) (λ h. own) (λ h. cond_both (c == 58) _ _ (BeginIf first) (λ k. own) (λ k. after (l ∷ ls) (openers_with [] c) own))
-      go (l ∷ ls) (o ∷ os) own = after (l ∷ ls) (openers_with (o ∷ os) c) own
-
-  started_begin : (outer : List Level) (done : List Piece) (openers : List ℕ) (c : ℕ) (s : Start) → BeginWith first outer done → BeginIf first (field_started outer done openers c s)
-  started_begin outer done openers c (starts.Open m) begin = begin
-  started_begin outer done openers c starts.Operator begin = operator_begin outer done openers c begin
-  started_begin outer done openers c starts.LineEnd begin = one_more outer done _ begin
-  started_begin outer done openers c starts.Nothing begin = tt
-
-  moved_begin : (s : FieldScanned) (c : ℕ) (v : FieldMove) → BeginWith first s.outer s.done → BeginIf first (field_moved s c v)
-  moved_begin s c (grows m) begin = begin
-  moved_begin s c closes begin = one_more s.outer s.done _ begin
-  moved_begin s c breaks begin = started_begin s.outer (field_pieces s) s.openers c (start_of c) (closed_begin s.outer s.mode s.done s.held begin)
-  moved_begin s c (begins_code host) begin = started_begin (opened_level s host literal s.held ∷ s.outer) [] [] c (start_of c) begin
-  moved_begin s c (opens_field host) begin = begin
-  moved_begin s c ends_field begin = go s.outer begin
-    where
-      go : (ls : List Level) → BeginWith first ls s.done → BeginIf first (specification_ended ls (s.held ++ c ∷ []))
-      go [] own = tt
-      go (l ∷ ls) own = own
-  moved_begin s c refused begin = tt
-
-  run_begin : (o : Option FieldScanned) (text : List ℕ) → BeginIf first o → BeginIf first (field_steps_from o text)
-  run_begin None text begin = tt
-  run_begin (Some s) [] begin = begin
-  run_begin (Some s) (c ∷ cs) begin = run_begin (field_step s c) cs (moved_begin s c (field_move s.mode s.held c) begin)
+started_begin : (first ps : List Piece) (c : ℕ) → BeginIf first (field_started [] (first ++ ps) [] c (start_of c))
+started_begin first ps c = go (field_started [] (first ++ ps) [] c (start_of c)) refl
+  where
+    go : (o : Option FieldScanned) → field_started [] (first ++ ps) [] c (start_of c) ≡ o → BeginIf first o
+    go None is = tt
+    go (Some u) is =
+        let (outside, (qs, more)) = started_outer (first ++ ps) [] c (start_of c) u is in
+        (ps ++ qs, (outer_alone u outside).0 ∙ more ∙ append_assoc first ps qs)
 
 -- the machine goes over a piece, and may stop there; or the piece is an operator
 data IsAlone (class : Class) (text rest : List ℕ) : Type 0 where
@@ -121,9 +86,11 @@ module _ (p q : Piece) (t u : List ℕ) (two : FieldFinds NoLimit field_text_sta
   end_of = field_state [] two.done [] two.mode two.held
 
   goes_on : (o : Option FieldScanned) (text : List ℕ) → field_steps_from o text ≡ Some end_of → BeginIf (p ∷ []) o → p ≡ q
-  goes_on o text steps begin =
-      let all = closed_begin (p ∷ []) [] two.mode two.done two.held (subst (BeginIf (p ∷ [])) steps (run_begin (p ∷ []) o text begin)) in
-      let is : p ∷ all.0 ≡ q ∷ [] = sym all.1 ∙ two.pieces_are in
+  goes_on None text steps begin = absurd (none_some steps)
+  goes_on (Some s) text steps (ps, begin) =
+      let (qs, more) = outer_runs text s end_of steps in
+      let (rs, last) = closed_on two.mode two.done two.held in
+      let is : p ∷ (ps ++ (qs ++ rs)) ≡ q ∷ [] = sym (last ∙ ap (λ l. l ++ rs) (more ∙ ap (λ l. l ++ qs) begin) ∙ simp append_assoc) ∙ two.pieces_are in
       cc
 
   after_piece : (s r x : List ℕ) → FieldFinds NoLimit field_text_start s (p ∷ []) [] r → t ≡ s ++ x → r ≡ x ++ u → p ≡ q
@@ -140,7 +107,7 @@ module _ (p q : Piece) (t u : List ℕ) (two : FieldFinds NoLimit field_text_sta
           cc
       go (c ∷ y) at later =
           let move = subst (StopsAt one.mode one.held) at one.stops in
-          goes_on (field_step end c) y later (subst (BeginIf (p ∷ [])) (sym (ap (field_moved end c) move)) (started_begin (p ∷ []) [] (field_pieces end) [] c (start_of c) ([], one.pieces_are)))
+          goes_on (field_step end c) y later (subst (BeginIf (p ∷ [])) (sym (ap (field_moved end c) move)) (subst (λ l. BeginIf (p ∷ []) (field_started [] l [] c (start_of c))) (sym one.pieces_are) (started_begin (p ∷ []) [] c)))
 
 -- an operator is the first piece where its character stands
 operator-not-mark : (c : ℕ) → is_operator c ≡ true → is_mark c ≡ false

@@ -22,15 +22,8 @@ use Rattle.py_lines.proofs.Lexings.Prefixes.{same_fault}
 
 -- the fault of a text that dies at a character stays where it is
 goes_on_faulty : (kind : FaultKind) (characters rest : List ℕ) (offset : ℕ) → IsCharacterFault kind characters offset → IsCharacterFault kind (characters ++ rest) offset
-goes_on_faulty kind characters rest offset fault = record {
-  cause = fault.cause;
-  before = fault.before;
-  c = fault.c;
-  is = fault.is;
-  dies = record { after = fault.dies.after ++ rest; spell = sym (append_assoc fault.before (fault.c ∷ fault.dies.after) rest) ∙ ap (λ t. t ++ rest) fault.dies.spell; live = fault.dies.live; dead = fault.dies.dead };
-  fits = fault.fits;
-  first = fault.first;
-}
+goes_on_faulty kind characters rest offset fault =
+    search (fault, fault.dies, sym (append_assoc fault.before (fault.c ∷ fault.dies.after) rest) ∙ ap (λ t. t ++ rest) fault.dies.spell)
 
 -- the same prefix of a text that goes on ends a line, and is the longest
 prefix_on : (kind : FaultKind) (characters rest : List ℕ) (offset : ℕ) (pieces : List Piece) → IsCharacterFault kind characters offset → IsReadPrefix pieces characters → IsReadPrefix pieces (characters ++ rest)
@@ -113,15 +106,7 @@ pub decided_lexing : (text more : List ℕ) (fault : Fault) (lines : List Logica
 decided_lexing text more fault lines d lexed =
     let (on, prefix) = continued text more fault d in
     let same = decoded text lexed.characters d.characters lexed.tail d.tail lexed.decodes d.decodes in
-    record {
-      characters = on.characters;
-      tail = on.tail;
-      pieces = lexed.pieces;
-      decodes = on.decodes;
-      prefix = prefix lexed.pieces (subst (IsReadPrefix lexed.pieces) same.0 lexed.prefix);
-      refused = on.refused;
-      cut = lexed.cut;
-    }
+    search (on, prefix lexed.pieces (subst (IsReadPrefix lexed.pieces) same.0 lexed.prefix), lexed.cut)
 
 pub decided_fault : (text more : List ℕ) (fault : Fault) (lines : List LogicalLine) (end : Option Fault) → Decides text fault → IsLexed (text ++ more) lines end → end ≡ Some fault
 decided_fault text more fault lines None d lexed =

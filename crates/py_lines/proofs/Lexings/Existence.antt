@@ -69,7 +69,7 @@ pub with_line : (characters tail : List ℕ) (kind : FaultKind) (offset : ℕ) �
 with_line characters tail kind offset at =
     let p = field_fault_prefix kind characters tail offset at in
     let fault : Fault = record { kind = kind; offset = offset; line = 1 + line_ends p.prefix } in
-    (fault, lexical characters tail fault at (record { prefix = p.prefix; rest = p.rest; spell = p.spell; place = p.place; line = refl }))
+    (fault, lexical characters tail fault at (search p))
 
 -- every text is read or has a fault
 pub read_or_faulty : (characters tail : List ℕ) → IsReadOrFaulty characters tail

@@ -9,6 +9,7 @@ use Rattle.std.proofs.lemmas.Str.{encodes-append, length-le-encodes, encode_asci
 use Rattle.py_lines.specs.Character.{is_return, is_line_feed}
 use Rattle.py_lines.specs.Piece.{begins, line_end, Piece, ends, spelled, Class}
 use Rattle.py_lines.specs.PieceGrammar.{IsLineEnd}
+use Rattle.py_lines.specs.Balance as balance
 use Rattle.py_lines.specs.Balance.{depth_through}
 use Rattle.py_lines.specs.Fields.{InClass, fielded, AreReadBefore, Fields}
 use Rattle.py_lines.specs.Reading.{EndsLine, IsBalancedReading, Decodes}
@@ -21,14 +22,13 @@ use Rattle.py_lines.specs.declared.fault.Fault.{Fault}
 use Rattle.py_lines.proofs.Text.Utf8Prefixes.{IsContinued, goes_on, all_scalars-parts}
 use Rattle.py_lines.proofs.Text.Decoding.{decoding, decoded}
 use Rattle.py_lines.proofs.Pieces.PieceLists.{piece, spelled-append, spelled-push}
-use Rattle.py_lines.proofs.Pieces.OpenBrackets.{stack-from_balanced, balanced-from_stack}
-use Rattle.py_lines.proofs.Pieces.ShallowPieces.{IsShallow-parts, brackets_shallow}
-use Rattle.py_lines.proofs.Machine.LiveTexts.{keeps}
+use Rattle.py_lines.proofs.Pieces.ShallowPieces.{IsShallow-parts}
+use Rattle.py_lines.proofs.FieldSoundness.OpenLists.{balanced_first}
 use Rattle.py_lines.proofs.LogicalLines.NextLine.{lines_of-more, line_ends-spelled}
 use Rattle.py_lines.proofs.Fields.Prefixes.{Compared}
 use Rattle.py_lines.proofs.Fields.OneReading.{compare_pieces, read_before, ends_there, full}
 use Rattle.py_lines.proofs.FieldSoundness.WholeTexts.{shallow-push}
-use Rattle.py_lines.proofs.Lexings.LineEnds.{ends-append, ends-last, feed_unreturned, returned_text, fed_line, line_end_of, read_on, level_stack, none_both, ended_reading}
+use Rattle.py_lines.proofs.Lexings.LineEnds.{ends-append, ends-last, feed_unreturned, returned_text, fed_line, line_end_of, read_on, none_both, ended_reading}
 use Rattle.py_lines.proofs.Text.Splits.{Either, either}
 use Rattle.py_lines.proofs.Text.CharacterTests.{feed_is}
 use Rattle.py_lines.proofs.LogicalLines.Cuts.{byte_len-append, line_ends-pieces}
@@ -39,10 +39,10 @@ fed_reading : (body : List Piece) (last : Piece) → last.text ≡ 13 ∷ [] →
 fed_reading body last text deep reading =
     let all = body ++ last ∷ [] in
     let other = piece line_end (13 ∷ 10 ∷ []) in
-    let level = level_stack body (last ∷ []) [] (stack-from_balanced all reading.balanced (brackets_shallow 0 all reading.shallow)) deep in
+    let level = balanced_first body (last ∷ []) reading.balanced deep in
     record {
       reads = record { spell = refl; fit = fed_line fielded body last text reading.reads.fit };
-      balanced = (balanced-from_stack (body ++ other ∷ []) (keeps body other [] refl refl level)).0;
+      balanced = balance.both (body ++ other ∷ []) body (other ∷ []) refl level (balance.one (other ∷ []) other refl refl);
       shallow = shallow-push 0 body other (IsShallow-parts 0 body (last ∷ []) reading.shallow).0 (λ opens. absurd (both_ways _ refl opens)) (λ at. absurd (cc));
     }
 
@@ -187,24 +187,17 @@ ends_for_good pieces (c ∷ cs) ended = inl (ended, λ none. absurd (cc))
 
 -- first lines are read by themselves
 pub first_reading : (text : List ℕ) (place line : ℕ) (lines : List LogicalLine) (f : AreFirstLines text place line lines) → IsBalancedReading f.pieces (spelled f.pieces)
-first_reading text place line lines f = ⊎_elim (λ good. ended_reading f.pieces f.rest f.fit f.balanced f.shallow good.0)
-    (λ none. record {
-      reads = record { spell = refl; fit = subst (AreReadBefore f.pieces) (none_both f.rest f.tail none).0 f.fit };
-      balanced = f.balanced;
-      shallow = f.shallow;
-    }) f.ended
+first_reading text place line lines f = ended_reading f.pieces f.rest f.fit f.balanced f.shallow
 
 -- where nothing follows them, or they reach to the text's end, they are all its lines
 all_before : (text : List ℕ) (place line : ℕ) (lines : List LogicalLine) (f : AreFirstLines text place line lines) → f.rest ++ f.tail ≡ [] → IsLexed text lines None
 all_before text place line lines f none =
     let parts = none_both f.rest f.tail none in
-    record {
-      characters = f.characters;
-      pieces = f.pieces;
-      decodes = subst (λ t. Decodes text f.characters t) parts.1 f.decodes;
-      reading = subst (IsBalancedReading f.pieces) (sym (append-nil (spelled f.pieces)) ∙ ap (λ t. spelled f.pieces ++ t) (sym parts.0) ∙ f.spell) (first_reading text place line lines f);
-      cut = f.cut;
-    }
+    search (
+      f,
+      subst (λ t. Decodes text f.characters t) parts.1 f.decodes,
+      subst (IsBalancedReading f.pieces) (sym (append-nil (spelled f.pieces)) ∙ ap (λ t. spelled f.pieces ++ t) (sym parts.0) ∙ f.spell) (first_reading text place line lines f),
+    )
 
 pub all_first : (text : List ℕ) (place line : ℕ) (lines : List LogicalLine) → AreFirstLines text place line lines → place ≡ length text → IsLexed text lines None
 all_first text place line lines f ends =

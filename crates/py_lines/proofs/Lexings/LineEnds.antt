@@ -1,20 +1,17 @@
 -- Pieces that end a line: what they are read before, how deep they are, and how long.
-use Rattle.std.proofs.Common.{◌≡◌, ℕ, ◌+◌, Some, List, [], ◌∷◌, ◌++◌, length, refl, sym, ap, ◌∙◌, subst, inl, inr, length-append, Bool, true, false, ◌&&◌, append-nil}
+use Rattle.std.proofs.Common.{◌≡◌, ℕ, ◌+◌, List, [], ◌∷◌, ◌++◌, length, refl, sym, ap, ◌∙◌, subst, inl, inr, length-append, Bool, true, false, ◌&&◌, append-nil}
 use Rattle.std.proofs.lemmas.Bool.{both_ways, and_right, and_from, eq-eqb}
-use Rattle.std.proofs.lemmas.List.{nil_from_length}
 use Rattle.py_lines.specs.Piece.{Class, operator, line_end, Piece, spelled, ends, begins, is_mark_class}
 use Rattle.py_lines.specs.Balance.{IsBalanced, depth_after, depth_through}
 use Rattle.py_lines.specs.Fields.{fielded, InClass, AreReadBefore, IsShallow}
 use Rattle.py_lines.specs.Reading.{EndsLine, IsBalancedReading}
 use Rattle.py_lines.specs.LogicalLine.{is_line_end_class}
 use Rattle.py_lines.specs.Private.LineScan.{EndsNoLine}
-use Rattle.py_lines.specs.Private.Machine.{Bracket, brackets_of}
-use Rattle.py_lines.specs.Private.ScanMachine.{StringFits, StringsFit}
 use Rattle.py_lines.proofs.Pieces.PieceLists.{piece, spelled-append, AreReadIn-append, AreReadIn-first, AreReadIn-second, follows_any}
-use Rattle.py_lines.proofs.Pieces.OpenBrackets.{stands, stack_before, depth_through-append, EachAtDepth-append}
+use Rattle.py_lines.proofs.Pieces.OpenBrackets.{depth_through-append}
 use Rattle.py_lines.specs.Character.{is_return, is_line_feed}
 use Rattle.py_lines.specs.PieceGrammar.{Grammar, InClassIn, IsLineEnd, feed, return_feed, return, MayPrecedeIn, AreReadIn}
-use Rattle.py_lines.proofs.Fields.OneReading.{read_before}
+use Rattle.py_lines.proofs.Fields.OneReading.{read_before, read_nothing}
 
 -- a line end has a first character
 pub line_text : (text : List ℕ) → IsLineEnd text → (c : ℕ) × (cs : List ℕ) × (text ≡ c ∷ cs)
@@ -55,13 +52,12 @@ module _ (grammar : Grammar) where
   -- pieces that end a line, before another rest
   pub read_on : (body : List Piece) (last : Piece) (rest after : List ℕ) → last.class ≡ line_end → AreReadIn grammar (body ++ last ∷ []) rest → ends is_return last.text && begins is_line_feed after ≡ false → AreReadIn grammar (body ++ last ∷ []) after
   read_on body last rest after is fit apart =
-      let second = AreReadIn-second grammar body (last ∷ []) rest fit in
       let first = AreReadIn-first grammar body (last ∷ []) rest fit in
       let text = line_text last.text (line_end_of body last rest is fit) in
       let spell : last.text ++ [] ≡ text.0 ∷ text.1 = append-nil last.text ∙ text.2 in
       AreReadIn-append grammar body (last ∷ []) after
       (subst (AreReadIn grammar body) (ap (λ t. t ++ after) (sym spell)) (read_before grammar body text.0 (text.1 ++ rest) (text.1 ++ after) (subst (AreReadIn grammar body) (ap (λ t. t ++ rest) spell) first)))
-      (second.0, subst (λ x. MayPrecedeIn grammar x last.text after) (sym is) apart, refl, tt)
+      ((AreReadIn-second grammar body (last ∷ []) rest fit).0, subst (λ x. MayPrecedeIn grammar x last.text after) (sym is) apart, refl, tt)
       (follows_any body last.class last.text (ap is_mark_class is))
 
   -- the same pieces, with LF after the CR at their end
@@ -79,17 +75,11 @@ line_first p is holds = line_text p.text (subst (λ x. InClass x p.text) is hold
 pub ends-line : (p : ℕ → Bool) (body : List Piece) (last : Piece) → last.class ≡ line_end → InClass last.class last.text → ends p (spelled (body ++ last ∷ [])) ≡ ends p last.text
 ends-line p body last is holds = ends-last p body last (subst (λ k. InClass k last.text) is holds)
 
--- pieces that end a line are read to the text's end too
-pub read-alone : (body : List Piece) (last : Piece) (rest : List ℕ) → last.class ≡ line_end → AreReadBefore (body ++ last ∷ []) rest → AreReadBefore (body ++ last ∷ []) []
-read-alone body last rest is fit = read_on fielded body last rest [] is fit (and_right _ _ refl)
-
--- so they are a reading of their own
-pub ended_reading : (base : List Piece) (rest : List ℕ) → AreReadBefore base rest → IsBalanced base → IsShallow 0 base → EndsLine base → IsBalancedReading base (spelled base)
-ended_reading base rest fit balanced shallow ended = record { reads = record { spell = refl; fit = alone ended }; balanced = balanced; shallow = shallow }
-  where
-    alone : EndsLine base → AreReadBefore base []
-    alone (inl none) = subst (λ l. AreReadBefore l []) (sym none) tt
-    alone (inr (body, last, is, class, deep)) = subst (λ l. AreReadBefore l []) (sym is) (read-alone body last rest class (subst (λ l. AreReadBefore l rest) is fit))
+-- pieces that are read before a rest are a reading of their own
+pub ended_reading : (base : List Piece) (rest : List ℕ) → AreReadBefore base rest → IsBalanced base → IsShallow 0 base
+    → IsBalancedReading base (spelled base)
+ended_reading base rest fit balanced shallow =
+    record { reads = record { spell = refl; fit = read_nothing fielded base rest fit }; balanced = balanced; shallow = shallow }
 
 -- a line end at depth 0 stands in no such pieces
 pub no_end_in : (d : ℕ) (k : List Piece) (w : Piece) (ws : List Piece) → EndsNoLine d (k ++ w ∷ ws) → depth_through d k ≡ 0 → w.class ≡ line_end → ⊥
@@ -106,16 +96,6 @@ depth_line body last is deep = depth_through-append 0 body (last ∷ []) ∙ ap 
 pub depth_prefix : (prefix : List Piece) → EndsLine prefix → depth_through 0 prefix ≡ 0
 depth_prefix prefix (inl none) = ap (depth_through 0) none
 depth_prefix prefix (inr (body, last, is, class, deep)) = ap (depth_through 0) is ∙ depth_line body last class deep
-
--- pieces that leave no bracket open
-pub level_stack : (prefix others : List Piece) (st : List Bracket) → brackets_of (prefix ++ others) ≡ Some st → depth_through 0 prefix ≡ 0 → brackets_of prefix ≡ Some []
-level_stack prefix others st steps deep =
-    let first = stack_before prefix others st steps in
-    first.1 ∙ ap (λ l. Some l) (nil_from_length first.0 (sym (stands prefix first.0 first.1).depth ∙ deep))
-
--- a line end opens nothing
-pub line_string : (body : List Piece) (last : Piece) → last.class ≡ line_end → StringsFit 0 body → StringsFit 0 (body ++ last ∷ [])
-line_string body last class strings = EachAtDepth-append StringFits 0 body (last ∷ []) strings ((λ is. absurd (cc)), tt)
 
 -- the length of pieces, part by part
 pub length_line : (body : List Piece) (p : Piece) (ps : List Piece) → length (spelled (body ++ p ∷ ps)) ≡ length (spelled body) + (length p.text + length (spelled ps))

@@ -1,10 +1,10 @@
 -- The prefix of a text that isn't read, with what a reader answers there, and what a text's known bytes settle: the pieces up to the last
 -- line end outside brackets that the machine has found.
-use Rattle.std.proofs.Common.{false, ◌≡◌, ℕ, ◌+◌, ◌≤◌, Option, Some, List, [], ◌∷◌, ◌++◌, length, refl, sym, ap, ◌∙◌, subst, inl, inr, append_assoc, append-nil, length-append, arith, ◌⊎◌, true}
+use Rattle.std.proofs.Common.{false, ◌≡◌, ℕ, ◌+◌, ◌≤◌, Some, List, [], ◌∷◌, ◌++◌, length, refl, sym, ap, ◌∙◌, subst, inl, inr, append_assoc, append-nil, length-append, arith, ◌⊎◌, true}
 use Rattle.std.proofs.lemmas.List.{same_from_push, append_cancel_left}
 use Rattle.std.proofs.lemmas.Bool.{both_ways, cond_both}
 use Rattle.py_lines.specs.Character.{is_line_feed, is_return}
-use Rattle.py_lines.specs.Piece.{line_end, Piece, spelled, ends}
+use Rattle.py_lines.specs.Piece.{string, line_end, Piece, spelled, ends}
 use Rattle.py_lines.specs.LogicalLine.{is_line_end_class, lines_of, byte_len}
 use Rattle.py_lines.specs.Balance.{depth_through}
 use Rattle.py_lines.specs.Reading.{IsBalancedReading, EndsLine, IsReadPrefix, Decodes}
@@ -13,28 +13,25 @@ use Rattle.py_lines.specs.PieceGrammar.{IsLineEnd, feed, return_feed, return}
 use Rattle.py_lines.specs.Fields.{InClass, AreReadBefore}
 use Rattle.py_lines.specs.Settled.{EndsForGood, IsSettledPrefix}
 use Rattle.py_lines.specs.Lexed.{IsLexedToFault}
-use Rattle.py_lines.specs.Private.Machine.{Mode}
 use Rattle.py_lines.specs.Private.Mode as modes
 use Rattle.py_lines.specs.Private.Machine.{Move}
 use Rattle.py_lines.specs.declared.fault.FaultKind.TheVariants as faults
 use Rattle.py_lines.specs.declared.fault.Fault.{Fault}
 use Rattle.py_lines.specs.Private.LineScan.{EndsNoLine}
-use Rattle.py_lines.specs.Private.Machine.{Scanned, fresh, text_start, class_of, closed, started, moved, move_of, start_of, Bracket}
-use Rattle.py_lines.specs.Private.ScanMachine.{meet_of, move_at, scan_steps}
+use Rattle.py_lines.specs.Private.Machine.{class_of, move_of}
+use Rattle.py_lines.specs.Private.FieldMachine.{FieldMode, plain, plain_move, Level, FieldScanned, field_state, field_fresh, field_text_start, field_closed, field_move, field_moved, field_steps_from}
 use Rattle.py_lines.proofs.Text.Splits.{Either, either}
-use Rattle.py_lines.proofs.LineScan.PieceEnd.{closed_text}
 use Rattle.py_lines.proofs.Pieces.PieceLists.{piece, spelled-append, spelled-push, AreReadBefore-second}
-use Rattle.py_lines.proofs.Machine.PieceSteps.{pieces_at, run_before}
-use Rattle.py_lines.proofs.Machine.EarlierPieces.{GrowsIf, closed_grows, started_grows, run_grows}
-use Rattle.py_lines.proofs.Pieces.OpenBrackets.{stack-from_balanced, depth_through-append}
-use Rattle.py_lines.proofs.Pieces.ShallowPieces.{brackets_shallow, strings_shallow}
-use Rattle.py_lines.proofs.FieldSoundness.LiveTexts.{live_before}
-use Rattle.py_lines.proofs.ScanMachine.Advance.{RunsTo}
-use Rattle.py_lines.proofs.ScanMachine.Soundness.{sound_at}
-use Rattle.py_lines.proofs.ScanMachine.Reaching.{reach, same_state, runs_live}
+use Rattle.py_lines.proofs.Pieces.OpenBrackets.{depth_through-append}
+use Rattle.py_lines.proofs.Machine.PieceSteps.{some_is}
+use Rattle.py_lines.proofs.FieldMachine.Completeness.{reading_reached}
+use Rattle.py_lines.proofs.FieldMachine.OuterLists.{outer_done, outer_pieces}
+use Rattle.py_lines.proofs.FieldMachine.WholeRuns.{RunsTo, runs_live}
+use Rattle.py_lines.proofs.FieldSoundness.LiveTexts.{live_before, steps-append}
+use Rattle.py_lines.proofs.Lexings.OuterRuns.{found_on, runs_spell}
 use Rattle.py_lines.proofs.Lexings.Existence.{reading_live}
 use Rattle.py_lines.proofs.Lexings.LineEnds.{no_end_in, depth_prefix, length_line, return_returns, none_both, line_first, ends-append, ends-line}
-pub use Rattle.py_lines.proofs.Lexings.LineEnds.{line_first, read-alone}
+pub use Rattle.py_lines.proofs.Lexings.LineEnds.{line_first}
 pub use Rattle.py_lines.proofs.Lexings.Existence.{reading_live, IsLineOf, lexical}
 
 -- a line end that the machine has found stays, though CR may get LF after it
@@ -48,63 +45,56 @@ pub record Stays (body : List Piece) (last : Piece) (all : List Piece) : Type 0 
 stays_as : (body : List Piece) (last : Piece) (all ps : List Piece) → last.class ≡ line_end → all ≡ (body ++ last ∷ []) ++ ps → Stays body last all
 stays_as body last all ps is spell = record { line = last; others = ps; is = spell ∙ append_assoc body (last ∷ []) ps; class = is; longer = omega arith }
 
--- finished pieces stay, and are among those that are found
-pub kept_on : (done : List Piece) (o : Option Scanned) (cs : List ℕ) (t : Scanned) → GrowsIf done o → scan_steps o cs ≡ Some t
-    → (ps : List Piece) × (t.done ≡ done ++ ps)
-kept_on done o cs t grows steps = subst (GrowsIf done) steps (run_grows move_at cs o done grows)
-
-pub found_on : (done : List Piece) (o : Option Scanned) (cs : List ℕ) (t : Scanned) → GrowsIf done o → scan_steps o cs ≡ Some t
-    → (ps : List Piece) × (pieces_at t ≡ done ++ ps)
-found_on done o cs t grows steps =
-    let kept = kept_on done o cs t grows steps in
-    let last = closed_grows t.mode t.done t.held in
-    (kept.0 ++ last.0, last.1 ∙ ap (λ l. l ++ last.0) kept.1 ∙ append_assoc done kept.0 last.0)
-
 -- after a state, what grows from its finished pieces
-stays_done : (body : List Piece) (last : Piece) (done : List Piece) (x : List ℕ) (o : Option Scanned) (s : Scanned) → last.class ≡ line_end → done ≡ body ++ last ∷ [] → GrowsIf done o → scan_steps o x ≡ Some s → Stays body last (pieces_at s)
-stays_done body last done x o s class is grows steps =
-    let found = found_on done o x s grows steps in
-    stays_as body last (pieces_at s) found.0 class (found.1 ∙ ap (λ l. l ++ found.0) is)
+stays_done : (body : List Piece) (last : Piece) (t : FieldScanned) (x : List ℕ) (u : FieldScanned) → last.class ≡ line_end
+    → outer_done t ≡ body ++ last ∷ [] → field_steps_from (Some t) x ≡ Some u → Stays body last (outer_pieces u)
+stays_done body last t x u class is steps =
+    let found = found_on x t u steps in
+    stays_as body last (outer_pieces u) found.0 class (found.1 ∙ ap (λ l. l ++ found.0) is)
 
-stays_return : (body : List Piece) (last : Piece) (done : List Piece) (held : List ℕ) (x : List ℕ) (s : Scanned) → last.class ≡ line_end → done ++ piece line_end held ∷ [] ≡ body ++ last ∷ [] → scan_steps (Some (record { done = done; mode = modes.Return; held = held })) x ≡ Some s → Stays body last (pieces_at s)
-unfolding meet_of move_of
-stays_return body last done held [] s class is steps =
-    let from : Scanned = record { done = done; mode = modes.Return; held = held } in
-    let same : s ≡ from = cc in
-    stays_as body last (pieces_at s) [] class (ap pieces_at same ∙ is ∙ sym (append-nil (body ++ last ∷ [])))
-stays_return body last done held (c ∷ cs) s class is steps =
+stays_return : (body : List Piece) (last : Piece) (done : List Piece) (openers held x : List ℕ) (u : FieldScanned) → last.class ≡ line_end
+    → done ++ piece line_end held ∷ [] ≡ body ++ last ∷ []
+    → field_steps_from (Some (field_state [] done openers (plain modes.Return) held)) x ≡ Some u → Stays body last (outer_pieces u)
+unfolding field_move move_of
+stays_return body last done openers held [] u class is steps =
+    stays_as body last (outer_pieces u) [] class (ap outer_pieces (sym (some_is _ u steps)) ∙ is ∙ sym (append-nil (body ++ last ∷ [])))
+stays_return body last done openers held (c ∷ cs) u class is steps =
     let parts = same_from_push done body (piece line_end held) last is in
-    let from : Scanned = record { done = done; mode = modes.Return; held = held } in
-    cond_both (is_line_feed c) _ _ (λ (v : Move). scan_steps (moved from c v) cs ≡ Some s → Stays body last (pieces_at s))
+    let from = field_state [] done openers (plain modes.Return) held in
+    cond_both (is_line_feed c) _ _ (λ (v : Move). field_steps_from (field_moved from c (plain_move v)) cs ≡ Some u → Stays body last (outer_pieces u))
     (λ h closed_runs.
     let line : Piece = piece line_end (held ++ c ∷ []) in
-    let more = stays_done body line (done ++ line ∷ []) cs (Some (fresh (done ++ line ∷ []))) s refl (ap (λ l. l ++ line ∷ []) parts.0) ([], sym (append-nil (done ++ line ∷ []))) closed_runs in
-    record {
-      line = more.line;
-      others = more.others;
-      is = more.is;
-      class = more.class;
-      longer = omega (arith, ap (λ (p : Piece). length p.text) parts.1, length-append held (c ∷ []), more.longer);
-    })
-    (λ h open_runs.
-    let all = done ++ piece line_end held ∷ [] in
-    stays_done body last all cs (started all c (start_of c)) s class is (started_grows all all [] c (start_of c) (sym (append-nil all))) open_runs)
-    steps
+    let more = stays_done body line (field_fresh [] (done ++ line ∷ []) openers) cs u refl (ap (λ l. l ++ line ∷ []) parts.0) closed_runs in
+    let longer : length last.text ≤ length more.line.text
+    = omega (arith, ap (λ (p : Piece). length p.text) parts.1, length-append held (c ∷ []), more.longer) in
+    search (more, longer))
+    (λ h open_runs. stays_done body last (field_fresh [] (done ++ piece line_end held ∷ []) openers) (c ∷ cs) u class is open_runs) steps
 
--- a line end at the end of the pieces that a state has found
-pub line_stays : (m : Mode) (done : List Piece) (held x : List ℕ) (s : Scanned) (body : List Piece) (last : Piece) → scan_steps (Some (record { done = done; mode = m; held = held })) x ≡ Some s → closed m done held ≡ body ++ last ∷ [] → last.class ≡ line_end → Stays body last (pieces_at s)
-line_stays modes.Start done held x s body last steps is class = stays_done body last done x (Some (record { done = done; mode = modes.Start; held = held })) s class is ([], sym (append-nil done)) steps
-line_stays modes.Free done held x s body last steps is class = stays_done body last done x (Some (record { done = done; mode = modes.Free; held = held })) s class is ([], sym (append-nil done)) steps
-line_stays modes.Return done held x s body last steps is class = stays_return body last done held x s class is steps
-line_stays m done held x s body last steps is class = absurd (both_ways _ refl (ap is_line_end_class (ap (λ (p : Piece). p.class) (same_from_push done body (piece (class_of m) held) last is).1 ∙ class)))
+last_class : (done body : List Piece) (p last : Piece) → done ++ p ∷ [] ≡ body ++ last ∷ [] → last.class ≡ line_end → is_line_end_class p.class ≡ true
+last_class done body p last is class = ap is_line_end_class (ap (λ (q : Piece). q.class) (same_from_push done body p last is).1 ∙ class)
+
+-- a line end at the end of the pieces that a state outside fields has found
+pub line_stays : (m : FieldMode) (done : List Piece) (openers held x : List ℕ) (u : FieldScanned) (body : List Piece) (last : Piece)
+    → field_steps_from (Some (field_state [] done openers m held)) x ≡ Some u → field_closed m done held ≡ body ++ last ∷ [] → last.class ≡ line_end
+    → Stays body last (outer_pieces u)
+line_stays (plain modes.Start) done openers held x u body last steps is class = stays_done body last _ x u class is steps
+line_stays (plain modes.Free) done openers held x u body last steps is class = stays_done body last _ x u class is steps
+line_stays (plain modes.Return) done openers held x u body last steps is class = stays_return body last done openers held x u class is steps
+line_stays (plain m) done openers held x u body last steps is class = absurd (both_ways _ refl (last_class done body (piece (class_of m) held) last is class))
+line_stays m done openers held x u body last steps is class = absurd (both_ways _ refl (last_class done body (piece string held) last is class))
 
 -- so does the line end of pieces that are read whole, where the machine goes on from them
-pub reading_stays : (pieces : List Piece) (more before : List ℕ) (s : Scanned) (body : List Piece) (last : Piece) → scan_steps (Some text_start) before ≡ Some s → spelled pieces ++ more ≡ before → IsBalancedReading pieces (spelled pieces) → pieces ≡ body ++ last ∷ [] → last.class ≡ line_end → Stays body last (pieces_at s)
-reading_stays pieces more before s body last steps spell reading is class =
-    let found = reach pieces [] [] reading.reads.fit (stack-from_balanced pieces reading.balanced (brackets_shallow 0 pieces reading.shallow)) (strings_shallow 0 pieces reading.shallow) in
-    let through = run_before move_at (Some text_start) (spelled pieces) more s (ap (scan_steps (Some text_start)) spell ∙ steps) in
-    let same = same_state (spelled pieces) through.0 found.to through.1 found.steps in
-    line_stays found.to.mode found.to.done found.to.held more s body last (ap (λ (t : Scanned). scan_steps (Some t) more) (sym same) ∙ through.2) (found.pieces_are ∙ is) class
+pub reading_stays : (pieces : List Piece) (more before : List ℕ) (u : FieldScanned) (body : List Piece) (last : Piece)
+    → field_steps_from (Some field_text_start) before ≡ Some u → spelled pieces ++ more ≡ before → IsBalancedReading pieces (spelled pieces)
+    → pieces ≡ body ++ last ∷ [] → last.class ≡ line_end → Stays body last (outer_pieces u)
+reading_stays pieces more before u body last steps spell reading is class =
+    let found = reading_reached pieces (spelled pieces) reading in
+    let from : List Level → FieldScanned = λ ls. field_state ls found.to.done found.to.openers found.to.mode found.to.held in
+    let on : field_steps_from (Some found.to) more ≡ Some u =
+    ap (λ o. field_steps_from o more) (sym found.steps) ∙ sym (steps-append (Some field_text_start) (spelled pieces) more)
+    ∙ ap (field_steps_from (Some field_text_start)) spell ∙ steps in
+    line_stays found.to.mode found.to.done found.to.openers found.to.held more u body last
+    (subst (λ ls. field_steps_from (Some (from ls)) more ≡ Some u) found.final.outside on) (found.pieces_are ∙ is) class
 
 -- where a list begins with another, what follows that
 second_is : (xs ys zs k ws : List Piece) → xs ++ ys ≡ zs ++ ws → zs ≡ xs ++ k → ys ≡ k ++ ws
@@ -130,13 +120,13 @@ within prefix others rivals body last all pieces ended none is deep stays = go (
         omega (arith, mine, theirs, stays.longer)
 
 -- the prefix of a text that isn't read further
-pub prefix_is : (before later characters : List ℕ) (s : Scanned) (st : List Bracket) (prefix others : List Piece) → RunsTo before s st → before ++ later ≡ characters → ((c : ℕ) (after : List ℕ) → later ≡ c ∷ after → ¬ (IsLive (before ++ c ∷ []))) → pieces_at s ≡ prefix ++ others → IsBalancedReading prefix (spelled prefix) → EndsLine prefix → EndsNoLine 0 others → IsReadPrefix prefix characters
-prefix_is before later characters s st prefix others steps spell dead pieces reading ended none =
-    let sound = sound_at before s st steps in
-    let read : spelled (pieces_at s) ≡ before = closed_text s.mode s.done s.held sound.holds ∙ sound.spell in
+pub prefix_is : (before later characters : List ℕ) (u : FieldScanned) (prefix others : List Piece) → RunsTo before u → before ++ later ≡ characters
+    → ((c : ℕ) (after : List ℕ) → later ≡ c ∷ after → ¬ (IsLive (before ++ c ∷ []))) → outer_pieces u ≡ prefix ++ others
+    → IsBalancedReading prefix (spelled prefix) → EndsLine prefix → EndsNoLine 0 others → IsReadPrefix prefix characters
+prefix_is before later characters u prefix others steps spell dead pieces reading ended none =
     record {
       rest = spelled others ++ later;
-      spell = sym (append_assoc (spelled prefix) (spelled others) later) ∙ ap (λ t. t ++ later) (sym (spelled-append prefix others) ∙ ap spelled (sym pieces) ∙ read) ∙ spell;
+      spell = sym (append_assoc (spelled prefix) (spelled others) later) ∙ ap (λ t. t ++ later) (sym (spelled-append prefix others) ∙ ap spelled (sym pieces) ∙ runs_spell before u steps) ∙ spell;
       reading = reading;
       ended = ended;
       longest = longest;
@@ -151,7 +141,7 @@ prefix_is before later characters s st prefix others steps spell dead pieces rea
         go (Either.longer c k rest one two) =
             let live = subst IsLive (one ∙ sym (append_assoc before (c ∷ []) k)) (reading_live rivals (spelled rivals) reads) in
             absurd (dead c rest two (live_before (before ++ c ∷ []) k live))
-        go (Either.shorter k one) = within prefix others rivals body last (pieces_at s) pieces ended none is deep (reading_stays rivals k before s body last steps.run (sym one) reads is class)
+        go (Either.shorter k one) = within prefix others rivals body last (outer_pieces u) pieces ended none is deep (reading_stays rivals k before u body last steps.0 (sym one) reads is class)
 
 -- No line ends in the pieces after the lines given, or only by the CR with which the known bytes end.
 pub data EndsNoneYet (others : List Piece) (tail : List ℕ) : Type 0 where
@@ -164,21 +154,19 @@ one_of p w [] ws same = (cc, cc)
 one_of p w (q ∷ k) ws same = absurd (omega (arith, ap length same, length-append k (w ∷ ws)))
 
 -- the machine has read the known characters: the lines given are settled, and no more
-pub settled_at : (characters tail : List ℕ) (s : Scanned) (st : List Bracket) (base others : List Piece) (rest : List ℕ) → RunsTo characters s st → pieces_at s ≡ base ++ others → IsBalancedReading base (spelled base) → EndsForGood base (rest ++ tail) → EndsNoneYet others tail → spelled base ++ rest ≡ characters → IsSettledPrefix base characters tail
-settled_at characters tail s st base others rest steps pieces reading good yet spell =
-    record {
-      rest = rest;
-      spell = spell;
-      reading = reading;
-      ended = good;
-      longest = longest;
-    }
+pub settled_at : (characters tail : List ℕ) (u : FieldScanned) (base others : List Piece) (rest : List ℕ) → RunsTo characters u
+    → outer_pieces u ≡ base ++ others → IsBalancedReading base (spelled base) → EndsForGood base (rest ++ tail) → EndsNoneYet others tail
+    → spelled base ++ rest ≡ characters → IsSettledPrefix base characters tail
+settled_at characters tail u base others rest steps pieces reading good yet spell =
+    record { rest = rest; spell = spell; reading = reading; ended = good; longest = longest }
   where
-    whole : spelled (pieces_at s) ≡ characters
-    whole = closed_text s.mode s.done s.held (sound_at characters s st steps).holds ∙ (sound_at characters s st steps).spell
+    whole : spelled (outer_pieces u) ≡ characters
+    whole = runs_spell characters u steps
 
     -- a rival that ends with the CR ends with the known bytes, so not for good
-    at_return : (rivals : List Piece) (after : List ℕ) (body : List Piece) (last line : Piece) → spelled rivals ++ after ≡ characters → rivals ≡ body ++ last ∷ [] → IsBalancedReading rivals (spelled rivals) → last.class ≡ line_end → (after ++ tail ≡ [] → ends is_return (spelled rivals) ≡ false) → pieces_at s ≡ body ++ line ∷ [] → line.text ≡ 13 ∷ [] → tail ≡ [] → ⊥
+    at_return : (rivals : List Piece) (after : List ℕ) (body : List Piece) (last line : Piece) → spelled rivals ++ after ≡ characters
+        → rivals ≡ body ++ last ∷ [] → IsBalancedReading rivals (spelled rivals) → last.class ≡ line_end
+        → (after ++ tail ≡ [] → ends is_return (spelled rivals) ≡ false) → outer_pieces u ≡ body ++ line ∷ [] → line.text ≡ 13 ∷ [] → tail ≡ [] → ⊥
     at_return rivals after body last line spells is reads class settles at cr bare =
         let holds = (AreReadBefore-second body (last ∷ []) [] (subst (λ l. AreReadBefore l []) is reads.reads.fit)).0 in
         let some = line_first last class holds in
@@ -188,8 +176,11 @@ settled_at characters tail s st base others rest steps pieces reading good yet s
         let text : last.text ≡ 13 ∷ [] = some.2 ∙ cc in
         both_ways _ (settles (ap (λ t. t ++ tail) none.1 ∙ bare)) (ap (λ l. ends is_return (spelled l)) is ∙ ends-line is_return body last class holds ∙ ap (ends is_return) text ∙ return_returns)
 
-    bounded : (rivals : List Piece) (after : List ℕ) (body : List Piece) (last : Piece) → spelled rivals ++ after ≡ characters → rivals ≡ body ++ last ∷ [] → IsBalancedReading rivals (spelled rivals) → last.class ≡ line_end → depth_through 0 body ≡ 0 → (after ++ tail ≡ [] → ends is_return (spelled rivals) ≡ false) → Stays body last (pieces_at s) → EndsNoneYet others tail → length (spelled rivals) ≤ length (spelled base)
-    bounded rivals after body last spells is reads class deep settles stays (EndsNoneYet.none free) = within base others rivals body last (pieces_at s) pieces good.0 free is deep stays
+    bounded : (rivals : List Piece) (after : List ℕ) (body : List Piece) (last : Piece) → spelled rivals ++ after ≡ characters
+        → rivals ≡ body ++ last ∷ [] → IsBalancedReading rivals (spelled rivals) → last.class ≡ line_end → depth_through 0 body ≡ 0
+        → (after ++ tail ≡ [] → ends is_return (spelled rivals) ≡ false) → Stays body last (outer_pieces u) → EndsNoneYet others tail
+        → length (spelled rivals) ≤ length (spelled base)
+    bounded rivals after body last spells is reads class deep settles stays (EndsNoneYet.none free) = within base others rivals body last (outer_pieces u) pieces good.0 free is deep stays
     bounded rivals after body last spells is reads class deep settles stays (EndsNoneYet.by_return local text split_at free cr bare) =
         go (either (base ++ local) (piece line_end text ∷ []) body (stays.line ∷ stays.others) same)
       where
@@ -199,8 +190,7 @@ settled_at characters tail s st base others rest steps pieces reading good yet s
         go : Either (base ++ local) body (stays.line ∷ stays.others) → length (spelled rivals) ≤ length (spelled base)
         go (Either.longer p k others_after one two) =
             let line : p ≡ stays.line = cc in
-            let found = one ∙ ap (λ q. body ++ q ∷ k) line in
-            within base local rivals body last (base ++ local) refl good.0 free is deep (record { line = stays.line; others = k; is = found; class = stays.class; longer = stays.longer })
+            within base local rivals body last (base ++ local) refl good.0 free is deep (search (stays, one ∙ ap (λ q. body ++ q ∷ k) line))
         go (Either.shorter k one) =
             let two = second_is (base ++ local) (piece line_end text ∷ []) body k (stays.line ∷ stays.others) same one in
             let (line, nothing) = one_of (piece line_end text) stays.line k stays.others two in
@@ -208,7 +198,7 @@ settled_at characters tail s st base others rest steps pieces reading good yet s
 
     longest : (rivals : List Piece) (after : List ℕ) → spelled rivals ++ after ≡ characters → IsBalancedReading rivals (spelled rivals) → EndsForGood rivals (after ++ tail) → length (spelled rivals) ≤ length (spelled base)
     longest rivals after spells reads (inl empty, settles) = omega (arith, ap (λ l. length (spelled l)) empty)
-    longest rivals after spells reads (inr (body, last, is, class, deep), settles) = bounded rivals after body last spells is reads class deep settles (reading_stays rivals after characters s body last steps.run spells reads is class) yet
+    longest rivals after spells reads (inr (body, last, is, class, deep), settles) = bounded rivals after body last spells is reads class deep settles (reading_stays rivals after characters u body last steps.0 spells reads is class) yet
 
 -- a line end ends in LF or CR
 line_end-breaks : (text : List ℕ) → IsLineEnd text → ends is_return text ≡ false → ends is_line_feed text ≡ true
@@ -227,8 +217,7 @@ settled_line characters tail prefix rest spell reading good near = record { rest
     not_last : (c : ℕ) (others : List Piece) → rest ≡ c ∷ [] → is_line_feed c ≡ false → tail ≡ [] → spelled others ++ [] ≡ characters → IsBalancedReading others (spelled others) → EndsForGood others ([] ++ tail) → length (spelled others) ≤ length (spelled prefix)
     not_last c others is other bare spells read (inl empty, settles) = omega (arith, ap (λ l. length (spelled l)) empty)
     not_last c others is other bare spells read (inr (body, last, split_at, class, deep), settles) =
-        let fit = subst (λ l. AreReadBefore l []) split_at read.reads.fit in
-        let holds = (AreReadBefore-second body (last ∷ []) [] fit).0 in
+        let holds = (AreReadBefore-second body (last ∷ []) [] (subst (λ l. AreReadBefore l []) split_at read.reads.fit)).0 in
         let all : spelled others ≡ spelled prefix ++ c ∷ [] = sym (append-nil (spelled others)) ∙ spells ∙ sym spell ∙ ap (λ t. spelled prefix ++ t) is in
         let no_cr : ends is_return last.text ≡ false = sym (ends-line is_return body last class holds) ∙ ap (λ (l : List Piece). ends is_return (spelled l)) (sym split_at) ∙ settles bare in
         let lf : ends is_line_feed last.text ≡ true = line_end-breaks last.text (subst (λ k. InClass k last.text) class holds) no_cr in
@@ -241,38 +230,45 @@ settled_line characters tail prefix rest spell reading good near = record { rest
     longest (inr (c, is, other, bare)) others (d ∷ ds) spells read ended = omega (arith, total others (d ∷ ds) spells, ap length is)
 
 -- the prefix that a reader has given: up to the last line end at depth 0
-pub record HasPrefix (s : Scanned) (prefix : List Piece) : Type 0 where
+pub record HasPrefix (u : FieldScanned) (prefix : List Piece) : Type 0 where
   pub others : List Piece
-  pub spell : pieces_at s ≡ prefix ++ others
+  pub spell : outer_pieces u ≡ prefix ++ others
   pub reading : IsBalancedReading prefix (spelled prefix)
   pub ended : EndsLine prefix
   pub none : EndsNoLine 0 others
 
 -- the text is refused where the machine has come, and may not go on
-refused : (text characters tail before later : List ℕ) (s : Scanned) (st : List Bracket) (prefix : List Piece) (fault : Fault) → Decodes text characters tail → before ++ later ≡ characters → RunsTo before s st → ((c : ℕ) (after : List ℕ) → later ≡ c ∷ after → ¬ (IsLive (before ++ c ∷ []))) → HasPrefix s prefix
-    → IsFaultAt fault.kind characters tail fault.offset → IsLineOf fault characters → IsLexedToFault text (lines_of prefix) fault
-refused text characters tail before later s st prefix fault decodes spell steps dead has place line = record {
+refused : (text characters tail before later : List ℕ) (u : FieldScanned) (prefix : List Piece) (fault : Fault) → Decodes text characters tail
+    → before ++ later ≡ characters → RunsTo before u → ((c : ℕ) (after : List ℕ) → later ≡ c ∷ after → ¬ (IsLive (before ++ c ∷ [])))
+    → HasPrefix u prefix → IsFaultAt fault.kind characters tail fault.offset → IsLineOf fault characters → IsLexedToFault text (lines_of prefix) fault
+refused text characters tail before later u prefix fault decodes spell steps dead has place line = record {
   characters = characters;
   tail = tail;
   pieces = prefix;
   decodes = decodes;
-  prefix = prefix_is before later characters s st prefix has.others steps spell dead has.spell has.reading has.ended has.none;
+  prefix = prefix_is before later characters u prefix has.others steps spell dead has.spell has.reading has.ended has.none;
   refused = lexical characters tail fault place line;
   cut = refl;
 }
 
 -- at a character
-pub refused_at_character : (text characters tail before after : List ℕ) (c : ℕ) (s : Scanned) (st : List Bracket) (prefix : List Piece) (fault : Fault) → Decodes text characters tail → before ++ c ∷ after ≡ characters → RunsTo before s st → ¬ (IsLive (before ++ c ∷ [])) → HasPrefix s prefix → IsCharacterFault fault.kind characters fault.offset → IsLineOf fault characters → IsLexedToFault text (lines_of prefix) fault
-refused_at_character text characters tail before after c s st prefix fault decodes spell steps dead has is line =
-    refused text characters tail before (c ∷ after) s st prefix fault decodes spell steps (λ d ds same. let first : c ≡ d = cc in subst (λ (x : ℕ). ¬ (IsLive (before ++ x ∷ []))) first dead) has (at_character is) line
+pub refused_at_character : (text characters tail before after : List ℕ) (c : ℕ) (u : FieldScanned) (prefix : List Piece) (fault : Fault)
+    → Decodes text characters tail → before ++ c ∷ after ≡ characters → RunsTo before u → ¬ (IsLive (before ++ c ∷ [])) → HasPrefix u prefix
+    → IsCharacterFault fault.kind characters fault.offset → IsLineOf fault characters → IsLexedToFault text (lines_of prefix) fault
+refused_at_character text characters tail before after c u prefix fault decodes spell steps dead has is line =
+    refused text characters tail before (c ∷ after) u prefix fault decodes spell steps (λ d ds same. let first : c ≡ d = cc in subst (λ (x : ℕ). ¬ (IsLive (before ++ x ∷ []))) first dead) has (at_character is) line
 
 -- at its end
-pub refused_at_end : (text characters : List ℕ) (s : Scanned) (st : List Bracket) (prefix : List Piece) (fault : Fault) → Decodes text characters [] → RunsTo characters s st → HasPrefix s prefix → IsEndFault fault.kind characters [] fault.offset → IsLineOf fault characters → IsLexedToFault text (lines_of prefix) fault
-refused_at_end text characters s st prefix fault decodes steps has is line =
-    refused text characters [] characters [] s st prefix fault decodes (append-nil characters) steps (λ c after same. absurd (cc)) has (at_end is) line
+pub refused_at_end : (text characters : List ℕ) (u : FieldScanned) (prefix : List Piece) (fault : Fault) → Decodes text characters []
+    → RunsTo characters u → HasPrefix u prefix → IsEndFault fault.kind characters [] fault.offset → IsLineOf fault characters
+    → IsLexedToFault text (lines_of prefix) fault
+refused_at_end text characters u prefix fault decodes steps has is line =
+    refused text characters [] characters [] u prefix fault decodes (append-nil characters) steps (λ c after same. absurd (cc)) has (at_end is) line
 
 -- at bytes that begin no character
-pub refused_at_bytes : (text characters : List ℕ) (d : ℕ) (ds : List ℕ) (s : Scanned) (st : List Bracket) (prefix : List Piece) (fault : Fault) → Decodes text characters (d ∷ ds) → RunsTo characters s st → HasPrefix s prefix → fault.kind ≡ faults.BadUtf8 → fault.offset ≡ byte_len characters → IsLineOf fault characters → IsLexedToFault text (lines_of prefix) fault
-refused_at_bytes text characters d ds s st prefix fault decodes steps has kind place line =
-    refused text characters (d ∷ ds) characters [] s st prefix fault decodes (append-nil characters) steps (λ c after same. absurd (cc)) has
-    (at_bytes (record { is = kind; bad = λ (h : d ∷ ds ≡ []). cc; live = runs_live characters s st steps; place = place })) line
+pub refused_at_bytes : (text characters : List ℕ) (d : ℕ) (ds : List ℕ) (u : FieldScanned) (prefix : List Piece) (fault : Fault)
+    → Decodes text characters (d ∷ ds) → RunsTo characters u → HasPrefix u prefix → fault.kind ≡ faults.BadUtf8 → fault.offset ≡ byte_len characters
+    → IsLineOf fault characters → IsLexedToFault text (lines_of prefix) fault
+refused_at_bytes text characters d ds u prefix fault decodes steps has kind place line =
+    refused text characters (d ∷ ds) characters [] u prefix fault decodes (append-nil characters) steps (λ c after same. absurd (cc)) has
+    (at_bytes (record { is = kind; bad = λ (h : d ∷ ds ≡ []). cc; live = runs_live characters u steps; place = place })) line

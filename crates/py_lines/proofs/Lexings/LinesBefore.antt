@@ -1,17 +1,15 @@
 -- Whole lines before pieces: together they are read exactly if each is.
-use Rattle.std.proofs.Common.{◌≡◌, ℕ, false, ◌&&◌, Option, None, Some, List, [], ◌∷◌, ◌++◌, refl, sym, ap, ◌∙◌, subst, inl, inr, append-nil}
+use Rattle.std.proofs.Common.{◌≡◌, ℕ, false, ◌&&◌, List, [], ◌∷◌, ◌++◌, refl, sym, ap, ◌∙◌, subst, inl, inr, append-nil}
 use Rattle.py_lines.specs.Character.{is_line_feed, is_return}
 use Rattle.py_lines.specs.Piece.{Piece, begins, ends, begins_marked, spelled}
 use Rattle.py_lines.specs.Balance.{IsBalanced as balance}
 use Rattle.py_lines.specs.Fields.{fielded, AreReadBefore, IsShallow}
 use Rattle.py_lines.specs.Reading.{IsBalancedReading, EndsLine}
 use Rattle.py_lines.specs.Neighbours.{MayFollowLines}
-use Rattle.py_lines.specs.Private.Machine.{Bracket}
 use Rattle.py_lines.proofs.Pieces.PieceLists.{MayFollow, AreReadIn-append, AreReadBefore-first, AreReadBefore-second}
-use Rattle.py_lines.proofs.Pieces.OpenBrackets.{balanced-from_stack, stack-from_balanced}
-use Rattle.py_lines.proofs.Pieces.ShallowPieces.{IsShallow-append, IsShallow-parts, brackets_shallow}
-use Rattle.py_lines.proofs.Machine.EarlierPieces.{shift_if, stack-after}
-use Rattle.py_lines.proofs.Lexings.LineEnds.{ends-line, read_on, ended_reading, depth_prefix, level_stack}
+use Rattle.py_lines.proofs.FieldSoundness.OpenLists.{balanced_first, balanced_second}
+use Rattle.py_lines.proofs.Pieces.ShallowPieces.{IsShallow-append, IsShallow-parts}
+use Rattle.py_lines.proofs.Lexings.LineEnds.{ends-line, read_on, ended_reading, depth_prefix}
 
 follows_lines : (lines rest : List Piece) → begins_marked rest ≡ false → MayFollow lines rest
 follows_lines [] rest h = tt
@@ -32,20 +30,11 @@ read_together lines rest (inr (body, last, is, class, level)) first second follo
       shallow = IsShallow-append 0 lines rest first.shallow (subst (λ (d : ℕ). IsShallow d rest) (sym (depth_prefix lines (inr (body, last, is, class, level)))) second.shallow);
     }
 
-no_stack : (k : ℕ) (o : Option (List Bracket)) → shift_if k o ≡ Some [] → o ≡ Some []
-no_stack k None h = absurd (cc)
-no_stack k (Some []) h = refl
-no_stack k (Some (b ∷ bs)) h = absurd (cc)
-
 -- lines and what follows them are read, where both are read together
 pub read_apart : (lines rest : List Piece) → EndsLine lines → IsBalancedReading (lines ++ rest) (spelled (lines ++ rest)) → IsBalancedReading lines (spelled lines) × IsBalancedReading rest (spelled rest)
 read_apart lines rest ended reading =
-    let whole = stack-from_balanced (lines ++ rest) reading.balanced (brackets_shallow 0 (lines ++ rest) reading.shallow) in
     let shallow = IsShallow-parts 0 lines rest reading.shallow in
-    let prefix = level_stack lines rest [] whole (depth_prefix lines ended) in
-    let second = no_stack _ _ (sym (stack-after lines rest prefix) ∙ whole) in
-    let one = balanced-from_stack lines prefix in
-    let two = balanced-from_stack rest second in (
-      ended_reading lines (spelled rest ++ []) (AreReadBefore-first lines rest [] reading.reads.fit) one.0 shallow.0 ended,
-      record { reads = record { spell = refl; fit = AreReadBefore-second lines rest [] reading.reads.fit }; balanced = two.0; shallow = subst (λ (d : ℕ). IsShallow d rest) (depth_prefix lines ended) shallow.1 },
+    let first = balanced_first lines rest reading.balanced (depth_prefix lines ended) in (
+      ended_reading lines (spelled rest ++ []) (AreReadBefore-first lines rest [] reading.reads.fit) first shallow.0,
+      record { reads = record { spell = refl; fit = AreReadBefore-second lines rest [] reading.reads.fit }; balanced = balanced_second lines rest reading.balanced first; shallow = subst (λ (d : ℕ). IsShallow d rest) (depth_prefix lines ended) shallow.1 },
     )

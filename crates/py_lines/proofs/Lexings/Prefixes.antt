@@ -57,8 +57,7 @@ module _ (Good : List ℕ → List ℕ → Type 0) (decide : (xs ys : List ℕ) 
         spell = best.spell;
         good = best.good;
         longest = λ others after same is few.
-            ⊎_elim
-            (λ (less : length others < suc n). best.longest others after same is (omega (arith, less)))
+            ⊎_elim (λ (less : length others < suc n). best.longest others after same is (omega (arith, less)))
             (λ (all : suc n ≤ length others).
             let cut = same_prefix others (take (suc n) characters) after (drop (suc n) characters) (same ∙ sym whole) (omega (arith, few, all, ap length (sym same), length-append others after, length-take (suc n) characters)) in
             absurd (bad (subst (Good (take (suc n) characters)) cut.1 (subst (λ t. Good t after) cut.0 is)))) (cases_lt (length others) (suc n));
@@ -177,7 +176,7 @@ pub some_settled : (text : List ℕ) → (lines : List LogicalLine) × IsSettled
 some_settled text =
     let of = decoding text in
     let prefix = settled_prefix_exists of.characters of.tail in
-    (lines_of prefix.0, record { characters = of.characters; tail = of.tail; pieces = prefix.0; decodes = of.decodes; prefix = prefix.1; cut = refl })
+    (lines_of prefix.0, search (of, prefix.1))
 
 never_both : (text : List ℕ) (lines others : List LogicalLine) (fault : Fault) → IsLexedWhole text lines → IsLexedToFault text others fault → ⊥
 never_both text lines others fault r s =

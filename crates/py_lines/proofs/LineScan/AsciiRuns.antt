@@ -3,7 +3,6 @@ use Rattle.std.proofs.Common.{◌≡◌, ℕ, zero, suc, ◌<◌, ◌≤◌, Boo
 use Rattle.std.specs.Prelude.{encode_utf8_all, codes, nat_lt, nat_le}
 use Rattle.std.specs.Str.{all_scalars}
 use Rattle.std.specs.List.{list_all}
-use Rattle.std.specs.Char.{IsScalar}
 use Rattle.std.proofs.lemmas.Bool.{and_parts, and_from, leb-false, lt-ltb, ltb-true}
 use Rattle.std.proofs.lemmas.Str.{encode_ascii}
 use Rattle.std.proofs.Math.Utf8.{low_scalar}
@@ -73,9 +72,6 @@ full_take bytes zero some within = absurd (omega (arith, some))
 full_take [] (suc n) some within = absurd (omega (arith, within))
 full_take (b ∷ bs) (suc n) some within = tt
 
-pub ascii_scalar : (c : ℕ) → c < 128 → IsScalar c
-ascii_scalar c low = low_scalar c (omega (arith, low))
-
 -- the characters of a run of bytes
 pub low_encodes : (passes : ℕ → Bool) (run : List ℕ) → ((c : ℕ) → passes c ≡ true → c < 128) → list_all passes run ≡ true
     → (encode_utf8_all run ≡ run) × (all_scalars run ≡ true)
@@ -85,7 +81,7 @@ low_encodes passes (c ∷ cs) low all =
     let others = low_encodes passes cs low parts.1 in (
       ap (λ t. t ++ encode_utf8_all cs) (encode_ascii c (low c parts.0))
           ∙ ap (λ t. c ∷ t) others.0,
-      and_from _ _ (ascii_scalar c (low c parts.0)) others.1,
+      and_from _ _ (low_scalar c (omega (arith, low c parts.0))) others.1,
     )
 
 -- a word
@@ -128,3 +124,9 @@ low_is c h = ltb-true c 128 h
 
 pub is_low_from : (c : ℕ) → c < 128 → nat_lt c 128 ≡ true
 is_low_from c h = lt-ltb c 128 h
+
+pub run_low : (passes : ℕ → Bool) (run : List ℕ) → ((c : ℕ) → passes c ≡ true → c < 128) → list_all passes run ≡ true → list_all is_low run ≡ true
+run_low passes [] low all = refl
+run_low passes (c ∷ cs) low all =
+    let parts = and_parts (passes c) (list_all passes cs) all in
+    and_from _ _ (is_low_from c (low c parts.0)) (run_low passes cs low parts.1)

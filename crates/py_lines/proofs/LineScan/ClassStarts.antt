@@ -1,8 +1,8 @@
 -- What a character begins, by the class of its first byte.
-use Rattle.std.proofs.Common.{◌≡◌, ◌⊎◌, ℕ, ◌<◌, ◌≤◌, true, false, List, [], ◌∷◌, ◌++◌, slice_index, refl, ap, sym, subst, ◌∙◌, ◌==◌, arith, if◌then◌else◌, ⊎_elim}
+use Rattle.std.proofs.Common.{◌≡◌, ◌⊎◌, ℕ, ◌<◌, ◌≤◌, true, false, List, [], ◌∷◌, ◌++◌, slice_index, refl, ap, sym, ◌∙◌, arith, if◌then◌else◌, ⊎_elim}
 use Rattle.std.specs.Prelude.{codes, nat_le, nat_lt}
 use Rattle.std.specs.List.{list_any}
-use Rattle.std.proofs.lemmas.Bool.{and_parts, cases_lt, le-leb, leb-true, ltb-true, not-true, or_parts}
+use Rattle.std.proofs.lemmas.Bool.{and_parts, cases_lt, le-leb, leb-true, ltb-true}
 use Rattle.std.proofs.lemmas.Bool.Decides.{nat_tests}
 use Rattle.std.proofs.lemmas.Str.{byte_from_char, char_from_byte, len_utf8_bounds}
 use Rattle.unicode_ident.specs.Ident.{is_xid_start}
@@ -11,11 +11,11 @@ use Rattle.py_lines.specs.declared.class.Class.{Class}
 use Rattle.py_lines.specs.declared.class.Class.TheVariants as class
 use Rattle.py_lines.specs.Private.Machine.{Mode, Spelling, Start, first_spelling, start_of}
 use Rattle.py_lines.specs.Private.Marks.{begins_nothing, is_of_class, is_plain}
-use Rattle.py_lines.specs.Private.Run.{BeginsWith, is_ascii_word}
+use Rattle.py_lines.specs.Private.Run.{BeginsWith}
 use Rattle.py_lines.proofs.FieldMachine.PieceRuns.{opening_operator}
-use Rattle.py_lines.proofs.LineScan.AsciiRuns.{quote_ascii, space_low, word_byte_low, word_byte_starts}
+use Rattle.py_lines.proofs.LineScan.AsciiRuns.{word_byte_low, word_byte_starts}
 use Rattle.py_lines.proofs.Machine.LiveTexts.{closing-operator}
-use Rattle.py_lines.proofs.Text.CharacterTests.{excluded, feed_is, none_of, operator_ascii, return_is, the_one}
+use Rattle.py_lines.proofs.Text.CharacterTests.{excluded, none_of, operator_ascii}
 use Rattle.py_lines.proofs.Text.FirstCharacters.{first_size}
 use Rattle.py_lines.proofs.Machine.Starts.{start-word, start-space, start-operator, start-feed, start-return, start-quote, start-hash, start-slash}
 
@@ -40,29 +40,26 @@ nothing_low c h = ltb-true c 128 (and_parts (nat_lt c 128) _ h).0
 
 nothing_starts : (c : ℕ) → c < 128 → begins_nothing c ≡ true → start_of c ≡ Start.Nothing
 unfolding begins_nothing start_of is_plain is_break is_line_feed is_return
-nothing_starts c low h =
-    let first = or_parts (is_plain c) _ (not-true _ (and_parts (nat_lt c 128) _ h).1) in
-    let plain = or_parts (is_ascii_word c) _ first.0 in
-    let second = or_parts (is_operator c) _ first.1 in
-    let third = or_parts (is_quote c) _ second.1 in
-    let fourth = or_parts (is_break c) _ third.1 in
-    let ends = or_parts (c == 10) _ fourth.0 in
-    let fifth = or_parts (is_hash c) (is_backslash c) fourth.1 in
-    rw (word_byte_starts c low, plain.0, (or_parts (is_space c) _ plain.1).0, second.0, ends.0, ends.1, third.0, fifth.0, fifth.1)
+nothing_starts c low h = grind (arith, word_byte_starts c low)
 
 pub starts_by : (k : Class) (c : ℕ) → c < 128 → is_of_class k c ≡ true → start_of c ≡ start_by k c
-starts_by class.Word c low h = start-word c (word_byte_starts c low ∙ h)
-starts_by class.Space c low h = start-space c h
-starts_by class.Operator c low h = start-operator c (and_parts (is_operator c) _ h).0
-starts_by class.Opening c low h = start-operator c (opening_operator c h)
-starts_by class.Closing c low h = start-operator c (closing-operator c h)
-starts_by class.Quote c low h = start-quote c h
-starts_by class.LineFeed c low h = start-feed c h
-starts_by class.Return c low h = start-return c h
-starts_by class.Hash c low h = start-hash c h
-starts_by class.Backslash c low h = start-slash c h
-starts_by class.Wide c low h = absurd (grind (arith, nat_tests))
-starts_by class.Other c low h = nothing_starts c low h
+starts_by k c low h =
+    grind (
+      arith,
+      nat_tests,
+      word_byte_starts c low,
+      start-word c,
+      start-space c,
+      start-operator c,
+      opening_operator c,
+      closing-operator c,
+      start-quote c,
+      start-feed c,
+      start-return c,
+      start-hash c,
+      start-slash c,
+      nothing_starts c low,
+    )
 
 -- one that isn't ASCII begins a word or nothing
 high_spelling : (c : ℕ) → 128 ≤ c → first_spelling c ≡ Spelling.Name
@@ -96,19 +93,8 @@ InRange class.Wide b = 128 ≤ b
 InRange k b = b < 128
 
 in_range : (k : Class) (b : ℕ) → is_of_class k b ≡ true → InRange k b
-unfolding is_hash is_backslash
-in_range class.Word b h = word_byte_low b h
-in_range class.Space b h = space_low b h
-in_range class.Operator b h = operator_ascii b (and_parts (is_operator b) _ h).0
-in_range class.Opening b h = operator_ascii b (opening_operator b h)
-in_range class.Closing b h = operator_ascii b (closing-operator b h)
-in_range class.Quote b h = quote_ascii b h
-in_range class.LineFeed b h = omega (arith, feed_is b h)
-in_range class.Return b h = omega (arith, return_is b h)
-in_range class.Hash b h = omega (arith, the_one 35 b h)
-in_range class.Backslash b h = omega (arith, the_one 92 b h)
-in_range class.Wide b h = leb-true 128 b h
-in_range class.Other b h = nothing_low b h
+unfolding is_space is_quote is_line_feed is_return is_hash is_backslash
+in_range k b h = grind (arith, nat_tests, word_byte_low b, opening_operator b, closing-operator b, operator_ascii b, nothing_low b)
 
 -- what one of this class begins, in the code's words
 abbrev pub BeginsBy : Class → ℕ → Type 0
@@ -123,16 +109,9 @@ BeginsBy class.Wide c = start_of c ≡ (if is_xid_start c then Start.Open (Mode.
 BeginsBy k c = start_of c ≡ start_by k c
 
 begins_by : (k : Class) (c : ℕ) → is_of_class k c ≡ true → BeginsBy k c
-unfolding is_break
-begins_by class.Operator c h = (and_parts (is_operator c) _ h).0
-begins_by class.Opening c h = opening_operator c h
-begins_by class.Closing c h = closing-operator c h
-begins_by class.Quote c h = h
-begins_by class.LineFeed c h = subst (λ x. is_break x ≡ true) (sym (feed_is c h)) refl
-begins_by class.Return c h = subst (λ x. is_break x ≡ true) (sym (return_is c h)) refl
-begins_by class.Backslash c h = h
+unfolding is_break is_line_feed is_return
 begins_by class.Wide c h = high_start c (leb-true 128 c h)
-begins_by k c h = starts_by k c (in_range k c h) h
+begins_by k c h = grind (arith, opening_operator c, closing-operator c, starts_by k c, in_range k c)
 
 -- what bytes begin with is of the class of the first of them
 first_by : (k : Class) (bytes : List ℕ) (c : ℕ) → BeginsWith bytes c → is_of_class k (slice_index bytes 0) ≡ true → is_of_class k c ≡ true
@@ -141,7 +120,8 @@ first_by class.Wide bytes c first h =
     (λ low. absurd (omega (arith, low, leb-true 128 _ h, byte_from_char bytes _ c (sym first.spell) low)))
     (λ high. le-leb 128 c high) (cases_lt c 128)
 first_by k bytes c first h =
-    ap (is_of_class k) (char_from_byte bytes _ c (sym first.spell) (in_range k (slice_index bytes 0) h) (omega (arith, first_size first, len_utf8_bounds c))) ∙ h
+    ap (is_of_class k) (char_from_byte bytes _ c (sym first.spell) (in_range k (slice_index bytes 0) h)
+    (omega (arith, first_size first, len_utf8_bounds c))) ∙ h
 
 -- as the code compares them
 pub begins_as : (k j : Class) (bytes : List ℕ) (c : ℕ) → BeginsWith bytes c → is_of_class j (slice_index bytes 0) ≡ true → j ≡ k → BeginsBy k c

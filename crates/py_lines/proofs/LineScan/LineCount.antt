@@ -6,10 +6,10 @@ use Rattle.py_lines.specs.Piece.{Piece}
 use Rattle.py_lines.specs.Balance.{depth_after, depth_through}
 use Rattle.py_lines.specs.LogicalLine.{is_line_end_class, ends_line, line_ends, byte_len}
 use Rattle.py_lines.specs.Private.LineScan.{EndsNoLine}
-pub use Rattle.py_lines.proofs.LogicalLines.Cuts.{ends-last}
 
 -- one more piece that doesn't end the line
-pub EndsNoLine-push : (d : ℕ) (ps : List Piece) (p : Piece) → EndsNoLine d ps → is_line_end_class p.class && (depth_through d ps == 0) ≡ false → EndsNoLine d (ps ++ p ∷ [])
+pub EndsNoLine-push : (d : ℕ) (ps : List Piece) (p : Piece) → EndsNoLine d ps
+    → is_line_end_class p.class && (depth_through d ps == 0) ≡ false → EndsNoLine d (ps ++ p ∷ [])
 EndsNoLine-push d [] p none last = (last, tt)
 EndsNoLine-push d (q ∷ ps) p none last = (none.0, EndsNoLine-push (depth_after d q) ps p none.1 last)
 

@@ -1,31 +1,14 @@
 -- Strings between single quotes that bytes hold whole: of ASCII, with no escape.
-use Rattle.std.proofs.Common.{◌≡◌, ℕ, suc, ◌+◌, ◌<◌, ◌≤◌, Bool, true, List, [], ◌∷◌, ◌++◌, length, take, drop, slice_index, refl, sym, ap, ◌∙◌, arith, length-append}
-use Rattle.std.specs.List.{list_all}
-use Rattle.std.proofs.lemmas.Bool.{and_from, both_ways, eq-eqb}
+use Rattle.std.proofs.Common.{◌≡◌, ℕ, suc, ◌+◌, ◌<◌, ◌≤◌, true, List, [], ◌∷◌, ◌++◌, length, take, drop, slice_index, refl, sym, ap, ◌∙◌, arith, length-append}
+use Rattle.std.proofs.lemmas.Bool.{both_ways}
 use Rattle.std.proofs.lemmas.List.{length-take-le, take-append-drop}
 use Rattle.std.proofs.Math.Seq.{drop-cons}
-use Rattle.std.proofs.lemmas.List.Folds.{list_all-append}
 use Rattle.py_lines.specs.Character.{is_quote}
 use Rattle.py_lines.specs.Piece.{begins}
-use Rattle.py_lines.specs.Private.Mode as modes
-use Rattle.py_lines.specs.Private.Machine.{Move as moves}
-use Rattle.py_lines.specs.Private.Machine.{move_of}
-use Rattle.py_lines.specs.Private.ScanMachine.{meet_of}
 use Rattle.py_lines.specs.Private.Run.{IsRunOf, is_text_byte, IsWholePlainString}
 use Rattle.py_lines.proofs.LineScan.AsciiRuns.{all_pass, full_take}
 
-pub inside_closes : (q : ℕ) → meet_of (modes.Inside q) q ≡ moves.Closes
-unfolding meet_of move_of
-inside_closes q = rw (eq-eqb q q refl) refl
-
--- what stands in a string whose quote it doesn't repeat
-pub quoted_all : (passes : ℕ → Bool) (prefix : List ℕ) (q : ℕ) (run : List ℕ) → passes q ≡ true → list_all passes prefix ≡ true
-    → list_all passes run ≡ true → list_all passes (prefix ++ q ∷ (run ++ q ∷ [])) ≡ true
-quoted_all passes prefix q run one before within =
-    list_all-append passes prefix (q ∷ (run ++ q ∷ []))
-    ∙ and_from _ _ before (and_from _ _ one (list_all-append passes run (q ∷ []) ∙ and_from _ _ within (and_from _ _ one refl)))
-
-pub split_at : (body : List ℕ) (n : ℕ) → n < length body → take n body ++ slice_index body n ∷ drop (suc n) body ≡ body
+split_at : (body : List ℕ) (n : ℕ) → n < length body → take n body ++ slice_index body n ∷ drop (suc n) body ≡ body
 split_at body n within = ap (λ t. take n body ++ t) (sym (drop-cons body n 0 within)) ∙ take-append-drop n body
 
 pub text_whole : (bytes : List ℕ) (q n : ℕ) → begins is_quote bytes ≡ true → q ≡ slice_index bytes 0

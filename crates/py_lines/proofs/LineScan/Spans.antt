@@ -1,30 +1,26 @@
 -- Whole characters that leave the open piece as it is.
-use Rattle.std.proofs.Common.{◌≡◌, ℕ, ◌+◌, ◌-◌, ◌<◌, ◌≤◌, Bool, true, Some, List, length, take, drop, slice_index, inl, inr, sym, ap, ◌∙◌, subst, arith, length-drop, length-take, refl}
+use Rattle.std.proofs.Common.{◌≡◌, ℕ, ◌+◌, ◌-◌, ◌<◌, ◌≤◌, Bool, true, List, length, take, drop, slice_index, inl, inr, sym, ap, ◌∙◌, subst, arith, length-drop, length-take}
 use Rattle.std.specs.Prelude.{IsUtf8, nat_lt, ◌&&◌}
-use Rattle.std.proofs.lemmas.Bool.{and_from, and_parts, both_ways, cases_lt, false_from_ne_true, lt-ltb, ltb-true}
+use Rattle.std.proofs.lemmas.Bool.{and_parts, cases_lt, ltb-true}
 use Rattle.std.proofs.lemmas.List.{length-take-le, get_or-take, get_or-drop, take-take, take_rest}
 use Rattle.std.proofs.lemmas.List.Elements.{All-from_get_or}
 use Rattle.std.proofs.lemmas.Str.{IsUtf8-from_ascii, IsUtf8-append}
 use Rattle.std.proofs.lemmas.Str.Ascii.{IsAscii-from_all}
 use Rattle.std.proofs.Math.Seq.{take-add}
 use Rattle.py_lines.specs.Character.{is_space}
-use Rattle.py_lines.proofs.Text.Lanes.{run_goes_on}
 use Rattle.py_lines.proofs.LineScan.AsciiRuns.{space_low, word_byte_low}
-use Rattle.py_lines.specs.Private.Run.{IsRunOf, IsWholeComment, Spans, is_comment_byte, is_remark_byte, is_ascii_word, is_body_byte, is_text_byte}
-
--- bytes below 128 are characters
-ascii_utf8 : (bytes : List ℕ) (n : ℕ) → n ≤ length bytes → ((i : ℕ) → i < n → slice_index bytes i < 128) → IsUtf8 (take n bytes)
-ascii_utf8 bytes n within low =
-    let size : length (take n bytes) ≡ n = length-take-le n bytes within in
-    IsUtf8-from_ascii (take n bytes) (IsAscii-from_all (take n bytes) (All-from_get_or (λ b. b < 128) (take n bytes) 0 (λ i less.
-    let short : i < n = omega (arith, less, size) in
-    subst (λ (b : ℕ). b < 128) (sym (get_or-take n bytes i 0 short)) (low i short))))
+use Rattle.py_lines.specs.Private.Run.{IsRunOf, Spans, is_ascii_word}
 
 -- a run of ASCII
-low_spans : (passes other : ℕ → Bool) → ((c : ℕ) → passes c ≡ true → (other c ≡ true) × (c < 128)) → (bytes : List ℕ) (n : ℕ) → IsRunOf passes bytes n → Spans other bytes n
+low_spans : (passes other : ℕ → Bool) → ((c : ℕ) → passes c ≡ true → (other c ≡ true) × (c < 128)) → (bytes : List ℕ) (n : ℕ) → IsRunOf passes bytes n
+    → Spans other bytes n
 low_spans passes other low bytes n is = record {
   run = record { within = is.within; each = λ i less. (low (slice_index bytes i) (is.each i less)).0 };
-  utf8 = ascii_utf8 bytes n is.within (λ i less. (low (slice_index bytes i) (is.each i less)).1);
+  utf8 =
+      let size : length (take n bytes) ≡ n = length-take-le n bytes is.within in
+      IsUtf8-from_ascii (take n bytes) (IsAscii-from_all (take n bytes) (All-from_get_or (λ b. b < 128) (take n bytes) 0 (λ i less.
+      let short : i < n = omega (arith, less, size) in
+      subst (λ (b : ℕ). b < 128) (sym (get_or-take n bytes i 0 short)) (low (slice_index bytes i) (is.each i short)).1)));
 }
 
 pub word_spans : (bytes : List ℕ) (n : ℕ) → IsRunOf is_ascii_word bytes n → Spans is_ascii_word bytes n
@@ -33,14 +29,14 @@ word_spans = low_spans is_ascii_word is_ascii_word (λ c h. (h, word_byte_low c 
 pub space_spans : (bytes : List ℕ) (n : ℕ) → IsRunOf is_space bytes n → Spans is_space bytes n
 space_spans = low_spans is_space is_space (λ c h. (h, space_low c h))
 
-pub ascii_spans : (ascii all : ℕ → Bool) → ((c : ℕ) → ascii c ≡ (all c && nat_lt c 128)) → (bytes : List ℕ) (n : ℕ) → IsRunOf ascii bytes n → Spans all bytes n
-ascii_spans ascii all is = low_spans ascii all (λ c h. let parts = and_parts (all c) (nat_lt c 128) (sym (is c) ∙ h) in (parts.0, ltb-true c 128 parts.1))
-
-pub text_spans : (q : ℕ) (bytes : List ℕ) (n : ℕ) → IsRunOf (is_text_byte q) bytes n → Spans (is_body_byte q) bytes n
-text_spans q = ascii_spans (is_text_byte q) (is_body_byte q) (λ c. refl)
+pub ascii_spans : (ascii all : ℕ → Bool) → ((c : ℕ) → ascii c ≡ (all c && nat_lt c 128)) → (bytes : List ℕ) (n : ℕ) → IsRunOf ascii bytes n
+    → Spans all bytes n
+ascii_spans ascii all is =
+    low_spans ascii all (λ c h. let parts = and_parts (all c) (nat_lt c 128) (sym (is c) ∙ h) in (parts.0, ltb-true c 128 parts.1))
 
 -- the text that a run begins with
-pub run_spans : (passes : ℕ → Bool) (bytes : List ℕ) (r n : ℕ) → IsRunOf passes bytes r → n ≤ length (take r bytes) → IsUtf8 (take n (take r bytes)) → Spans passes bytes n
+pub run_spans : (passes : ℕ → Bool) (bytes : List ℕ) (r n : ℕ) → IsRunOf passes bytes r → n ≤ length (take r bytes) → IsUtf8 (take n (take r bytes))
+    → Spans passes bytes n
 run_spans passes bytes r n run within utf8 =
     let size : n ≤ r = omega (arith, within, length-take r bytes) in
     record {
@@ -49,7 +45,8 @@ run_spans passes bytes r n run within utf8 =
     }
 
 -- characters after characters
-pub spans_on : (passes : ℕ → Bool) (bytes : List ℕ) (n m : ℕ) → Spans passes bytes n → Spans passes (take (length bytes - n) (drop n bytes)) m → Spans passes bytes (n + m)
+pub spans_on : (passes : ℕ → Bool) (bytes : List ℕ) (n m : ℕ) → Spans passes bytes n → Spans passes (take (length bytes - n) (drop n bytes)) m
+    → Spans passes bytes (n + m)
 spans_on passes bytes n m first taken =
     let more : Spans passes (drop n bytes) m = subst (λ (t : List ℕ). Spans passes t m) (take_rest bytes n) taken in
     record {
@@ -63,24 +60,3 @@ spans_on passes bytes n m first taken =
       };
       utf8 = subst IsUtf8 (sym (take-add n m bytes)) (IsUtf8-append (take n bytes) (take m (drop n bytes)) first.utf8 more.utf8);
     }
-
--- a comment that a line end follows, where it is ASCII
-remark_parts : (c : ℕ) → is_remark_byte c ≡ true → (is_comment_byte c ≡ true) × (c < 128)
-remark_parts c h = let parts = and_parts (is_comment_byte c) (nat_lt c 128) h in (parts.0, ltb-true c 128 parts.1)
-
-pub ascii_comment : (bytes : List ℕ) (n : ℕ) → IsRunOf is_remark_byte bytes n → n < length bytes → slice_index bytes n < 128 → IsWholeComment bytes (Some n)
-ascii_comment bytes n is more low = (
-  record { within = is.within; each = λ i less. (remark_parts (slice_index bytes i) (is.each i less)).0; ends = λ less. false_from_ne_true _ (λ passes. both_ways _ (is.ends less) (and_from _ _ passes (lt-ltb (slice_index bytes n) 128 low))) },
-  ascii_utf8 bytes n is.within (λ i less. (remark_parts (slice_index bytes i) (is.each i less)).1),
-  more,
-)
-
--- and where ASCII begins it
-pub wide_comment : (bytes : List ℕ) (n m : ℕ) → IsRunOf is_remark_byte bytes n → IsRunOf is_comment_byte (take (length bytes - n) (drop n bytes)) m → IsUtf8 (take m (take (length bytes - n) (drop n bytes))) → n + m < length bytes → IsWholeComment bytes (Some (n + m))
-wide_comment bytes n m is run utf8 more =
-    let first = ascii_utf8 bytes n is.within (λ i less. (remark_parts (slice_index bytes i) (is.each i less)).1) in
-    let later : IsUtf8 (take m (drop n bytes)) = subst (λ (t : List ℕ). IsUtf8 (take m t)) (take_rest bytes n) utf8 in (
-      run_goes_on is_comment_byte bytes n m is.within (λ i less. (remark_parts (slice_index bytes i) (is.each i less)).0) run,
-      subst IsUtf8 (sym (take-add n m bytes)) (IsUtf8-append (take n bytes) (take m (drop n bytes)) first later),
-      more,
-    )

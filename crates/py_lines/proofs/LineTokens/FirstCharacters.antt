@@ -8,17 +8,16 @@ use Rattle.std.proofs.lemmas.Str.{byte_from_char, char_from_byte, encodes-append
 use Rattle.std.proofs.lemmas.List.{length-append}
 use Rattle.unicode_ident.specs.Ident.{is_xid_start}
 use Rattle.unicode_ident.proofs.IdentLemmas.{is_xid_start-is_xid_continue}
-use Rattle.py_lines.specs.Character.{is_mark, is_space, is_word_character, is_word_start, is_quote, is_line_feed, is_return, is_hash, is_backslash, is_digit, is_operator}
+use Rattle.py_lines.specs.Character.{is_mark, is_space, is_word_character, is_word_start, is_quote, is_line_feed, is_return, is_hash, is_digit, is_operator}
 use Rattle.py_lines.specs.Piece.{Class, mark, space, word, string, operator, comment, join, line_end, is_mark_class, Piece, begins, begins_marked, spelled}
 use Rattle.py_lines.specs.PieceGrammar.{joined, is_prefix, IsPrefix, IsNoneOr, feed, return_feed, return}
 use Rattle.py_lines.specs.FieldStrings.{is_field_prefix, quotes_of}
 use Rattle.py_lines.specs.Fields.{fielded, InClass, AreReadBefore}
 use Rattle.py_lines.specs.Private.Mode as modes
-use Rattle.py_lines.specs.Private.Machine.{Start}
+use Rattle.py_lines.specs.Private.Machine.{Start, start_of}
 use Rattle.py_lines.specs.Private.Machine.{Start as starts}
 use Rattle.py_lines.specs.declared.class.Class.{Class as ByteClass}
 use Rattle.py_lines.specs.declared.class.Class.TheVariants as class
-use Rattle.py_lines.specs.Private.Machine.{start_of}
 use Rattle.py_lines.specs.Private.Marks.{is_of_class}
 use Rattle.py_lines.specs.Private.Run.{is_ascii_word, is_wide_word}
 use Rattle.py_lines.specs.Private.LineTokens.{BeginWithPiece}
@@ -28,6 +27,7 @@ use Rattle.py_lines.proofs.Fields.Elsewhere.{quotes_begin}
 use Rattle.py_lines.proofs.Fields.Prefixes.{field_letters}
 use Rattle.py_lines.proofs.LineScan.AsciiRuns.{space_low, quote_ascii, word_byte_continues, word_byte_low, is_low, low_is}
 use Rattle.py_lines.proofs.LineScan.ClassStarts.{nothing_low, start_by, starts_by}
+use Rattle.py_lines.proofs.FieldScans.Ends.{slash_only}
 use Rattle.py_lines.proofs.LineTokens.Spellings.{fielded_spelling, prefix_low}
 use Rattle.py_lines.proofs.Machine.LiveTexts.{closing-operator}
 use Rattle.py_lines.proofs.FieldMachine.PieceRuns.{opening_operator}
@@ -46,10 +46,8 @@ plain_begun prefix (inl none) = inl none
 plain_begun prefix (inr is) = inr (or_left (is_prefix prefix) (is_field_prefix prefix) is)
 
 pub quoted : (text : List ℕ) → InClass string text → IsQuoted text
-quoted text (inl (inl (short, plain))) =
-    record { prefix = short.prefix; quote = short.quote; body = _; spell = short.spell; begun = plain_begun short.prefix short.begun; opens = short.opens }
-quoted text (inl (inr (long, plain))) =
-    record { prefix = long.prefix; quote = long.quote; body = _; spell = long.spell; begun = plain_begun long.prefix long.begun; opens = long.opens }
+quoted text (inl (inl (short, plain))) = search (short, plain_begun short.prefix short.begun)
+quoted text (inl (inr (long, plain))) = search (long, plain_begun long.prefix long.begun)
 quoted text (inr is) =
     record {
       prefix = is.prefix;
@@ -60,7 +58,7 @@ quoted text (inr is) =
       opens = is.opens;
     }
 
-pub as_word : (a : ℕ) (bs : List ℕ) → fielded.is_prefix (a ∷ bs) ≡ true → (is_word_start a ≡ true) × (list_all is_word_character bs ≡ true)
+as_word : (a : ℕ) (bs : List ℕ) → fielded.is_prefix (a ∷ bs) ≡ true → (is_word_start a ≡ true) × (list_all is_word_character bs ≡ true)
 as_word a bs h = ⊎_elim (λ plain. prefix_word a bs plain) with_fields (or_cases (is_prefix (a ∷ bs)) (is_field_prefix (a ∷ bs)) h)
   where
     with_fields : is_field_prefix (a ∷ bs) ≡ true → (is_word_start a ≡ true) × (list_all is_word_character bs ≡ true)
@@ -71,7 +69,8 @@ as_word a bs h = ⊎_elim (λ plain. prefix_word a bs plain) with_fields (or_cas
 
 -- a prefix is a word
 pub prefix_is_word : (prefix : List ℕ) → fielded.is_prefix prefix ≡ true
-    → (first : ℕ) × (others : List ℕ) × (prefix ≡ first ∷ others) × (is_word_start first ≡ true) × (first < 128) × (list_all is_word_character others ≡ true)
+    → (first : ℕ) × (others : List ℕ) × (prefix ≡ first ∷ others) × (is_word_start first ≡ true) × (first < 128)
+    × (list_all is_word_character others ≡ true)
 prefix_is_word [] none = absurd (both_ways _ refl none)
 prefix_is_word (a ∷ bs) is =
     let parts = as_word a bs is in
@@ -110,10 +109,6 @@ pub hash_is : (c : ℕ) → is_hash c ≡ true → c ≡ 35
 unfolding is_hash
 hash_is c h = the_one 35 c h
 
-pub slash_is : (c : ℕ) → is_backslash c ≡ true → c ≡ 92
-unfolding is_backslash
-slash_is c h = the_one 92 c h
-
 pub begins_so : (p : Class) (text : List ℕ) → is_mark_class p ≡ false → InClass p text → BeginsSo p text
 unfolding is_line_feed is_return
 begins_so mark text unmarked fit = absurd (both_ways _ unmarked refl)
@@ -124,19 +119,15 @@ begins_so word text unmarked (c, cs, is, so, run) = by_start word text c cs _ is
 begins_so string text unmarked is = by_prefix (quoted text is)
   where
     by_prefix : IsQuoted text → BeginsSo string text
-    by_prefix q = ⊎_elim
-        (λ none. by_start string text q.quote q.body _ (q.spell ∙ ap (λ t. t ++ q.quote ∷ q.body) none) (start-quote q.quote q.opens)
+    by_prefix q = ⊎_elim (λ none. by_start string text q.quote q.body _ (q.spell ∙ ap (λ t. t ++ q.quote ∷ q.body) none) (start-quote q.quote q.opens)
         refl (inr (quote_ascii q.quote q.opens)))
         (λ is.
         let (first, others, shape, starts, low, run) = prefix_is_word q.prefix is in
         by_start string text first (others ++ q.quote ∷ q.body) _ (q.spell ∙ ap (λ t. t ++ q.quote ∷ q.body) shape)
-        (start-word first starts) (inr refl) (inr low))
-        q.begun
+        (start-word first starts) (inr refl) (inr low)) q.begun
 begins_so operator text unmarked (c, is, so) = by_start operator text c [] _ is (start-operator c so) refl (inr (operator_ascii c so))
-begins_so comment text unmarked (c, cs, is, so, body) =
-    by_start comment text c cs _ is (start-hash c so) refl (inr (omega (arith, hash_is c so)))
-begins_so join text unmarked (c, cs, is, so, end) =
-    by_start join text c cs _ is (start-slash c so) refl (inr (omega (arith, slash_is c so)))
+begins_so comment text unmarked (c, cs, is, so, body) = by_start comment text c cs _ is (start-hash c so) refl (inr (omega (arith, hash_is c so)))
+begins_so join text unmarked (c, cs, is, so, end) = by_start join text c cs _ is (start-slash c so) refl (inr (omega (arith, slash_only c so)))
 begins_so line_end text unmarked (feed is) = by_start line_end text 10 [] _ is (start-feed 10 refl) refl (inr (omega arith))
 begins_so line_end text unmarked (return_feed is) = by_start line_end text 13 (10 ∷ []) _ is (start-return 13 refl) refl (inr (omega arith))
 begins_so line_end text unmarked (return is) = by_start line_end text 13 [] _ is (start-return 13 refl) refl (inr (omega arith))
@@ -146,8 +137,7 @@ pub unmarked_first : {p : Class} {text : List ℕ} → (b : BeginsSo p text) →
 unmarked_first {p} b = false_from_ne_true _ (λ marks. subst (λ (s : Start). OfStart s p) (start-mark b.first marks) b.so)
 
 -- the pieces' bytes
-pub spelled_bytes : (bytes : List ℕ) (p : Piece) → (b : BeginWithPiece bytes p)
-    → bytes ≡ encode_utf8_all p.text ++ encode_utf8_all (spelled b.others)
+pub spelled_bytes : (bytes : List ℕ) (p : Piece) → (b : BeginWithPiece bytes p) → bytes ≡ encode_utf8_all p.text ++ encode_utf8_all (spelled b.others)
 spelled_bytes bytes p b = sym b.text.spell ∙ encodes-append p.text (spelled b.others)
 
 -- the first character of the bytes
@@ -180,8 +170,7 @@ abbrev pub OfByte : ByteClass → Class → Type 0
 OfByte class.Wide p = p ≡ word
 OfByte k p = OfStart (start_by k 0) p
 
-pub class_told : (bytes : List ℕ) (p : Piece) (k : ByteClass) → BeginWithPiece bytes p → is_of_class k (slice_index bytes 0) ≡ true
-    → OfByte k p.class
+pub class_told : (bytes : List ℕ) (p : Piece) (k : ByteClass) → BeginWithPiece bytes p → is_of_class k (slice_index bytes 0) ≡ true → OfByte k p.class
 class_told bytes p k b so = go k so
   where
     f : FirstOf bytes p
@@ -204,7 +193,7 @@ class_told bytes p k b so = go k so
     go class.LineFeed h = at class.LineFeed (omega (arith, feed_is c h)) h
     go class.Return h = at class.Return (omega (arith, return_is c h)) h
     go class.Hash h = at class.Hash (omega (arith, hash_is c h)) h
-    go class.Backslash h = at class.Backslash (omega (arith, slash_is c h)) h
+    go class.Backslash h = at class.Backslash (omega (arith, slash_only c h)) h
     go class.Other h = at class.Other (nothing_low c h) h
 
 pub class_is : {bytes : List ℕ} {p : Piece} {j k : ByteClass} → BeginWithPiece bytes p → is_of_class j (slice_index bytes 0) ≡ true → j ≡ k
@@ -216,8 +205,7 @@ start_continues : (c : ℕ) → 128 ≤ c → is_word_start c ≡ true → is_wo
 unfolding is_word_start is_word_character is_digit
 start_continues c high h = ⊎_elim
     (λ word. ⊎_elim (λ letter. is_xid_start-is_xid_continue c letter) (λ (underscore : c == 95 ≡ true). absurd (grind (arith, nat_tests)))
-    (or_cases (is_xid_start c) (c == 95) word))
-    (λ digit. absurd (grind (arith, nat_tests)))
+    (or_cases (is_xid_start c) (c == 95) word)) (λ digit. absurd (grind (arith, nat_tests)))
     (or_cases (is_xid_start c || (c == 95)) (nat_le 48 c && nat_le c 57) h)
 
 -- a character that isn't ASCII continues a word, where it follows a piece
@@ -228,8 +216,7 @@ next_high (q ∷ qs) after c cs fit unmarked is high =
     let begun = begins_so q.class q.text unmarked fit.0 in
     let whole : begun.first ∷ (begun.others ++ spelled qs) ≡ c ∷ cs = ap (λ t. t ++ spelled qs) (sym begun.is) ∙ is in
     let first : begun.first ≡ c = cc in
-    ⊎_elim (λ starts. start_continues c high (ap is_word_start (sym first) ∙ starts.1))
-    (λ low. absurd (omega (arith, high, low, first))) begun.low
+    ⊎_elim (λ starts. start_continues c high (ap is_word_start (sym first) ∙ starts.1)) (λ low. absurd (omega (arith, high, low, first))) begun.low
 
 -- where a word ends, no byte of a word follows
 pub word_ends : (others : List Piece) (after : List ℕ) → AreReadBefore others after → begins_marked others ≡ false
@@ -241,6 +228,5 @@ word_ends others after fit unmarked none = go (spelled others) refl none
     go (c ∷ cs) is none = ⊎_elim
         (λ (low : c < 128).
         let ascii : is_ascii_word c ≡ false = sym (word_byte_continues c low) ∙ none in
-        rw ascii (grind (arith, nat_tests)))
-        (λ (high : 128 ≤ c). absurd (both_ways _ none (next_high others after c cs fit unmarked is high)))
+        rw ascii (grind (arith, nat_tests))) (λ (high : 128 ≤ c). absurd (both_ways _ none (next_high others after c cs fit unmarked is high)))
         (cases_lt c 128)

@@ -22,19 +22,19 @@ use Rattle.py_lines.specs.declared.class.Class.TheVariants as class
 use Rattle.py_lines.specs.declared.token.TokKind.{TokKind}
 use Rattle.py_lines.specs.Private.Run.{IsRunOf, is_comment_byte, is_ascii_word, is_wide_word, word_spelling}
 use Rattle.py_lines.specs.Private.LineTokens.{BeginWithPiece, IsTakenFor, line_end_len, role_of, token_piece, ends_prefix, word_kind}
-use Rattle.py_lines.specs.Private.Outline.{HasOuterEnd, IsOuterEnd}
-use Rattle.py_lines.specs.Private.ScanMachine.{begins_string}
+use Rattle.py_lines.specs.Private.LineEnds.{BeginOther, HasOuterEnd, IsOuterEnd}
+use Rattle.py_lines.specs.Private.Machine.{begins_string}
 use Rattle.py_lines.proofs.Text.CharacterTests.{feed_is, operator_ascii, none_of}
 use Rattle.py_lines.proofs.Text.HighBytes.{IsEvenAbove, encoded_begins, encoded_passes, low_even}
 use Rattle.py_lines.proofs.Text.LineEnds.{unbroken}
 use Rattle.py_lines.proofs.Text.Utf8Shapes.{one}
 use Rattle.py_lines.proofs.LineTokens.Spellings.{fielded_spelling, prefix_encoded}
 use Rattle.py_lines.proofs.Lexings.LineEnds.{line_text}
+use Rattle.py_lines.proofs.FieldScans.Ends.{slash_only}
 use Rattle.py_lines.proofs.FieldScans.TextLengths.{rest_is, rest_of}
 use Rattle.py_lines.proofs.LogicalLines.NextLine.{begins-prefix}
 use Rattle.py_lines.proofs.LineScan.AsciiRuns.{break_low, space_low, quote_ascii, word_byte_continues, word_byte_starts, operator-no_break}
-use Rattle.py_lines.proofs.SimpleLines.Passing.{outer_end_holds}
-use Rattle.py_lines.proofs.LineTokens.FirstCharacters.{hash_is, slash_is, spelled_bytes, IsQuoted, class_told, first_of, prefix_is_word, quoted, word_ends}
+use Rattle.py_lines.proofs.LineTokens.FirstCharacters.{hash_is, spelled_bytes, IsQuoted, class_told, first_of, prefix_is_word, quoted, word_ends}
 
 -- what passes one test passes another, where each number does
 pub all_also : (p q : ℕ → Bool) → ((c : ℕ) → p c ≡ true → q c ≡ true) → (cs : List ℕ) → list_all p cs ≡ true → list_all q cs ≡ true
@@ -48,8 +48,7 @@ pub run_length : (passes : ℕ → Bool) (xs ys : List ℕ) (n : ℕ) → IsRunO
 run_length passes [] [] n run all ends = omega (arith, run.within)
 run_length passes [] (y ∷ ys) zero run all ends = refl
 run_length passes [] (y ∷ ys) (suc n) run all ends = absurd (both_ways _ ends (run.each 0 (omega arith)))
-run_length passes (x ∷ xs) ys zero run all ends =
-    absurd (both_ways _ (run.ends (omega arith)) (and_parts (passes x) (list_all passes xs) all).0)
+run_length passes (x ∷ xs) ys zero run all ends = absurd (both_ways _ (run.ends (omega arith)) (and_parts (passes x) (list_all passes xs) all).0)
 run_length passes (x ∷ xs) ys (suc n) run all ends =
     ap suc (run_length passes xs ys n (record {
       within = omega (arith, run.within);
@@ -62,8 +61,7 @@ pub encoded_length : (passes : ℕ → Bool) (cs rest : List ℕ) (n : ℕ) → 
     → IsRunOf passes (encode_utf8_all cs ++ encode_utf8_all rest) n → list_all passes cs ≡ true → begins passes rest ≡ false
     → n ≡ length (encode_utf8_all cs)
 encoded_length passes cs rest n even run all ends =
-    run_length passes (encode_utf8_all cs) (encode_utf8_all rest) n run (encoded_passes passes even cs all)
-    (encoded_begins passes even rest ∙ ends)
+    run_length passes (encode_utf8_all cs) (encode_utf8_all rest) n run (encoded_passes passes even cs all) (encoded_begins passes even rest ∙ ends)
 
 comment_even : IsEvenAbove is_comment_byte
 comment_even c b one two = ap not (low_even is_break break_low c b one two)
@@ -98,9 +96,12 @@ one_end end rest after (return is) uncut =
     let same = encoded_begins is_line_feed (low_even is_line_feed (λ c h. omega (arith, feed_is c h))) rest in
     rw is (after_return (encode_utf8_all rest) (same ∙ begins-prefix is_line_feed rest after (rw is at uncut)), refl)
 
+no_feed : (bytes : List ℕ) → BeginOther bytes → begins is_line_feed bytes ≡ false
+no_feed [] other = refl
+no_feed (c ∷ cs) other = false_from_ne_true _ (λ feeds. other (feed_is c feeds))
+
 -- the line end outside strings that bytes begin with is as long, and CR at their end is one too
-pub outer_len : (bytes : List ℕ) (found : Option ℕ) → HasOuterEnd bytes found → begins is_break bytes ≡ true
-    → unwrap_or found 1 ≡ line_end_len bytes
+pub outer_len : (bytes : List ℕ) (found : Option ℕ) → HasOuterEnd bytes found → begins is_break bytes ≡ true → unwrap_or found 1 ≡ line_end_len bytes
 unfolding is_return is_line_feed
 outer_len bytes None alone breaks = rw (alone breaks) refl
 outer_len bytes (Some len) ends breaks = by ends.is
@@ -116,7 +117,7 @@ outer_len bytes (Some len) ends breaks = by ends.is
     by : IsOuterEnd (take len bytes) after → len ≡ line_end_len bytes
     by (inl (true, is)) = whole (13 ∷ 10 ∷ []) is refl
     by (inl (false, is)) = whole (10 ∷ []) is (after_feed after)
-    by (inr (is, other)) = whole (13 ∷ []) is (after_return after (outer_end_holds (13 ∷ []) after (inr (refl, other))).1)
+    by (inr (is, other)) = whole (13 ∷ []) is (after_return after (no_feed after other))
 
 end_breaks : (end after : List ℕ) → IsLineEnd end → begins is_break (encode_utf8_all end ++ after) ≡ true
 unfolding is_break encode
@@ -157,8 +158,7 @@ module _ {bytes : List ℕ} {p : Piece} (b : BeginWithPiece bytes p) where
     line_ends = 0;
   })
   space_taken n is run =
-      let shape = in_class space is in
-      let all : list_all is_space p.text ≡ true = shape.3 in
+      let all : list_all is_space p.text ≡ true = (in_class space is).3 in
       taken space _ is refl
       (run_taken is_space n (low_even is_space space_low) run all (begins-prefix is_space rest b.text.after (precedes space is)))
       (unbroken p.text (all_also is_space (λ d. not (is_break d)) space_unbroken p.text all))
@@ -171,8 +171,7 @@ module _ {bytes : List ℕ} {p : Piece} (b : BeginWithPiece bytes p) where
 
   pub longer : (c : ℕ) (cs : List ℕ) (n : ℕ) → p.text ≡ c ∷ cs → c < 128 → n ≡ byte_len cs → 1 + n ≡ byte_len p.text
   longer c cs n is low same =
-      let whole : byte_len p.text ≡ length (c ∷ encode_utf8_all cs)
-      = ap byte_len is ∙ ap (λ t. length (t ++ encode_utf8_all cs)) (one c low) in
+      let whole : byte_len p.text ≡ length (c ∷ encode_utf8_all cs) = ap byte_len is ∙ ap (λ t. length (t ++ encode_utf8_all cs)) (one c low) in
       omega (arith, whole, same)
 
   pub operator_taken : p.class ≡ operator → IsTakenFor p (token_piece (kind.Op (slice_index bytes 0)) 1)
@@ -182,29 +181,23 @@ module _ {bytes : List ℕ} {p : Piece} (b : BeginWithPiece bytes p) where
       let low = operator_ascii c shape.2 in
       taken operator _ is
       (ap (λ d. roles.Token (kind.Op d)) (ap (λ t. slice_index t 0) (after_first c [] shape.1 low) ∙ ap first_or_zero (sym shape.1)))
-      (longer c [] 0 shape.1 low refl)
-      (unbroken p.text
+      (longer c [] 0 shape.1 low refl) (unbroken p.text
       (ap (list_all (λ d. not (is_break d))) shape.1 ∙ and_from (not (is_break c)) true (ap not (operator-no_break c shape.2)) refl))
 
-  comment_ends : (text after : List ℕ) → (text ++ after ≡ []) ⊎ (begins is_break (text ++ after) ≡ true)
-      → begins is_comment_byte text ≡ false
+  comment_ends : (text after : List ℕ) → (text ++ after ≡ []) ⊎ (begins is_break (text ++ after) ≡ true) → begins is_comment_byte text ≡ false
   comment_ends [] after h = refl
   comment_ends (c ∷ cs) after (inl none) = absurd (cc)
   comment_ends (c ∷ cs) after (inr breaks) = ap not breaks
 
-  pub comment_taken : (n : ℕ) → p.class ≡ comment → IsRunOf is_comment_byte (rest_of bytes 1) n
-      → IsTakenFor p (token_piece kind.Remark (1 + n))
+  pub comment_taken : (n : ℕ) → p.class ≡ comment → IsRunOf is_comment_byte (rest_of bytes 1) n → IsTakenFor p (token_piece kind.Remark (1 + n))
   unfolding is_break
   comment_taken n is run =
       let shape = in_class comment is in
       let body : List ℕ = shape.1 in
-      let hash = hash_is shape.0 shape.3 in
-      let text : p.text ≡ 35 ∷ body = shape.2 ∙ ap (λ (c : ℕ). c ∷ body) hash in
+      let text : p.text ≡ 35 ∷ body = shape.2 ∙ ap (λ (c : ℕ). c ∷ body) (hash_is shape.0 shape.3) in
       let all = all_other body shape.4 in
-      let bytes_are = after_first 35 body text (omega arith) in
-      let len : n ≡ byte_len body
-      = encoded_length is_comment_byte body rest n comment_even
-      (subst (λ (t : List ℕ). IsRunOf is_comment_byte t n) (rest_is bytes 1 ∙ ap (drop 1) bytes_are) run) all
+      let len : n ≡ byte_len body = encoded_length is_comment_byte body rest n comment_even
+      (subst (λ (t : List ℕ). IsRunOf is_comment_byte t n) (rest_is bytes 1 ∙ ap (drop 1) (after_first 35 body text (omega arith))) run) all
       (comment_ends rest b.text.after (precedes comment is)) in
       taken comment _ is refl (longer 35 body n text (omega arith) len)
       (unbroken p.text (ap (list_all is_comment_byte) text ∙ and_from (is_comment_byte 35) (list_all is_comment_byte body) refl all))
@@ -227,7 +220,7 @@ module _ {bytes : List ℕ} {p : Piece} (b : BeginWithPiece bytes p) where
   joined : p.class ≡ join → Joined
   joined is =
       let shape = in_class join is in
-      let text : p.text ≡ 92 ∷ shape.1 = shape.2 ∙ ap (λ (c : ℕ). c ∷ shape.1) (slash_is shape.0 shape.3) in
+      let text : p.text ≡ 92 ∷ shape.1 = shape.2 ∙ ap (λ (c : ℕ). c ∷ shape.1) (slash_only shape.0 shape.3) in
       record { end = shape.1; text = text; is = shape.4; later = rest_is bytes 1 ∙ ap (drop 1) (after_first 92 shape.1 text (omega arith)) }
 
   pub join_breaks : p.class ≡ join → begins is_break (rest_of bytes 1) ≡ true
@@ -298,32 +291,26 @@ module _ {bytes : List ℕ} {p : Piece} (b : BeginWithPiece bytes p) where
 
   word_len : (n : ℕ) → p.class ≡ word → IsRunOf is_wide_word bytes n → n ≡ byte_len p.text
   word_len n is run =
-      run_taken b is_wide_word n wide_even run (text_wide is)
-      (word_ends b.others b.text.after b.text.fit.3 b.text.fit.2 (precedes b word is).0)
+      run_taken b is_wide_word n wide_even run (text_wide is) (word_ends b.others b.text.after b.text.fit.3 b.text.fit.2 (precedes b word is).0)
 
-  pub word_taken : (n : ℕ) (k : TokKind) → p.class ≡ word → IsRunOf is_wide_word bytes n
-      → k ≡ word_kind (is_ascii_digit (slice_index bytes 0))
+  pub word_taken : (n : ℕ) (k : TokKind) → p.class ≡ word → IsRunOf is_wide_word bytes n → k ≡ word_kind (is_ascii_digit (slice_index bytes 0))
       → IsTakenFor p (token_piece k n)
   word_taken n k is run told =
       let shape = in_class b word is in
       let f = first_of bytes p b in
-      let same : f.begun.first ∷ f.begun.others ≡ shape.0 ∷ shape.1 = sym f.begun.is ∙ shape.2 in
-      let first : f.begun.first ≡ shape.0 = cc same in
+      let first : f.begun.first ≡ shape.0 = cc (sym f.begun.is ∙ shape.2) in
       let digit : is_ascii_digit (slice_index bytes 0) ≡ begins is_digit p.text
       = digit_told (slice_index bytes 0) shape.0 (λ low. sym first ∙ f.low low) (λ high. subst (λ c. 128 ≤ c) first (f.high high))
       ∙ ap (begins is_digit) (sym shape.2) in
-      taken b word _ is (ap roles.Token (told ∙ ap word_kind digit)) (word_len n is run)
-      (unbroken p.text (wide_unbroken p.text (text_wide is)))
+      taken b word _ is (ap roles.Token (told ∙ ap word_kind digit)) (word_len n is run) (unbroken p.text (wide_unbroken p.text (text_wide is)))
 
   -- which is no prefix before a quote
   pub word_no_prefix : (n : ℕ) → p.class ≡ word → IsRunOf is_wide_word bytes n → ends_prefix bytes n ≡ true → ⊥
   word_no_prefix n is run told =
       let shape = in_class b word is in
       let rest = spelled b.others in
-      let len = word_len n is run in
-      let bytes_are = spelled_bytes bytes p b in
       let parts = and_parts (begins is_quote (drop n bytes)) (begins_string (word_spelling (take n bytes))) told in
-      let (front, later) = cut_at bytes (encode_utf8_all p.text) (encode_utf8_all rest) n bytes_are len in
+      let (front, later) = cut_at bytes (encode_utf8_all p.text) (encode_utf8_all rest) n (spelled_bytes bytes p b) (word_len n is run) in
       let quotes : begins is_quote rest ≡ true
       = sym (encoded_begins is_quote (low_even is_quote quote_ascii) rest) ∙ ap (begins is_quote) (sym later) ∙ parts.0 in
       let prefix : fielded.is_prefix p.text ≡ true
@@ -332,8 +319,7 @@ module _ {bytes : List ℕ} {p : Piece} (b : BeginWithPiece bytes p) where
       both_ways _ (begins-prefix is_quote rest b.text.after follows) quotes
 
   -- and a string's prefix is one
-  pub string_prefix : (n : ℕ) → p.class ≡ string → begins is_wide_word bytes ≡ true → IsRunOf is_wide_word bytes n
-      → ends_prefix bytes n ≡ true
+  pub string_prefix : (n : ℕ) → p.class ≡ string → begins is_wide_word bytes ≡ true → IsRunOf is_wide_word bytes n → ends_prefix bytes n ≡ true
   string_prefix n is wide run = ⊎_elim (λ none. absurd (no_prefix none)) some q.begun
     where
       q : IsQuoted p.text
@@ -359,8 +345,7 @@ module _ {bytes : List ℕ} {p : Piece} (b : BeginWithPiece bytes p) where
       some begun =
           let (first, others, shape, starts, low, word_run) = prefix_is_word q.prefix begun in
           let all : list_all is_wide_word q.prefix ≡ true = ap (list_all is_wide_word) shape ∙ word_wide first others starts word_run in
-          let len : n ≡ byte_len q.prefix
-          = run_length is_wide_word (encode_utf8_all q.prefix) (q.quote ∷ after) n
+          let len : n ≡ byte_len q.prefix = run_length is_wide_word (encode_utf8_all q.prefix) (q.quote ∷ after) n
           (subst (λ (t : List ℕ). IsRunOf is_wide_word t n) bytes_are run) (encoded_passes is_wide_word wide_even q.prefix all)
           (quote_not_wide q.quote q.opens) in
           let (front, later) = cut_at bytes (encode_utf8_all q.prefix) (q.quote ∷ after) n bytes_are len in

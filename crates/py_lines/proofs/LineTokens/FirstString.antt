@@ -1,14 +1,14 @@
 -- The string that bytes begin with: the scan goes through it, item after item, and stops after it.
-use Rattle.std.proofs.Common.{◌≡◌, ℕ, ◌+◌, ◌<◌, ◌≤◌, ◌==◌, ◌&&◌, ◌⊎◌, inl, inr, ⊎_elim, true, false, not, Option, None, Some, List, [], ◌∷◌, ◌++◌, length, take, drop, refl, sym, ap, ◌∙◌, subst, append_assoc, append-nil, arith, length-append}
+use Rattle.std.proofs.Common.{◌≡◌, ℕ, ◌+◌, ◌<◌, ◌≤◌, ◌==◌, ⊎_elim, true, false, None, Some, List, [], ◌∷◌, ◌++◌, length, take, drop, refl, sym, ap, ◌∙◌, subst, append_assoc, append-nil, arith, length-append}
 use Rattle.std.specs.Prelude.{encode_utf8, encode_utf8_all}
+use Rattle.std.specs.Char.{IsScalar}
 use Rattle.std.specs.Str.{all_scalars}
 use Rattle.std.proofs.Math.Seq.{take-append_seam}
-use Rattle.std.proofs.lemmas.Bool.{and_from, and_left, and_parts, both_ways, false_from_ne_true}
+use Rattle.std.proofs.lemmas.Bool.{and_from, and_left, and_parts, both_ways, eqb-true}
 use Rattle.std.proofs.lemmas.List.{append_cancel_left, nil_from_length}
-use Rattle.std.proofs.lemmas.Str.{encodes-append, length-le-encodes}
-use Rattle.py_lines.specs.Character.{is_line_feed, is_mark, is_return}
-use Rattle.py_lines.specs.Piece.{Class, begins, ends, line_end, string, Piece, spelled}
-use Rattle.py_lines.specs.Fields.{InClass, ShallowFields}
+use Rattle.std.proofs.lemmas.Str.{encodes-append, len_utf8_bounds, length-encode, length-le-encodes}
+use Rattle.py_lines.specs.Character.{is_line_feed, is_return}
+use Rattle.py_lines.specs.Piece.{begins, ends, string, Piece, spelled}
 use Rattle.py_lines.specs.LogicalLine.{byte_len}
 use Rattle.py_lines.specs.declared.mode.Mode.{Mode as OpenMode}
 use Rattle.py_lines.specs.declared.mode.Mode.TheVariants as opens
@@ -17,35 +17,25 @@ use Rattle.py_lines.specs.declared.scan.Progress.{Progress}
 use Rattle.py_lines.specs.declared.scan.Progress.TheVariants as progress
 use Rattle.py_lines.specs.declared.scan.Scan.{Scan}
 use Rattle.py_lines.specs.Private.Mode as modes
-use Rattle.py_lines.specs.Private.Machine.{Move as moves}
-use Rattle.py_lines.specs.Private.Machine.{Bracket, Mode, Move, Scanned, brackets_of, class_of, closed, is_final, move_of, moved, start_of, started, text_start}
-use Rattle.py_lines.specs.Private.FieldMachine.{FieldMode, FieldScanned, breaks, field_move, levels_open, plain, room_step}
-use Rattle.py_lines.specs.Private.ScanMachine.{HoldsOpen, StringsFit, code_mode, line_start, meet_of, move_at, scan_step, scan_steps}
-use Rattle.py_lines.specs.Private.Scan.{ComesTo as Comes, EndsWithFeed, EndsWithReturn, Follows, Goes, GoesOver, GoesOverAll, HoldsRun, IsOneItem, IsWrongIn, KeepsOpen, Rests, StandsAs, Steps, bracket_openers, ends_line, has_returned, is_break_move, is_free_mode, is_return_at, is_settled, is_shut, mode_from}
-use Rattle.py_lines.specs.Private.LineScan.{HasBegun, IsUnderWay, Reached, stack_if}
-use Rattle.py_lines.specs.Private.LineTokens.{AreTextAt, BeginWithPiece}
-use Rattle.py_lines.proofs.Fields.Nesting.{string_map}
-use Rattle.py_lines.proofs.FieldScans.Frames.{frames-length}
-use Rattle.py_lines.proofs.FieldScans.Resting.{comes_real}
-use Rattle.py_lines.proofs.Lexings.FirstLines.{piece_some}
+use Rattle.py_lines.specs.Private.Machine.{start_of}
+use Rattle.py_lines.specs.Private.FieldMachine.{FieldMode, FieldScanned, breaks, field_move, field_moved, field_pieces, field_started, plain}
+use Rattle.py_lines.specs.Private.Scan.{ComesOver, ComesTo as Comes, EndsWithFeed, EndsWithReturn, Follows, Goes, GoesOver, GoesOverAll, HoldsRun, IsOneItem, IsWrongIn, KeepsOpen, Rests, StandsAs, Steps, has_returned, is_break_move, is_free_mode, is_return_at, is_settled, is_shut, mode_from}
+use Rattle.py_lines.specs.Private.LineScan.{HasBegun, IsUnderWay, Reached}
+use Rattle.py_lines.specs.Private.LineTokens.{BeginWithPiece}
+use Rattle.py_lines.proofs.FieldMachine.OuterLists.{outer_alone, started_outer}
+use Rattle.py_lines.proofs.FieldScans.Frames.{frames-length, none_outside}
+use Rattle.py_lines.proofs.FieldScans.Taking.{comes_real, first_byte, first_real, goes_real}
+use Rattle.py_lines.proofs.FieldSoundness.WholeTexts.{two_hundred}
 use Rattle.py_lines.proofs.Lexings.LineEnds.{return_returns}
-use Rattle.py_lines.proofs.Lexings.LinePrefix.{Stays, found_on, line_stays, one_of}
-use Rattle.py_lines.proofs.LineScan.LineSteps.{CodeAt, begun_reached, code_at, goes_on, goes_way, line_with, none_taken, rests_end, way_reached, way_returned, way_sound, way_tied}
-use Rattle.py_lines.proofs.LineScan.LineStops.{Stands, breaks_field, feed_bytes, reached_more, reached_run, return_bytes, settled_stops, stands_reached, stops_final}
-use Rattle.py_lines.proofs.LineScan.NextCharacter.{return_mode}
-use Rattle.py_lines.proofs.LineScan.PieceEnd.{closed_text}
-use Rattle.py_lines.proofs.LineScan.TextSteps.{begun_sound}
-use Rattle.py_lines.proofs.LineTokens.FirstCharacters.{begins_so, spelled_bytes, unmarked_first}
-use Rattle.py_lines.proofs.LogicalLines.Cuts.{ends-last, no_bytes, uncut}
-use Rattle.py_lines.proofs.Machine.EarlierPieces.{started_grows}
-use Rattle.py_lines.proofs.Machine.LiveTexts.{keeps, stack_closed}
-use Rattle.py_lines.proofs.Machine.PieceSteps.{pieces_at, steps_by-append}
-use Rattle.py_lines.proofs.Pieces.OpenBrackets.{stack_before}
-use Rattle.py_lines.proofs.Pieces.PieceLists.{piece, AreReadBefore-first}
-use Rattle.py_lines.proofs.ScanMachine.Follows.{some_is}
-use Rattle.py_lines.proofs.ScanMachine.Reaching.{reach}
-use Rattle.py_lines.proofs.ScanMachine.Rooms.{fields_less}
-use Rattle.py_lines.proofs.ScanMachine.Steps.{StopsBefore, begun}
+use Rattle.py_lines.proofs.Lexings.OuterRuns.{outer_spells}
+use Rattle.py_lines.proofs.LineScan.LineSteps.{begun_reached, goes_on, rests_end, way_sound}
+use Rattle.py_lines.proofs.LineScan.LineStops.{Stands, stands_reached}
+use Rattle.py_lines.proofs.LineScan.Reaching.{feed_bytes, reached_more, return_bytes}
+use Rattle.py_lines.proofs.LineTokens.FirstCharacters.{spelled_bytes}
+use Rattle.py_lines.proofs.LineTokens.StringRuns.{BeginsString, IsShutAlone, along, begins_string, breaks_there, goes_one, kept, runs_left, shut_there}
+use Rattle.py_lines.proofs.LogicalLines.Cuts.{ends-last, no_bytes}
+use Rattle.py_lines.proofs.Machine.PieceSteps.{some_is}
+use Rattle.py_lines.proofs.Pieces.PieceLists.{piece}
 use Rattle.py_lines.proofs.Text.Incomplete.{text_none}
 use Rattle.py_lines.proofs.Text.Splits.{Either, either}
 use Rattle.py_lines.proofs.Text.Utf8Prefixes.{all_scalars-parts, prefix_chars}
@@ -56,64 +46,7 @@ string_within bytes p b =
     omega (arith, ap length (spelled_bytes bytes p b), length-append (encode_utf8_all p.text) (encode_utf8_all (spelled b.others)))
 
 pub string_text : (bytes : List ℕ) (p : Piece) (len : ℕ) → BeginWithPiece bytes p → len ≡ byte_len p.text → encode_utf8_all p.text ≡ take len bytes
-string_text bytes p len b is =
-    sym (rw (spelled_bytes bytes p b, is) (take-append_seam (encode_utf8_all p.text) (encode_utf8_all (spelled b.others))))
-
--- the machine comes from a line's start to this state
-abbrev pub ComesTo : List ℕ → Scanned → Type 0
-ComesTo read s = scan_steps (Some (line_start modes.Free)) read ≡ Some s
-
--- where no mark begins a text, its start is like any other place
-from_line : (text : List ℕ) (to : Scanned) → 0 < length text → begins is_mark text ≡ false → scan_steps (Some text_start) text ≡ Some to
-    → ComesTo text to
-unfolding meet_of move_of
-from_line [] to some unmarked steps = absurd (omega (arith, some))
-from_line (c ∷ cs) to some unmarked steps =
-    let breaks : meet_of modes.Start c ≡ moves.Breaks = rw unmarked in
-    sym (ap (λ (v : Move). scan_steps (moved text_start c v) cs) breaks) ∙ steps
-
--- none begins a string
-unmarked_string : (text : List ℕ) → InClass string text → begins is_mark text ≡ false
-unmarked_string text fit = let b = begins_so string text refl fit in ap (begins is_mark) b.is ∙ unmarked_first b
-
--- the bytes begin with this string: the machine passes it, finds that piece alone, and may stop before the rest
-pub record BeginsString (bytes text : List ℕ) : Type 0 where
-  pub more : List ℕ
-  pub after : List ℕ
-  pub scalars : all_scalars (text ++ more) ≡ true
-  pub spell : encode_utf8_all (text ++ more) ≡ bytes
-  pub some : 0 < length text
-  pub unmarked : begins is_mark text ≡ false
-  pub to : Scanned
-  pub steps : ComesTo text to
-  pub pieces_are : pieces_at to ≡ piece string text ∷ []
-  pub stops : StopsBefore to.mode (more ++ after)
-  pub uncut : ends is_return text && begins is_line_feed (more ++ after) ≡ false
-
-pub begins_string : (bytes : List ℕ) (p : Piece) → p.class ≡ string → BeginWithPiece bytes p → BeginsString bytes p.text
-begins_string bytes p is begin =
-    let at = subst (λ (k : Class). AreTextAt begin.depth bytes (piece k p.text ∷ begin.others)) is begin.text in
-    let one : List Piece = piece string p.text ∷ [] in
-    let less = fields_less 0 begin.depth (omega arith) in
-    let room : StringsFit 0 one
-    = ((λ here. string_map (ShallowFields begin.depth) (ShallowFields 0) less p.text (at.strings.0 here)), tt) in
-    let fit = AreReadBefore-first one begin.others at.after at.fit in
-    let reached = reach one [] (spelled begin.others ++ at.after) fit (keeps [] (piece string p.text) [] refl refl refl) room in
-    let some = piece_some string p.text at.fit.0 in
-    let unmarked = unmarked_string p.text at.fit.0 in
-    record {
-      more = spelled begin.others;
-      after = at.after;
-      scalars = at.scalars;
-      spell = at.spell;
-      some = some;
-      unmarked = unmarked;
-      to = reached.to;
-      steps = from_line p.text reached.to some unmarked (ap (scan_steps (Some text_start)) (sym (append-nil p.text)) ∙ reached.steps);
-      pieces_are = reached.pieces_are;
-      stops = reached.stops tt;
-      uncut = uncut string p.text (spelled begin.others ++ at.after) at.fit.0 at.fit.1;
-    }
+string_text bytes p len b is = sym (rw (spelled_bytes bytes p b, is) (take-append_seam (encode_utf8_all p.text) (encode_utf8_all (spelled b.others))))
 
 -- no piece ends between the characters of an item
 item_at : (t x : FieldScanned) (z : List ℕ) (d : ℕ) (w : List ℕ) → 0 < length z → Goes t z x → IsOneItem t (z ++ d ∷ w)
@@ -126,198 +59,83 @@ item_at t x (c ∷ e ∷ z) d w some (open_yet, next, step, on, goes) (n, again,
     (subst (λ (y : FieldScanned). IsOneItem y (e ∷ (z ++ d ∷ w))) (some_is n next (sym again ∙ step)) others)
 
 -- nor between those that are held
-open_at : (t x : FieldScanned) (z v : List ℕ) → 0 < length z → Goes t z x → KeepsOpen t (z ++ v)
-    → x.outer ≡ [] → is_shut x.mode ≡ false
+open_at : (t x : FieldScanned) (z v : List ℕ) → 0 < length z → Goes t z x → KeepsOpen t (z ++ v) → x.outer ≡ [] → is_shut x.mode ≡ false
 open_at t x [] v some goes keeps = absurd (omega (arith, some))
 open_at t x (c ∷ []) v some (open_yet, next, step, on, same) (n, again, stays, others) =
     subst (λ (y : FieldScanned). y.outer ≡ [] → is_shut y.mode ≡ false) (some_is n next (sym again ∙ step) ∙ same) stays
 open_at t x (c ∷ e ∷ z) v some (open_yet, next, step, on, goes) (n, again, stays, others) =
-    open_at next x (e ∷ z) v (omega arith) goes
-    (subst (λ (y : FieldScanned). KeepsOpen y (e ∷ (z ++ v))) (some_is n next (sym again ∙ step)) others)
+    open_at next x (e ∷ z) v (omega arith) goes (subst (λ (y : FieldScanned). KeepsOpen y (e ∷ (z ++ v))) (some_is n next (sym again ∙ step)) others)
 
 some_run : (run : List ℕ) (len : ℕ) → byte_len run ≡ len → 0 < len → 0 < length run
 some_run [] len size some = absurd (omega (arith, size, some))
 some_run (c ∷ cs) len size some = omega arith
-
--- where a string is the only piece, and may end, it is finished, or empty
-string_shut : (text : List ℕ) (m : Mode) (done : List Piece) (held rest : List ℕ) → closed m done held ≡ piece string text ∷ []
-    → HoldsOpen m done held → StopsBefore m rest → is_shut (code_mode m) ≡ true
-string_shut text m done held rest same holds stops = by m same holds (stops_final m rest stops)
-  where
-    by : (m : Mode) → closed m done held ≡ piece string text ∷ [] → HoldsOpen m done held → is_final m ≡ true → is_shut (code_mode m) ≡ true
-    by modes.Start same holds final = absurd (let none : done ≡ [] = holds.0.0 in cc)
-    by modes.Free same holds final = refl
-    by (modes.Empty q) same holds final = refl
-    by (modes.FieldEmpty h) same holds final = refl
-    by m same holds final =
-        let class = ap (λ (p : Piece). p.class) (one_of (piece string text) (piece (class_of m) held) done [] (sym same)).0 in
-        absurd (first_of (grind arith, cc))
 
 -- a scan that keeps count of such a state has nothing open
 shut_free : (m : OpenMode) → is_shut (mode_from m) ≡ true → is_free_mode m ≡ true
 shut_free opens.Free shut = refl
 shut_free m shut = absurd (both_ways _ refl shut)
 
--- nothing is open, no bracket and no field, or an empty string
-abbrev Shut : FieldScanned → Type 0
-Shut t = (is_shut t.mode ≡ true) × (length t.openers + levels_open t.outer ≡ 0)
-
-shut_settled : (scan : Scan) (u : FieldScanned) → Follows scan u → Shut u → is_settled scan ≡ true
+shut_settled : (scan : Scan) (u : FieldScanned) → Follows scan u → IsShutAlone u → is_settled scan ≡ true
 shut_settled scan u follows (shut, none) =
     and_from _ _ (shut_free scan.mode (ap is_shut follows.mode ∙ shut))
     (ap (λ n. n == 0) (frames-length u.outer u.done u.openers scan.frames follows.frames ∙ none))
 
 -- so the scan has nothing open where such a state is the machine's
-settled_at : (t : FieldScanned) {scan : Scan} {rest : List ℕ} → Shut t → Rests scan t rest → is_settled scan ≡ true
+settled_at : (t : FieldScanned) {scan : Scan} {rest : List ℕ} → IsShutAlone t → Rests scan t rest → is_settled scan ≡ true
 settled_at t {scan} {rest} shut rests = shut_settled scan rests.as_if rests.follows (by rest rests.stands)
   where
-    by : (bytes : List ℕ) → StandsAs bytes t rests.as_if → Shut rests.as_if
-    by [] stands = subst Shut stands shut
-    by (c ∷ cs) stands =
-        ⊎_elim (λ same. subst Shut (sym same) shut) (λ same. subst Shut (sym same) (refl, shut.1)) (stands.shut shut.0)
+    by : (bytes : List ℕ) → StandsAs bytes t rests.as_if → IsShutAlone rests.as_if
+    by [] stands = subst IsShutAlone stands shut
+    by (c ∷ cs) stands = ⊎_elim (λ same. subst IsShutAlone (sym same) shut) (λ same. subst IsShutAlone (sym same) (refl, shut.1)) (stands.shut shut.0)
 
 -- CR is open in none of them
 shut_unreturned : (m : FieldMode) → is_shut m ≡ true → is_return_at m ≡ false
 shut_unreturned (plain modes.Return) shut = absurd (both_ways _ refl shut)
 shut_unreturned m shut = refl
 
-module _ {bytes text : List ℕ} (b : BeginsString bytes text) where
-  left_on : {read : List ℕ} (way : IsUnderWay modes.Free read) (z : List ℕ) → text ≡ read ++ z → scan_steps (Some way.state) z ≡ Some b.to
-  left_on {read} way z at =
-      ap (λ o. scan_steps o z) (sym way.steps) ∙ sym (steps_by-append move_at (Some (line_start modes.Free)) read z)
-      ∙ ap (scan_steps (Some (line_start modes.Free))) (sym at) ∙ b.steps
+-- where the scan has nothing open, the machine's piece ends before the next character
+free_open : (m : OpenMode) → is_free_mode m ≡ true → mode_from m ≡ plain modes.Free
+free_open opens.Free free = refl
+free_open m free = absurd (both_ways _ refl free)
 
-  -- pieces that are found, of which the string is the first
-  as_long : (ps qs : List Piece) → ps ++ qs ≡ piece string text ∷ [] → 0 < length (spelled ps) → length text ≤ length (spelled ps)
-  as_long [] qs all some = absurd (omega (arith, some))
-  as_long (p ∷ ps) qs all some =
-      let first : p ≡ piece string text = cc in
-      omega (arith, length-append p.text (spelled ps), ap (λ (q : Piece). length q.text) first)
+settled_ends : (t : FieldScanned) {scan : Scan} {rest : List ℕ} → Rests scan t rest → is_settled scan ≡ true → (d : ℕ) (y : List ℕ) → IsScalar d
+    → encode_utf8_all (d ∷ y) ≡ rest → (t.outer ≡ []) × (field_move t.mode t.held d ≡ breaks)
+settled_ends t {scan} {rest} rests settled d y scalar spell = by rest spell rests.stands
+  where
+    u : FieldScanned
+    u = rests.as_if
 
-  -- before its end the machine may not stop
-  no_stop : {read : List ℕ} (way : IsUnderWay modes.Free read) (d : ℕ) (z : List ℕ) → text ≡ read ++ d ∷ z → 0 < length read
-      → meet_of way.state.mode d ≡ moves.Breaks → ⊥
-  no_stop {read} way d z at some breaks_there =
-      let s = way.state in
-      let found = pieces_at s in
-      let spell : spelled found ≡ read = let sound = way_sound way (begun_sound 1) in closed_text s.mode s.done s.held sound.holds ∙ sound.spell in
-      let grows = started_grows found found [] d (start_of d) (sym (append-nil found)) in
-      let kept = found_on found (started found d (start_of d)) z b.to grows
-      (sym (begun s d z z (start_of d) breaks_there refl) ∙ left_on way (d ∷ z) at) in
-      let long = as_long found kept.0 (sym kept.1 ∙ b.pieces_are) (omega (arith, some, ap length spell)) in
-      omega (arith, long, ap length spell, ap length at, length-append read (d ∷ z))
+    parts : (is_free_mode scan.mode ≡ true) × ((length scan.frames == 0) ≡ true)
+    parts = and_parts (is_free_mode scan.mode) (length scan.frames == 0) settled
 
-  -- no line ends in it
-  no_line : (body : List Piece) (last : Piece) → Stays body last (pieces_at b.to) → ⊥
-  no_line body last stays =
-      let one = one_of (piece string text) stays.line body stays.others (sym b.pieces_are ∙ stays.is) in
-      let clash : line_end ≡ string = sym stays.class ∙ ap (λ (p : Piece). p.class) one.0 in
-      cc
+    by : (bytes : List ℕ) → encode_utf8_all (d ∷ y) ≡ bytes → StandsAs bytes t u → (t.outer ≡ []) × (field_move t.mode t.held d ≡ breaks)
+    by [] is stands = absurd (omega (arith, ap length is, length-append (encode_utf8 d) (encode_utf8_all y), length-encode d, len_utf8_bounds d))
+    by (b ∷ bytes) is stands =
+        let none = none_outside u.outer u.done u.openers scan.frames rests.follows.frames (eqb-true _ 0 parts.1) in
+        let there = stands.free (sym rests.follows.mode ∙ free_open scan.mode parts.0) none.0 in
+        (there.outside, there.ends d (first_byte d b (encode_utf8_all y) bytes scalar is))
 
-  -- and no character of it is refused
-  not_refused : {read : List ℕ} (way : IsUnderWay modes.Free read) (c : ℕ) (z : List ℕ) → text ≡ read ++ c ∷ z → room_step way.field c ≡ None → ⊥
-  not_refused {read} way c z at none = by (scan_step way.state c) (left_on way (c ∷ z) at) (none_taken way (begun_sound 1) c none)
-    where
-      by : (o : Option Scanned) → scan_steps o z ≡ Some b.to → stack_if o ≡ None → ⊥
-      by None goes refused =
-          let clash : None ≡ Some b.to = goes in
-          cc
-      by (Some next) goes refused =
-          let found = found_on next.done (Some next) z b.to ([], sym (append-nil next.done)) goes in
-          let one = keeps [] (piece string text) [] refl refl refl in
-          let stack = stack_before next.done found.0 [] (ap brackets_of (sym found.1 ∙ b.pieces_are) ∙ one) in
-          let clash : None ≡ Some stack.0 = sym refused ∙ stack.1 in
-          cc
+-- pieces that are found, of which the string is the first
+as_long : (text : List ℕ) (ps qs : List Piece) → piece string text ∷ [] ≡ ps ++ qs → 0 < length (spelled ps) → length text ≤ length (spelled ps)
+as_long text [] qs all some = absurd (omega (arith, some))
+as_long text (p ∷ ps) qs all some =
+    let first : piece string text ≡ p = cc in
+    omega (arith, length-append p.text (spelled ps), ap (λ (q : Piece). length q.text) first)
 
-  -- so the machine with fields takes its next character
-  abbrev Takes : FieldScanned → ℕ → Type 0
-  Takes t c = (has_returned t ≡ false) × (next : FieldScanned) × (room_step t c ≡ Some next) × (ends_line t c ≡ false)
-
-  takes : {read : List ℕ} (way : IsUnderWay modes.Free read) (c : ℕ) (z : List ℕ) → text ≡ read ++ c ∷ z → Takes way.field c
-  takes {read} way c z at = by (room_step way.field c) refl
-    where
-      s : Scanned
-      s = way.state
-
-      left : scan_steps (Some s) (c ∷ z) ≡ Some b.to
-      left = left_on way (c ∷ z) at
-
-      open_yet : has_returned way.field ≡ false
-      open_yet =
-          false_from_ne_true _ (λ is.
-          let mode = return_mode s.mode (and_parts _ _ (sym (way_returned way (begun_sound 1)) ∙ is)).0 in
-          let line = piece line_end s.held in
-          no_line s.done line (line_stays s.mode s.done s.held (c ∷ z) b.to s.done line left (ap (λ m. closed m s.done s.held) mode) refl))
-
-      goes_yet : ends_line way.field c ≡ false
-      goes_yet =
-          false_from_ne_true _ (λ ends.
-          let l = (line_with way (begun_sound 1) c (ap (λ r. r && not (is_line_feed c)) open_yet) ends).0 in
-          let line = piece line_end l.text in
-          let on = ap (λ o. scan_steps o z) (sym l.goes) ∙ left in
-          no_line l.body line (line_stays modes.Free (l.body ++ line ∷ []) [] z b.to l.body line on refl refl))
-
-      by : (o : Option FieldScanned) → room_step way.field c ≡ o → Takes way.field c
-      by None none = absurd (not_refused way c z at none)
-      by (Some next) step = (open_yet, next, step, goes_yet)
-
-  -- and goes on to its end, where nothing is open, and what follows ends it
-  record Along (t : FieldScanned) (z : List ℕ) : Type 0 where
-    to : FieldScanned
-    goes : Goes t z to
-    outside : to.outer ≡ []
-    shut : Shut to
-    breaks_on : (d : ℕ) (y : List ℕ) → b.more ≡ d ∷ y → field_move to.mode to.held d ≡ breaks
-
-  at_end : {read : List ℕ} (way : IsUnderWay modes.Free read) → text ≡ read ++ [] → Along way.field []
-  at_end way at = go (code_at s.mode s.done s.held way.brackets way.field (way_tied way (begun_sound 1)).flat_is)
-    where
-      s : Scanned
-      s = way.state
-
-      same : s ≡ b.to
-      same = some_is s b.to (left_on way [] at)
-
-      pieces : pieces_at s ≡ piece string text ∷ []
-      pieces = ap pieces_at same ∙ b.pieces_are
-
-      stops : StopsBefore s.mode (b.more ++ b.after)
-      stops = subst (λ (x : Scanned). StopsBefore x.mode (b.more ++ b.after)) (sym same) b.stops
-
-      shut : is_shut (code_mode s.mode) ≡ true
-      shut = string_shut text s.mode s.done s.held (b.more ++ b.after) pieces (way_sound way (begun_sound 1)).holds stops
-
-      none : way.brackets ≡ []
-      none =
-          some_is way.brackets [] (sym (stack_closed s.mode s.done s.held way.brackets way.stacked) ∙ ap brackets_of pieces
-          ∙ keeps [] (piece string text) [] refl refl refl)
-
-      go : (s.mode ≡ modes.Fielded) ⊎ CodeAt s way.field way.brackets → Along way.field []
-      go (inl fielded) = absurd (both_ways _ (ap (λ m. is_shut (code_mode m)) fielded) shut)
-      go (inr is) = record {
-        to = way.field;
-        goes = refl;
-        outside = ap (λ (t : FieldScanned). t.outer) is;
-        shut = (
-          ap (λ (t : FieldScanned). is_shut t.mode) is ∙ shut,
-          ap (λ (t : FieldScanned). length t.openers + levels_open t.outer) is ∙ ap (λ (st : List Bracket). length (bracket_openers st) + 0) none,
-        );
-        breaks_on = λ d y follows. (breaks_field way (begun_sound 1) d (subst (λ t. StopsBefore s.mode (t ++ b.after)) follows stops)).1;
-      }
-
-  along : {read : List ℕ} (way : IsUnderWay modes.Free read) (z : List ℕ) → text ≡ read ++ z → Along way.field z
-  along way [] at = at_end way at
-  along {read} way (c ∷ z) at =
-      let (open_yet, next, step, goes_yet) = takes way c z at in
-      let (after, same) = goes_way way (begun_sound 1) (c ∷ []) next (open_yet, next, step, goes_yet, refl) in
-      let on = along after z (at ∙ sym (append_assoc read (c ∷ []) z)) in
-      record {
-        to = on.to;
-        goes = (open_yet, next, step, goes_yet, subst (λ (t : FieldScanned). Goes t z on.to) same on.goes);
-        outside = on.outside;
-        shut = on.shut;
-        breaks_on = on.breaks_on;
-      }
+-- before the string's end its piece doesn't end
+no_stop : {bytes text read : List ℕ} (b : BeginsString bytes text) (way : IsUnderWay modes.Free read) (d : ℕ) (z : List ℕ) → text ≡ read ++ d ∷ z
+    → 0 < length read → way.field.outer ≡ [] → field_move way.field.mode way.field.held d ≡ breaks → ⊥
+no_stop {text = text} {read = read} b way d z at some none move =
+    let t = way.field in
+    let found = field_pieces t in
+    let spell : spelled found ≡ read = ap spelled (sym (outer_alone t none).3) ∙ outer_spells two_hundred t read (way_sound way refl) in
+    let o = goes_one b t d z (runs_left b t read (d ∷ z) way.goes at) in
+    let starts = ap (λ ls. field_started ls found t.openers d (start_of d)) (sym none) ∙ sym (ap (field_moved t d) move) ∙ o.step in
+    let (outside, (ps, on)) = started_outer found t.openers d (start_of d) o.next starts in
+    let (qs, all) = kept b o.next z o.runs in
+    let long = as_long text found (ps ++ qs)
+    (all ∙ ap (λ l. l ++ qs) ((outer_alone o.next outside).0 ∙ on) ∙ append_assoc found ps qs) (omega (arith, some, ap length spell)) in
+    omega (arith, long, ap length spell, ap length at, length-append read (d ∷ z))
 
 -- some of the string's text is left after what was read
 abbrev pub IsWithin : List ℕ → List ℕ → Type 0
@@ -331,7 +149,7 @@ pub record InFirst (bytes : List ℕ) (scan : Scan) (rest : List ℕ) : Type 0 w
 -- at a line's start
 pub at_start : (bytes : List ℕ) {scan : Scan} → HasBegun modes.Free scan → InFirst bytes scan bytes
 at_start bytes begun =
-    let reached = begun_reached begun (begun_sound 1) bytes in
+    let reached = begun_reached begun refl bytes in
     record {
       reached = reached;
       within = λ p is begin.
@@ -350,7 +168,7 @@ module _ {bytes : List ℕ} {scan : Scan} {rest : List ℕ} (at : InFirst bytes 
 
   -- what this tells of the scan
   pub first_stands : Stands bytes scan rest
-  first_stands = stands_reached modes.Free bytes scan rest (begun_sound 1) at.reached
+  first_stands = stands_reached modes.Free bytes scan rest refl at.reached
 
   module _ (p : Piece) (is : p.class ≡ string) (begin : BeginWithPiece bytes p) where
     b : BeginsString bytes p.text
@@ -380,8 +198,11 @@ module _ {bytes : List ℕ} {scan : Scan} {rest : List ℕ} (at : InFirst bytes 
     some_left = omega (arith, some, ap length rest_is, length-le-encodes (z ++ b.more), length-append z b.more)
 
     -- the machine goes on in it to its end
-    a : Along b way.field z
-    a = along b way z text_is
+    abbrev to : FieldScanned
+    to = b.to
+
+    goes_there : Goes way.field z to
+    goes_there = along b way.field z (runs_left b way.field read z way.goes text_is)
 
     -- the characters that these begin with, which the string's end follows, or they go beyond it
     cut : (run after : List ℕ) → encode_utf8_all run ++ after ≡ rest → (y : List ℕ) × (z ++ b.more ≡ run ++ y) × (encode_utf8_all y ≡ after)
@@ -397,12 +218,12 @@ module _ {bytes : List ℕ} {scan : Scan} {rest : List ℕ} (at : InFirst bytes 
         by : Either run z b.more → (k : List ℕ) × (z ≡ run ++ k)
         by (Either.shorter k before) = (k, before)
         by (Either.longer d w y beyond follows) =
-            absurd (both_ways _ (item_at way.field a.to z d w some a.goes (subst (IsOneItem way.field) beyond one))
-            (ap is_break_move (a.breaks_on d y follows)))
+            absurd (both_ways _ (item_at way.field to z d w some goes_there (subst (IsOneItem way.field) beyond one))
+            (ap is_break_move (breaks_there b d y follows)))
 
     -- after which the machine goes on
-    later : (run k : List ℕ) (to : FieldScanned) → z ≡ run ++ k → Goes way.field run to → Goes to k a.to
-    later run k to before goes = goes_on way.field a.to to run k (subst (λ t. Goes way.field t a.to) before a.goes) goes
+    later : (run k : List ℕ) (mid : FieldScanned) → z ≡ run ++ k → Goes way.field run mid → Goes mid k to
+    later run k mid before goes = goes_on way.field to mid run k (subst (λ t. Goes way.field t to) before goes_there) goes
 
     text_on : (run k : List ℕ) → z ≡ run ++ k → p.text ≡ (read ++ run) ++ k
     text_on run k before = text_is ∙ ap (λ t. read ++ t) before ∙ sym (append_assoc read run k)
@@ -412,7 +233,8 @@ module _ {bytes : List ℕ} {scan : Scan} {rest : List ℕ} (at : InFirst bytes 
     held_within run after spell keeps_open = by (meets run after spell)
       where
         beyond_it : (v : List ℕ) → run ≡ z ++ v → ⊥
-        beyond_it v beyond = both_ways _ (open_at way.field a.to z v some a.goes (subst (KeepsOpen way.field) beyond keeps_open) a.outside) a.shut.0
+        beyond_it v beyond =
+            both_ways _ (open_at way.field to z v some goes_there (subst (KeepsOpen way.field) beyond keeps_open) b.outside) (shut_there b).0
 
         by : Either run z b.more → IsWithin (read ++ run) p.text
         by (Either.shorter [] before) = absurd (beyond_it [] (sym (before ∙ append-nil run) ∙ sym (append-nil z)))
@@ -424,7 +246,7 @@ module _ {bytes : List ℕ} {scan : Scan} {rest : List ℕ} (at : InFirst bytes 
     ends_there new none same = omega (
       arith,
       same,
-      rests_end way (begun_sound 1) at.reached.rests,
+      rests_end way refl at.reached.rests,
       ap byte_len text_is,
       ap length (encodes-append read z),
       length-append (encode_utf8_all read) (encode_utf8_all z),
@@ -436,8 +258,6 @@ module _ {bytes : List ℕ} {scan : Scan} {rest : List ℕ} (at : InFirst bytes 
     waits_there : (all : GoesOverAll way.field rest) → b.more ≡ []
     waits_there all =
         let (y, same, spells) = cut all.run all.rest all.spell in
-        let fine = all_scalars-parts all.run y (ap all_scalars (sym same) ∙ scalars) in
-        let nothing : all.rest ≡ [] = text_none all.rest (y, (fine.1, spells)) all.none in
         let (k, before) = item_within all.run all.rest all.spell all.one in
         nil_from_length b.more (omega (
           arith,
@@ -447,7 +267,7 @@ module _ {bytes : List ℕ} {scan : Scan} {rest : List ℕ} (at : InFirst bytes 
           ap length before,
           length-append all.run k,
           length-le-encodes y,
-          ap length (spells ∙ nothing),
+          ap length (spells ∙ (text_none all.rest (y, ((all_scalars-parts all.run y (ap all_scalars (sym same) ∙ scalars)).1, spells)) all.none)),
         ))
 
     not_wrong : (f : LineFault) → IsWrongIn way.field rest f → ⊥
@@ -486,8 +306,8 @@ module _ {bytes : List ℕ} {scan : Scan} {rest : List ℕ} (at : InFirst bytes 
     not_returned : (len : ℕ) (new : Scan) → EndsWithReturn way.field rest len new → ⊥
     not_returned len new e = by (meets (13 ∷ []) (e.b ∷ e.rest) (ap (λ t. t ++ e.b ∷ e.rest) return_bytes ∙ sym e.spell))
       where
-        ends_not : (k : List ℕ) → Goes e.to k a.to → has_returned e.to ≡ false
-        ends_not [] same = and_left _ _ (ap (λ (t : FieldScanned). is_return_at t.mode) same ∙ shut_unreturned a.to.mode a.shut.0)
+        ends_not : (k : List ℕ) → Goes e.to k to → has_returned e.to ≡ false
+        ends_not [] same = and_left _ _ (ap (λ (t : FieldScanned). is_return_at t.mode) same ∙ shut_unreturned to.mode (shut_there b).0)
         ends_not (d ∷ k) goes = goes.0
 
         by : Either (13 ∷ []) z b.more → ⊥
@@ -504,7 +324,7 @@ module _ {bytes : List ℕ} {scan : Scan} {rest : List ℕ} (at : InFirst bytes 
   -- an item of it
   module _ {new : Scan} {len : ℕ} (over : GoesOver way.field rest len new) where
     abbrev on : Reached modes.Free bytes new (drop len rest)
-    on = reached_more (begun_sound 1) at.reached over.run (drop len rest) new over.to over.goes over.rests over.spell over.scalars
+    on = reached_more at.reached over.run (drop len rest) new over.to over.goes over.rests over.spell over.scalars
 
     module _ (p : Piece) (is : p.class ≡ string) (begin : BeginWithPiece bytes p) where
       left : (k : List ℕ) × (z p is begin ≡ over.run ++ k)
@@ -515,17 +335,17 @@ module _ {bytes : List ℕ} {scan : Scan} {rest : List ℕ} (at : InFirst bytes 
       passed_with settled = by left.0 left.1
         where
           by : (k : List ℕ) → z p is begin ≡ over.run ++ k → new.stop ≡ byte_len p.text
-          by [] before =
-              rests_end on.way (begun_sound 1) on.rests ∙ ap byte_len (sym (text_on p is begin over.run [] before ∙ append-nil (read ++ over.run)))
+          by [] before = rests_end on.way refl on.rests ∙ ap byte_len (sym (text_on p is begin over.run [] before ∙ append-nil (read ++ over.run)))
           by (d ∷ ds) before =
               let more = (b p is begin).more in
               let (y, same, spells) = cut p is begin over.run (drop len rest) over.spell in
               let follows : y ≡ (d ∷ ds) ++ more
               = append_cancel_left over.run y ((d ∷ ds) ++ more) (sym same ∙ ap (λ t. t ++ more) before ∙ append_assoc over.run (d ∷ ds) more) in
               let fine = all_scalars-parts over.run y (ap all_scalars (sym same) ∙ scalars p is begin) in
+              let ends_so = settled_ends on.way.field on.rests settled d (ds ++ more) (and_parts _ _ (ap all_scalars (sym follows) ∙ fine.1)).0
+              (ap encode_utf8_all (sym follows) ∙ spells) in
               absurd (no_stop (b p is begin) on.way d ds (text_on p is begin over.run (d ∷ ds) before)
-              (omega (arith, some_run over.run len over.size over.some, length-append read over.run))
-              (subst (StopsBefore on.way.state.mode) follows (settled_stops on.way (begun_sound 1) on.rests settled y fine.1 spells)))
+              (omega (arith, some_run over.run len over.size over.some, length-append read over.run)) ends_so.0 ends_so.1)
 
       -- else the string goes on
       still_within : is_settled new ≡ false → IsWithin (read ++ over.run) p.text
@@ -533,9 +353,8 @@ module _ {bytes : List ℕ} {scan : Scan} {rest : List ℕ} (at : InFirst bytes 
         where
           by : (k : List ℕ) → z p is begin ≡ over.run ++ k → IsWithin (read ++ over.run) p.text
           by [] before =
-              let along_it = a p is begin in
               absurd (both_ways _ on_in (settled_at over.to
-              (subst Shut (sym (later p is begin over.run [] over.to before over.goes)) along_it.shut) over.rests))
+              (subst IsShutAlone (sym (later p is begin over.run [] over.to before over.goes)) (shut_there (b p is begin))) over.rests))
           by (d ∷ ds) before = (d ∷ ds, text_on p is begin over.run (d ∷ ds) before, omega arith)
 
     pub step_on : is_settled new ≡ false → InFirst bytes new (drop len rest)
@@ -544,12 +363,35 @@ module _ {bytes : List ℕ} {scan : Scan} {rest : List ℕ} (at : InFirst bytes 
 -- so does a run that is held
 pub first_run : {bytes : List ℕ} {old new : Scan} {mid rest : List ℕ} → InFirst bytes old mid → HoldsRun old mid rest new → InFirst bytes new rest
 first_run {bytes} {old} {new} {mid} {rest} at (len, holds, left) =
-    let r = at.reached in
-    let (u, goes, keeps_open, after) = holds.stay r.read r.way.field (way_reached r.way (begun_sound 1)) r.rests in
-    record {
-      reached = reached_run modes.Free bytes old new mid rest r (begun_sound 1) (len, holds, left);
-      within = λ p is begin. held_within at p is begin holds.run (drop len mid) holds.spell keeps_open;
+    let (takes, keeps) = holds r.rests.as_if r.rests.follows in
+    subst (InFirst bytes new) (sym left) (by takes.run takes.spell takes.scalars takes.comes keeps)
+  where
+    r : Reached modes.Free bytes old mid
+    r = at.reached
+
+    by : (run : List ℕ) → encode_utf8_all run ++ drop len mid ≡ mid → all_scalars run ≡ true → ComesOver r.rests.as_if run new (drop len mid)
+        → KeepsOpen r.rests.as_if run → InFirst bytes new (drop len mid)
+    by [] spell scalars follows keeps = record {
+      reached = record {
+        read = r.read;
+        way = r.way;
+        spell = ap (λ t. encode_utf8_all r.read ++ t) spell ∙ r.spell;
+        scalars = r.scalars;
+        rests = record {
+          as_if = r.rests.as_if;
+          follows = follows;
+          stands = subst (λ t. StandsAs t r.way.field r.rests.as_if) (sym spell) r.rests.stands;
+        };
+      };
+      within = at.within;
     }
+    by (c ∷ cs) spell scalars (u, goes, rests) keeps =
+        let on = goes_real r.way.field r.rests.as_if u mid (c ∷ cs) (drop len mid) r.rests.stands scalars spell (omega arith) goes in
+        let first = first_real r.way.field r.rests.as_if mid c cs (drop len mid) r.rests.stands (and_parts _ _ scalars).0 spell in
+        record {
+          reached = reached_more r (c ∷ cs) (drop len mid) new u on rests spell scalars;
+          within = λ p is begin. held_within at p is begin (c ∷ cs) (drop len mid) spell (keeps.0, first ∙ keeps.1, keeps.2, keeps.3);
+        }
 
 -- what a step comes to where the machine is
 pub step_comes : {bytes : List ℕ} {scan : Scan} {rest : List ℕ} (at : InFirst bytes scan rest) → 0 < length rest → (q : Progress) (new : Scan)

@@ -72,12 +72,11 @@ pub text_after : (depth : ℕ) (bytes : List ℕ) (p : Piece) (ps : List Piece) 
 text_after depth bytes p ps is = record {
   scalars = (all_scalars-parts p.text (spelled ps) is.scalars).1;
   spell =
-      sym
-      (ap (drop (byte_len p.text)) (sym is.spell ∙ encodes-append p.text (spelled ps))
+      sym (ap (drop (byte_len p.text)) (sym is.spell ∙ encodes-append p.text (spelled ps))
       ∙ drop-append_seam (encode_utf8_all p.text) (encode_utf8_all (spelled ps)));
   after = is.after;
   fit = is.fit.3;
-  strings = is.strings.1;
+  shallow = is.shallow.2;
 }
 
 -- a piece that was taken there: there is room for it, and the line is read so far
@@ -138,14 +137,12 @@ has_next {text = text} {pieces = pieces} {first = first} {start = start} {line =
 
 -- a line that is read to its end
 pub whole_read : {text : List ℕ} {pieces : List Piece} {first start line : ℕ} {t : LineTokens} (left : List Piece)
-    → HaveReadOf text pieces left first start line t → length text ≤ start
-    → AreTokensOf pieces first t × (line ≡ first + line_ends (spelled pieces))
+    → HaveReadOf text pieces left first start line t → length text ≤ start → AreTokensOf pieces first t × (line ≡ first + line_ends (spelled pieces))
 whole_read {line = line} [] h end =
     (record { kind = sym h.kind; indent = h.indent; tokens = sym (h.tokens ∙ append-nil _) }, sym (add-zero line) ∙ h.lines)
 whole_read {text = text} {start = start} (p ∷ qs) h end =
-    let some = piece_some p.class p.text h.are.fit.0 in
     let left = ap length h.are.spell ∙ length-drop start text in
-    absurd (omega (arith, end, left, some, byte_len-append p.text (spelled qs), length-le-encodes p.text))
+    absurd (omega (arith, end, left, piece_some p.class p.text h.are.fit.0, byte_len-append p.text (spelled qs), length-le-encodes p.text))
 
 -- the mark in UTF-8
 abbrev mark_bytes : List ℕ
@@ -183,8 +180,7 @@ has_mark text p ps is class_is =
     let whole : text ≡ mark_bytes ++ encode_utf8_all (spelled ps)
     = sym is.spell ∙ encodes-append p.text (spelled ps) ∙ ap (λ t. encode_utf8_all t ++ encode_utf8_all (spelled ps)) one
     ∙ ap (λ t. t ++ encode_utf8_all (spelled ps)) mark_encoded in
-    let present
-    = (starts_is Decides-eqb text mark_bytes (starts_with nat_eq text mark_bytes) refl).1 (encode_utf8_all (spelled ps)) whole in
+    let present = (starts_is Decides-eqb text mark_bytes (starts_with nat_eq text mark_bytes) refl).1 (encode_utf8_all (spelled ps)) whole in
     (ap (λ (b : Bool). if b then 3 else 0) present ∙ sym (ap byte_len one ∙ ap length mark_encoded), ap line_ends one)
 
 -- the space that pieces begin with
@@ -226,13 +222,11 @@ is_mark_or space = inr refl
 is_mark_or _ = inr refl
 
 -- a line has begun
-module _ (text : List ℕ) (start n first : ℕ) (t : LineTokens) (begins : start ≡ mark_len text)
-    (run : IsRunOf is_space (rest_of text start) n)
+module _ (text : List ℕ) (start n first : ℕ) (t : LineTokens) (begins : start ≡ mark_len text) (run : IsRunOf is_space (rest_of text start) n)
     (blank : t.kind ≡ unit_kind.Blank) (indent : t.indent ≡ n) (none : t.tokens.items ≡ []) where
   begun_before : (pieces left : List Piece) (depth : ℕ) → AreTextAt depth (drop start text) left → begins_marked left ≡ false
       → kind_of pieces ≡ kind_of left → tokens_from 0 first pieces ≡ tokens_from start first left → indent_of pieces ≡ first_space left
-      → line_ends (spelled left) ≡ line_ends (spelled pieces)
-      → (others : List Piece) × HaveReadOf text pieces others first start first t
+      → line_ends (spelled left) ≡ line_ends (spelled pieces) → (others : List Piece) × HaveReadOf text pieces others first start first t
   begun_before pieces left depth are unmarked kind tokens indent_is lines = (
     left,
     record {

@@ -11,11 +11,9 @@ use Rattle.py_lines.specs.FieldStrings.{is_field_prefix}
 use Rattle.py_lines.specs.Fields.{fielded}
 use Rattle.py_lines.specs.declared.mode.Spelling.{Spelling}
 use Rattle.py_lines.specs.declared.mode.Spelling.TheVariants as spellings
-use Rattle.py_lines.specs.Private.Machine.{first_spelling, spelling_on}
-use Rattle.py_lines.specs.Private.ScanMachine.{begins_string, is_field_spelling}
+use Rattle.py_lines.specs.Private.Machine.{begins_string, first_spelling, is_field_spelling, spelling_on}
 use Rattle.py_lines.specs.Private.Run.{word_spelling}
 use Rattle.py_lines.proofs.Text.CharacterTests.{none_of}
-pub use Rattle.py_lines.proofs.Text.HighBytes.{high_bytes}
 use Rattle.py_lines.proofs.LineScan.AsciiRuns.{is_low, low_encodes, low_is}
 use Rattle.py_lines.proofs.Machine.Spellings.{prefix_spelling, other_begins, word_tells}
 
@@ -27,16 +25,14 @@ field_begins spellings.T h = refl
 field_begins spellings.Tr h = refl
 field_begins s h = absurd (both_ways _ refl h)
 
-pub fielded_spelling : (first : ℕ) (others : List ℕ)
-    → fielded.is_prefix (first ∷ others) ≡ begins_string (spelling_on (first_spelling first) others)
+pub fielded_spelling : (first : ℕ) (others : List ℕ) → fielded.is_prefix (first ∷ others) ≡ begins_string (spelling_on (first_spelling first) others)
 fielded_spelling first others =
     let s = spelling_on (first_spelling first) others in
     let plain = is_prefix (first ∷ others) in
     let tells = (word_tells first others).0 in
     ⊎_elim (λ (is : is_field_spelling s ≡ true). or_right plain (is_field_prefix (first ∷ others)) (tells ∙ is) ∙ sym (field_begins s is))
     (λ (is : is_field_spelling s ≡ false).
-    ap (λ b. plain || b) (tells ∙ is) ∙ or-false plain ∙ prefix_spelling first others ∙ sym (other_begins s is))
-    (cases_Bool (is_field_spelling s))
+    ap (λ b. plain || b) (tells ∙ is) ∙ or-false plain ∙ prefix_spelling first others ∙ sym (other_begins s is)) (cases_Bool (is_field_spelling s))
 
 -- a character that isn't ASCII is no letter of a prefix
 abbrev IsNoLetter : ℕ → Type 0
@@ -70,9 +66,9 @@ low_encoded cs all = sym (encodes_same cs (encode_utf8_all cs) (sym (low_encodes
 
 -- so a word is a prefix where its bytes are
 pub prefix_encoded : (word : List ℕ) → begins_string (word_spelling (encode_utf8_all word)) ≡ begins_string (word_spelling word)
-prefix_encoded word = ⊎_elim
-    (λ bytes. ap begins_word (low_encoded word (prefix_low (encode_utf8_all word) bytes)))
-    (λ other. ⊎_elim (λ is. ap begins_word (low_encodes is_low word low_is (prefix_low word is)).0) (λ none. other ∙ sym none) (cases_Bool (begins_word word)))
+prefix_encoded word = ⊎_elim (λ bytes. ap begins_word (low_encoded word (prefix_low (encode_utf8_all word) bytes)))
+    (λ other.
+    ⊎_elim (λ is. ap begins_word (low_encodes is_low word low_is (prefix_low word is)).0) (λ none. other ∙ sym none) (cases_Bool (begins_word word)))
     (cases_Bool (begins_word (encode_utf8_all word)))
   where
     begins_word : List ℕ → Bool

@@ -12,7 +12,6 @@ use Rattle.py_lines.proofs.Text.CharacterTests.{each_of, none_of, not_quote, exc
 use Rattle.py_lines.specs.Private.Machine.{Mode}
 use Rattle.py_lines.proofs.Pieces.PieceLists.{piece}
 use Rattle.py_lines.proofs.Machine.Starts.{start-feed}
-use Rattle.py_lines.proofs.Machine.PieceSteps.{closes}
 use Rattle.py_lines.proofs.Pieces.OpenBrackets.{stack_push, other_keeps}
 
 -- a piece that is no bracket leaves the stack as it was
@@ -114,4 +113,3 @@ module _ (Comes : Mode → List ℕ → Type 0)
   completes Mode.Backslash done held holds = last Mode.Backslash held 10 refl refl refl
   completes Mode.JoinReturn done held holds = once Mode.JoinReturn held (record { ends = refl; breaks = λ c h. rw (closing_is c h).3 })
   completes Mode.Return done held holds = once Mode.Return held (record { ends = refl; breaks = λ c h. rw (closing_is c h).3 })
-  completes m done held holds = absurd holds

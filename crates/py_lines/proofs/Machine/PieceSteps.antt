@@ -1,89 +1,30 @@
 -- The machine goes through the text of a space, a word, a comment, a join or a line end: how each begins, grows and ends.
-use Rattle.std.proofs.Common.{◌≡◌, ℕ, Bool, true, false, ◌&&◌, Option, None, Some, List, [], ◌∷◌, ◌++◌, refl, sym, ap, ◌∙◌, subst, inl, inr, append_assoc, append-nil, ◌⊎◌}
+use Rattle.std.proofs.Common.{◌≡◌, ℕ, Bool, true, false, ◌&&◌, Some, List, [], ◌∷◌, ◌++◌, refl, sym, ap, ◌∙◌, subst, inl, inr, append_assoc, ◌⊎◌}
 use Rattle.std.specs.List.{list_all, list_any}
 use Rattle.std.proofs.lemmas.Bool.{and_parts, or_parts}
 use Rattle.py_lines.specs.Character.{is_space, is_word_character, is_quote, is_line_feed, is_return, is_break}
 use Rattle.py_lines.specs.Piece.{Class, space, word, comment, join, line_end, Piece, begins, ends}
 use Rattle.py_lines.specs.PieceGrammar.{is_prefix, IsLineEnd, feed, return_feed, return, InPlainClass, MayPrecedePlain}
-use Rattle.py_lines.specs.Private.Machine.{Spelling, Mode, Move, Start, Scanned, fresh, class_of, closed, started, moved, steps_by, move_from, steps_from, move_of, start_of, is_final, first_spelling, spelling_with, spelling_on, is_prefix_spelling}
+use Rattle.py_lines.specs.Balance.{is_opener, is_closer}
+use Rattle.py_lines.specs.Private.Machine.{Spelling, Mode, Move, Start, class_of, closed, move_of, start_of, is_final, first_spelling, spelling_with, spelling_on, is_prefix_spelling}
 use Rattle.py_lines.proofs.Pieces.PieceLists.{piece}
 use Rattle.py_lines.proofs.Fields.Prefixes.{word_quotes}
 use Rattle.py_lines.proofs.Machine.Spellings.{prefix_spelling}
 use Rattle.py_lines.proofs.Machine.Starts.{start-space, start-word, start-return, start-hash, start-slash}
 
-abbrev pub scanned : List Piece → Mode → List ℕ → Scanned
-scanned done mode held = record { done = done; mode = mode; held = held }
+pub some_is : {A : Type 0} (a b : A) → Some a ≡ Some b → a ≡ b
+some_is a b h = cc
 
--- the pieces that a state has found, the open one with them
-abbrev pub pieces_at : Scanned → List Piece
-pieces_at s = closed s.mode s.done s.held
-
--- the open piece may end before this text, where a character does so to it
-abbrev pub StopsBy : (Mode → ℕ → Move) → Mode → List ℕ → Type 0
-StopsBy move m [] = is_final m ≡ true
-StopsBy move m (c ∷ cs) = move m c ≡ Move.Breaks
-
+-- the open piece may end before this text
 abbrev pub StopsBefore : Mode → List ℕ → Type 0
-StopsBefore m rest = StopsBy move_of m rest
+StopsBefore m [] = is_final m ≡ true
+StopsBefore m (c ∷ cs) = move_of m c ≡ Move.Breaks
 
--- the machine goes through a text from here, finds these pieces after those it had, and may stop before the rest
-pub record Finds (from : Scanned) (text : List ℕ) (pieces : List Piece) (rest : List ℕ) : Type 0 where
-  pub to : Scanned
-  pub steps : steps_from (Some from) text ≡ Some to
-  pub pieces_are : pieces_at to ≡ pieces_at from ++ pieces
-  pub stops : StopsBefore to.mode rest
-
-pub longer : (done : List Piece) (m : Mode) (held : List ℕ) (c : ℕ) (cs : List ℕ) → Some (scanned done m ((held ++ c ∷ []) ++ cs)) ≡ Some (scanned done m (held ++ c ∷ cs))
-longer done m held c cs = ap (λ t. Some (scanned done m t)) (append_assoc held (c ∷ []) cs)
-
-pub all_held : (done : List Piece) (m : Mode) (held : List ℕ) → Some (scanned done m held) ≡ Some (scanned done m (held ++ []))
-all_held done m held = ap (λ t. Some (scanned done m t)) (sym (append-nil held))
-
--- the steps of any machine
-module _ (move : Scanned → ℕ → Move) where
-  -- over two texts, one after the other
-  pub steps_by-append : (s : Option Scanned) (a b : List ℕ) → steps_by move s (a ++ b) ≡ steps_by move (steps_by move s a) b
-  steps_by-append None a b = refl
-  steps_by-append (Some s) [] b = refl
-  steps_by-append (Some s) (c ∷ a) b = steps_by-append (moved s c (move s c)) a b
-
-  -- where the machine comes through
-  pub run_before : (from : Option Scanned) (a b : List ℕ) (s : Scanned) → steps_by move from (a ++ b) ≡ Some s → (t : Scanned) × (steps_by move from a ≡ Some t) × (steps_by move (Some t) b ≡ Some s)
-  run_before None a b s steps = let stuck : None ≡ Some s = steps in absurd (cc)
-  run_before (Some t) [] b s steps = (t, refl, steps)
-  run_before (Some t) (c ∷ a) b s steps = run_before (moved t c (move t c)) a b s steps
-
-  -- a new piece begins where the open one ends
-  pub begun_by : (from : Scanned) (c : ℕ) (cs : List ℕ) (s : Start) → move from c ≡ Move.Breaks → start_of c ≡ s → steps_by move (Some from) (c ∷ cs) ≡ steps_by move (started (pieces_at from) c s) cs
-  begun_by from c cs s breaks starts_as = ap (λ (v : Move). steps_by move (moved from c v) cs) breaks ∙ ap (λ o. steps_by move (started (pieces_at from) c o) cs) starts_as
-
-  -- one more character in the open piece
-  pub grown_by : (done : List Piece) (m n : Mode) (held : List ℕ) (c : ℕ) (cs : List ℕ) → move (scanned done m held) c ≡ Move.Grows n → steps_by move (Some (scanned done m held)) (c ∷ cs) ≡ steps_by move (Some (scanned done n (held ++ c ∷ []))) cs
-  grown_by done m n held c cs grows = ap (λ (v : Move). steps_by move (moved (scanned done m held) c v) cs) grows
-
-  -- a run of characters, each of which goes on with the open piece
-  pub run_by : (done : List Piece) (m : Mode) (passes : ℕ → Bool) → ((held : List ℕ) (c : ℕ) → passes c ≡ true → move (scanned done m held) c ≡ Move.Grows m) → (held run : List ℕ) → list_all passes run ≡ true → steps_by move (Some (scanned done m held)) run ≡ Some (scanned done m (held ++ run))
-  run_by done m passes grows held [] all = all_held done m held
-  run_by done m passes grows held (c ∷ cs) all =
-      let parts = and_parts (passes c) (list_all passes cs) all in
-      grown_by done m m held c cs (grows held c parts.0) ∙ run_by done m passes grows (held ++ c ∷ []) cs parts.1 ∙ longer done m held c cs
-
-  -- the rest of a word
-  pub word_by : (done : List Piece) → ((s : Spelling) (held : List ℕ) (c : ℕ) → is_word_character c ≡ true → move (scanned done (Mode.Word s) held) c ≡ Move.Grows (Mode.Word (spelling_with s c))) → (s : Spelling) (held others : List ℕ) → list_all is_word_character others ≡ true → steps_by move (Some (scanned done (Mode.Word s) held)) others ≡ Some (scanned done (Mode.Word (spelling_on s others)) (held ++ others))
-  word_by done grows s held [] all = all_held done (Mode.Word s) held
-  word_by done grows s held (c ∷ cs) all =
-      let parts = and_parts (is_word_character c) (list_all is_word_character cs) all in
-      grown_by done (Mode.Word s) (Mode.Word (spelling_with s c)) held c cs (grows s held c parts.0)
-      ∙ word_by done grows (spelling_with s c) (held ++ c ∷ []) cs parts.1 ∙ longer done (Mode.Word (spelling_on s (c ∷ cs))) held c cs
-
--- the last character of the open piece
-pub closes : (done : List Piece) (m : Mode) (held : List ℕ) (c : ℕ) → move_of m c ≡ Move.Closes → steps_from (Some (scanned done m held)) (c ∷ []) ≡ Some (fresh (done ++ piece (class_of m) (held ++ c ∷ []) ∷ []))
-closes done m held c closing = ap (λ (v : Move). steps_from (moved (scanned done m held) c v) []) closing
-
-pub stops-free : (rest : List ℕ) → StopsBefore Mode.Free rest
+-- what a character closes is no bracket
+pub closing_neutral : (m : Mode) (text : List ℕ) (c : ℕ) → move_of m c ≡ Move.Closes → (is_opener (piece (class_of m) text) ≡ false) × (is_closer (piece (class_of m) text) ≡ false)
 unfolding move_of
-stops-free [] = refl
-stops-free (c ∷ cs) = refl
+closing_neutral Mode.Free text c h = absurd (cc)
+closing_neutral m text c h = (refl, refl)
 
 -- before a text that begins with no such character
 pub stops_unless : (m : Mode) (passes : ℕ → Bool) → is_final m ≡ true → ((c : ℕ) → passes c ≡ false → move_of m c ≡ Move.Breaks) → (rest : List ℕ) → begins passes rest ≡ false → StopsBefore m rest
@@ -119,10 +60,6 @@ grown-comment (c ∷ cs) none =
     let parts = or_parts (is_break c) (list_any is_break cs) none in
     (Mode.Comment, rw parts.0, grown-comment cs parts.1)
 
-grown-steps : (done : List Piece) (m n : Mode) (held text : List ℕ) → Grown m text n → steps_from (Some (scanned done m held)) text ≡ Some (scanned done n (held ++ text))
-grown-steps done m n held [] grown = ap (λ o. Some (scanned done o held)) grown ∙ all_held done n held
-grown-steps done m n held (c ∷ cs) (next, grows, others) = grown_by move_from done m next held c cs grows ∙ grown-steps done next n (held ++ c ∷ []) cs others ∙ longer done n held c cs
-
 -- a mode in which a piece of this class is open
 abbrev pub IsOpenAs : Class → Mode → Type 0
 IsOpenAs class m = (class_of m ≡ class) × ((done : List Piece) (held : List ℕ) → closed m done held ≡ done ++ piece (class_of m) held ∷ [])
@@ -137,31 +74,6 @@ pub ends_after : (class : Class) (m n : Mode) (a b rest : List ℕ) → Grown m 
 ends_after class m n a b rest first (ends_before o grown is stops) = ends_before o (grown-append m n o a b first grown) is stops
 ends_after class m n a b rest first (ends_at o front c cut grown is closing) =
     ends_at o (a ++ front) c (ap (λ t. a ++ t) cut ∙ sym (append_assoc a front (c ∷ []))) (grown-append m n o a front first grown) is closing
-
--- a piece is found that its last character ends
-pub found_fresh : (from : Scanned) (class : Class) (text rest : List ℕ) → steps_from (Some from) text ≡ Some (fresh (pieces_at from ++ piece class text ∷ [])) → Finds from text (piece class text ∷ []) rest
-found_fresh from class text rest steps = record { to = fresh (pieces_at from ++ piece class text ∷ []); steps = steps; pieces_are = refl; stops = stops-free rest }
-
--- a piece is found that a character opens, and that ends so
-pub found_open : (from : Scanned) (class : Class) (text rest : List ℕ) (c : ℕ) (cs : List ℕ) (m : Mode) → text ≡ c ∷ cs → start_of c ≡ Start.Open m → EndsWith class m cs rest → StopsBefore from.mode (text ++ rest) → Finds from text (piece class text ∷ []) rest
-found_open from class text rest c cs m is starts_as ends stops = subst (λ t. Finds from t (piece class t ∷ []) rest) (sym is) (go ends)
-  where
-    done : List Piece
-    done = pieces_at from
-
-    begun : steps_from (Some from) (c ∷ cs) ≡ steps_from (Some (scanned done m (c ∷ []))) cs
-    begun = begun_by move_from from c cs (Start.Open m) (subst (λ t. StopsBefore from.mode (t ++ rest)) is stops) starts_as
-
-    go : EndsWith class m cs rest → Finds from (c ∷ cs) (piece class (c ∷ cs) ∷ []) rest
-    go (ends_before n grown shape stops_so) = record {
-      to = scanned done n (c ∷ cs);
-      steps = begun ∙ grown-steps done m n (c ∷ []) cs grown;
-      pieces_are = shape.1 done (c ∷ cs) ∙ ap (λ k. done ++ piece k (c ∷ cs) ∷ []) shape.0;
-      stops = stops_so;
-    }
-    go (ends_at n front d cut grown shape closing) =
-        found_fresh from class (c ∷ cs) rest
-        (rw (begun, cut, steps_by-append move_from, grown-steps done m n (c ∷ []) front grown, closes done n (c ∷ front) d closing, shape))
 
 -- whether a word is open
 abbrev pub is_word_mode : Mode → Bool

@@ -1,18 +1,14 @@
--- What each character does to the open piece alone; so where the machine has come, the pieces that it found spell what it read,
--- and are read before whatever follows.
-use Rattle.std.proofs.Common.{◌≡◌, ℕ, true, false, eqb, Option, None, Some, List, [], ◌∷◌, ◌++◌, refl, sym, ap, ◌∙◌, subst, inl, inr, append_assoc, append-nil, arith}
+-- What each character does to the open piece alone.
+use Rattle.std.proofs.Common.{◌≡◌, ℕ, true, false, eqb, List, [], ◌∷◌, ◌++◌, refl, sym, ap, ◌∙◌, subst, inl, inr, append_assoc, arith}
 use Rattle.std.proofs.lemmas.Bool.{cond_both, and_from, and_left, and_right, eqb-true}
 use Rattle.std.proofs.lemmas.Bool.Decides.{nat_tests}
 use Rattle.py_lines.specs.Character.{is_mark, is_space, is_word_character, is_quote, is_line_feed, is_return, is_break}
-use Rattle.py_lines.specs.Piece.{Class, mark, string, operator, line_end, Piece, ends, spelled}
-use Rattle.py_lines.specs.PieceGrammar.{feed, return_feed, return, without_fields, InPlainClass, is_prefix, joined, MayPrecedePlain, AreReadPlain}
-use Rattle.py_lines.specs.Private.Machine.{Spelling, Mode, Move, Start, IsSound, Holds, HoldsShort, HoldsSome, HoldsQuotes, HoldsPrefix, HoldsLong, Scanned, fresh, class_of, closed, started, moved, step, move_of, short_move, long_move, start_of, first_spelling, spelling_with, is_prefix_spelling, is_final}
-use Rattle.py_lines.proofs.Pieces.PieceLists.{piece, spelled-push, AreReadIn-push, MayFollow, follows_any}
+use Rattle.py_lines.specs.Piece.{string, operator, line_end, Piece, ends}
+use Rattle.py_lines.specs.PieceGrammar.{feed, return_feed, return, InPlainClass, is_prefix, joined, MayPrecedePlain, AreReadPlain}
+use Rattle.py_lines.specs.Private.Machine.{Spelling, Mode, Move, Start, Holds, HoldsShort, HoldsSome, HoldsQuotes, HoldsPrefix, HoldsLong, class_of, closed, move_of, short_move, long_move, start_of, first_spelling, spelling_with, is_prefix_spelling, is_final}
 use Rattle.py_lines.proofs.Machine.Starts.{StartsSo, starts_so}
 use Rattle.py_lines.proofs.Machine.Spellings.{spelling_on-push, prefix_spelling}
 use Rattle.py_lines.proofs.Text.CharacterTests.{feed_is, return_is, barred, feed-not-others}
-use Rattle.py_lines.proofs.Fields.Parts.{not_nothing}
-use Rattle.py_lines.proofs.Machine.PieceSteps.{scanned}
 use Rattle.py_lines.proofs.Machine.OpenPieces.{list_all-push, list_any-push, push, same_quotes, something, long_something, short_push, prefix_push, opening_none, opening_one, opening_two, none_yet, one_more_quote, short_string, long_string}
 
 -- what a character begins
@@ -128,7 +124,6 @@ move_holds Mode.JoinReturn held c (slash, r, is, slashes, returns) =
     (λ h. ((slash, r ∷ c ∷ [], spell, slashes, return_feed (feed_after r c returns h)), λ more. and_left _ _ (ap (ends is_return) spell ∙ (feed-not-others c h).2)))
     (λ h more. ((slash, r ∷ [], is, slashes, return (ap (λ d. d ∷ []) (return_is r returns))), and_right _ _ h, refl, tt))
 move_holds Mode.Return held c (r, is, returns) = grind (arith, return_feed, return, feed_after r c returns, return_is r returns, λ (h : is_line_feed c ≡ true). (feed-not-others c h).2)
-move_holds m held c holds = absurd holds
 
 -- and at the text's end
 pub end_holds : (m : Mode) (held : List ℕ) → Holds m [] held → is_final m ≡ true → AreReadPlain (closed m [] held) []
@@ -137,68 +132,3 @@ end_holds (Mode.Empty q) held holds may = (empty_string q held holds, λ prefix 
 end_holds Mode.JoinReturn held (slash, r, is, slashes, returns) may = ((slash, r ∷ [], is, slashes, return (ap (λ d. d ∷ []) (return_is r returns))), and_right _ _ refl, refl, tt)
 end_holds Mode.Return held (r, is, returns) may = (return (is ∙ ap (λ d. d ∷ []) (return_is r returns)), and_right _ _ refl, refl, tt)
 end_holds m held holds may = grind arith
-
--- what the open piece holds alone it holds after finished pieces, but at the text's start
-holds_alone : (m : Mode) (done : List Piece) (held : List ℕ) → Holds m done held → Holds m [] held
-holds_alone Mode.Start done held holds = (refl, holds.1)
-holds_alone m done held holds = holds
-
-holds_after : (m : Mode) (done : List Piece) (held : List ℕ) (c : ℕ) → Holds m [] (held ++ c ∷ []) → Holds m done (held ++ c ∷ [])
-holds_after Mode.Start done held c holds = absurd (not_nothing held c [] holds.1)
-holds_after m done held c holds = holds
-
-may_follow : (m : Mode) (done : List Piece) (held text : List ℕ) → Holds m done held → MayFollow done (piece (class_of m) text ∷ [])
-may_follow Mode.Start done held text holds = subst (λ l. MayFollow l (piece mark text ∷ [])) (sym holds.0) tt
-may_follow m done held text holds = follows_any done (class_of m) text refl
-
--- the pieces, the open one with them
-nothing_open : (done : List Piece) (held rest : List ℕ) → held ≡ [] → AreReadPlain done (held ++ rest) → (spelled done ≡ spelled done ++ held) × AreReadPlain done rest
-nothing_open done held rest none fit = (sym (append-nil (spelled done)) ∙ ap (λ t. spelled done ++ t) (sym none), subst (λ t. AreReadPlain done (t ++ rest)) none fit)
-
-closed_sound : (m : Mode) (done : List Piece) (held rest : List ℕ) → Holds m done held → AreReadPlain done (held ++ rest) → AreReadPlain (closed m [] held) rest → (spelled (closed m done held) ≡ spelled done ++ held) × AreReadPlain (closed m done held) rest
-closed_sound Mode.Start done held rest holds fit own = nothing_open done held rest holds.1 fit
-closed_sound Mode.Free done held rest holds fit own = nothing_open done held rest holds fit
-closed_sound m done held rest holds fit own = (spelled-push done (class_of m) held, AreReadIn-push without_fields done (class_of m) held rest fit own.0 own.1 (follows_any done (class_of m) held refl))
-
-abbrev pub SoundIf : Option Scanned → List ℕ → Type 0
-SoundIf None read = Unit {0}
-SoundIf (Some s) read = IsSound s read
-
--- a piece that is finished, with nothing open after it
-finished : (done : List Piece) (class : Class) (text read : List ℕ) → spelled done ++ text ≡ read → ((more : List ℕ) → AreReadPlain done (text ++ more)) → InPlainClass class text → ((more : List ℕ) → MayPrecedePlain class text more) → MayFollow done (piece class text ∷ []) → IsSound (fresh (done ++ piece class text ∷ [])) read
-finished done class text read spell fit is before follows = record {
-  spell = append-nil (spelled (done ++ piece class text ∷ [])) ∙ spelled-push done class text ∙ spell;
-  holds = refl;
-  fit = λ more. AreReadIn-push without_fields done class text more (fit more) is (before more) follows;
-}
-
--- a character begins a piece after finished ones
-start_sound : (done : List Piece) (read : List ℕ) (c : ℕ) (s : Start) → StartHolds c s → spelled done ≡ read → ((more : List ℕ) → AreReadPlain done (c ∷ more)) → SoundIf (started done c s) (read ++ c ∷ [])
-start_sound done read c (Start.Open m) own spell fit = record { spell = ap (λ t. t ++ c ∷ []) spell; holds = holds_after m done [] c own; fit = fit }
-start_sound done read c Start.Operator own spell fit = finished done operator (c ∷ []) (read ++ c ∷ []) (ap (λ t. t ++ c ∷ []) spell) fit own (λ more. tt) (follows_any done operator (c ∷ []) refl)
-start_sound done read c Start.LineEnd own spell fit = finished done line_end (c ∷ []) (read ++ c ∷ []) (ap (λ t. t ++ c ∷ []) spell) fit own.0 own.1 (follows_any done line_end (c ∷ []) refl)
-start_sound done read c Start.Nothing own spell fit = tt
-
--- what the machine reads keeps it sound
-pub step_sound : (done : List Piece) (m : Mode) (held read : List ℕ) (c : ℕ) → IsSound (scanned done m held) read → SoundIf (step (scanned done m held) c) (read ++ c ∷ [])
-step_sound done m held read c sound = go (move_of m c) (move_holds m held c (holds_alone m done held sound.holds))
-  where
-    spell : spelled done ++ (held ++ c ∷ []) ≡ read ++ c ∷ []
-    spell = sym (append_assoc (spelled done) held (c ∷ [])) ∙ ap (λ t. t ++ c ∷ []) sound.spell
-
-    fit : (more : List ℕ) → AreReadPlain done ((held ++ c ∷ []) ++ more)
-    fit more = subst (AreReadPlain done) (sym (append_assoc held (c ∷ []) more)) (sound.fit (c ∷ more))
-
-    go : (v : Move) → MoveHolds m held c v → SoundIf (moved (scanned done m held) c v) (read ++ c ∷ [])
-    go (Move.Grows n) own = record { spell = spell; holds = holds_after n done held c own; fit = fit }
-    go Move.Closes own = finished done (class_of m) (held ++ c ∷ []) (read ++ c ∷ []) spell fit own.0 own.1 (may_follow m done held (held ++ c ∷ []) sound.holds)
-    go Move.Breaks own =
-        let pieces = λ (more : List ℕ). closed_sound m done held (c ∷ more) sound.holds (sound.fit (c ∷ more)) (own more) in
-        start_sound (closed m done held) read c (start_of c) (start_holds c) ((pieces []).0 ∙ sound.spell) (λ more. (pieces more).1)
-    go Move.Refused own = tt
-
--- and where the text may end, the pieces are read to its end
-pub end_sound : (done : List Piece) (m : Mode) (held read : List ℕ) → IsSound (scanned done m held) read → is_final m ≡ true → (spelled (closed m done held) ≡ read) × AreReadPlain (closed m done held) []
-end_sound done m held read sound may =
-    let pieces = closed_sound m done held [] sound.holds (sound.fit []) (end_holds m held (holds_alone m done held sound.holds) may) in
-    (pieces.0 ∙ sound.spell, pieces.1)

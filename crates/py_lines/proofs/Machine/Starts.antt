@@ -1,7 +1,9 @@
 -- What each character begins.
-use Rattle.std.proofs.Common.{◌≡◌, ℕ, true, [], ◌∷◌, refl, sym, subst, arith}
+use Rattle.std.proofs.Common.{◌≡◌, ℕ, true, false, [], ◌∷◌, refl, sym, ◌∙◌, subst, arith}
+use Rattle.std.proofs.lemmas.Bool.{false_from_ne_true}
 use Rattle.unicode_ident.proofs.Computing.{unicode_ident}
 use Rattle.py_lines.specs.Character.{is_mark, is_space, is_word_start, is_digit, is_quote, is_operator, is_line_feed, is_return, is_hash, is_backslash}
+use Rattle.py_lines.specs.Balance.{is_opening}
 use Rattle.py_lines.specs.Private.Machine.{Mode, Start, start_of, first_spelling}
 use Rattle.py_lines.proofs.Text.CharacterTests.{each_of, mark_is}
 
@@ -65,3 +67,12 @@ StartsSo c Start.Nothing = Unit {0}
 pub starts_so : (c : ℕ) → StartsSo c (start_of c)
 unfolding start_of
 starts_so c = grind arith
+
+-- an opening bracket is an operator
+pub opening_operator : (c : ℕ) → is_opening c ≡ true → is_operator c ≡ true
+unfolding is_opening is_operator
+opening_operator c h = each_of (λ x. is_operator x ≡ true) (40 ∷ 91 ∷ 123 ∷ []) c (refl, (refl, (refl, tt))) h
+
+-- what begins no operator is no opening bracket
+pub opens_no : (c : ℕ) (x : Start) → start_of c ≡ x → (x ≡ Start.Operator → ⊥) → is_opening c ≡ false
+opens_no c x is other = false_from_ne_true _ (λ opens. other (sym is ∙ start-operator c (opening_operator c opens)))

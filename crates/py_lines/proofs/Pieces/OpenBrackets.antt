@@ -1,11 +1,11 @@
--- Brackets are in pairs exactly where a stack of open ones is empty at the end.
+-- Brackets in pairs, their depth, and the stack of open ones: balanced pieces leave it as it was.
 use Rattle.std.proofs.Common.{◌≡◌, ℕ, suc, ◌<◌, Bool, true, false, ◌==◌, Option, None, Some, List, [], ◌∷◌, ◌++◌, length, nat_lt, refl, sym, ap, ◌∙◌, subst, append_assoc, append-nil, add-one, arith}
-use Rattle.std.proofs.lemmas.Bool.{cond_both, or_parts, or_from, both_ways, lt-ltb, ltb-true}
+use Rattle.std.proofs.lemmas.Bool.{cond_both, or_parts, both_ways, lt-ltb}
 use Rattle.py_lines.specs.Piece.{Class, operator, Piece, begins, spelled}
 use Rattle.py_lines.specs.Balance as balance
 use Rattle.py_lines.specs.Balance.{is_opening, is_closing, closing_of, is_operator_that, is_opener, is_closer, ArePair, IsBalanced, depth_after, depth_through, EachAtDepth, OpensShallow, IsShallowPlain}
 use Rattle.py_lines.specs.LogicalLine.{first_or_zero, byte_len}
-use Rattle.py_lines.specs.Private.Machine.{Bracket, closed_by, opened_by, brackets_after, brackets_through, brackets_of}
+use Rattle.py_lines.specs.Private.Machine.{Bracket, brackets_after, brackets_through, brackets_of}
 use Rattle.py_lines.proofs.Text.CharacterTests.{none_of}
 
 -- a closing bracket is no opening one
@@ -38,11 +38,7 @@ pub depth_through-append : (d : ℕ) (ps qs : List Piece) → depth_through d (p
 depth_through-append d [] qs = refl
 depth_through-append d (p ∷ ps) qs = depth_through-append (depth_after d p) ps qs
 
--- what holds of each piece of two lists, one after another
-pub EachAtDepth-append : (P : ℕ → Piece → Type 0) (d : ℕ) (ps qs : List Piece) → EachAtDepth P d ps → EachAtDepth P (depth_through d ps) qs → EachAtDepth P d (ps ++ qs)
-EachAtDepth-append P d [] qs h k = k
-EachAtDepth-append P d (p ∷ ps) qs h k = (h.0, EachAtDepth-append P (depth_after d p) ps qs h.1 k)
-
+-- what holds of each piece of two lists, one after another, holds of each of both
 pub EachAtDepth-parts : (P : ℕ → Piece → Type 0) (d : ℕ) (ps qs : List Piece) → EachAtDepth P d (ps ++ qs) → EachAtDepth P d ps × EachAtDepth P (depth_through d ps) qs
 EachAtDepth-parts P d [] qs h = (tt, h)
 EachAtDepth-parts P d (p ∷ ps) qs h =
@@ -76,6 +72,13 @@ pub other_keeps : (st : List Bracket) (place : ℕ) (p : Piece) → is_opener p 
 unfolding brackets_after
 other_keeps st place p h k = rw (h, k)
 
+pub are_pair : (a b : Piece) → is_opener a ≡ true → is_closer b ≡ true → first_or_zero b.text == closing_of (first_or_zero a.text) ≡ true → ArePair a b
+are_pair a b opens closes same = record {
+  opens = opens;
+  closes = closes;
+  kind = kinds_agree a.text b.text (operator_begins is_opening a.class a.text opens) (operator_begins is_closing b.class b.text closes) ∙ same;
+}
+
 pub pair_kind : (a b : Piece) → ArePair a b → first_or_zero b.text == closing_of (first_or_zero a.text) ≡ true
 pair_kind a b both = sym (kinds_agree a.text b.text (operator_begins is_opening a.class a.text both.opens) (operator_begins is_closing b.class b.text both.closes)) ∙ both.kind
 
@@ -93,96 +96,6 @@ balanced_through ps (balance.both _ first second is left right) st done shallow 
     let later = balanced_through second right st (done ++ first) (subst (λ (n : ℕ). IsShallowPlain n second) (balanced_depth first left (length st)) parts.1) in
     cc (through-append (Some st) done first second, balanced_through first left st done parts.0, later)
 
--- the brackets that are open after pieces, each with the balanced pieces after it
-pub data StandsAt : List Bracket → List Piece → Type 0 where
-  level : (bs : List Bracket) (ps : List Piece) → bs ≡ [] → IsBalanced ps → StandsAt bs ps
-  inside : (bs : List Bracket) (ps : List Piece) (b : Bracket) (others : List Bracket) (outer inner : List Piece) (a : Piece) → bs ≡ b ∷ others → ps ≡ outer ++ a ∷ inner → StandsAt others outer → is_opener a ≡ true → b.opener ≡ first_or_zero a.text → b.place ≡ byte_len (spelled outer) → IsBalanced inner → StandsAt bs ps
-
-pub record Stands (bs : List Bracket) (ps : List Piece) : Type 0 where
-  pub at : StandsAt bs ps
-  pub shallow : IsShallowPlain 0 ps
-  pub depth : depth_through 0 ps ≡ length bs
-
-stands-more : (bs : List Bracket) (ps qs : List Piece) → StandsAt bs ps → IsBalanced qs → StandsAt bs (ps ++ qs)
-stands-more bs ps qs (level _ _ empty within) more = level bs (ps ++ qs) empty (balance.both (ps ++ qs) ps qs refl within more)
-stands-more bs ps qs (inside _ _ b others outer inner a is spell out opens kind place within) more =
-    inside bs (ps ++ qs) b others outer (inner ++ qs) a is (ap (λ l. l ++ qs) spell ∙ append_assoc outer (a ∷ inner) qs) out opens kind place (balance.both (inner ++ qs) inner qs refl within more)
-
-abbrev pub StandsIf : Option (List Bracket) → List Piece → Type 0
-StandsIf None ps = Unit {0}
-StandsIf (Some bs) ps = Stands bs ps
-
--- one more piece, where the brackets that stand then are known
-stands_with : (bs cs : List Bracket) (ps : List Piece) (p : Piece) → Stands bs ps → StandsAt cs (ps ++ p ∷ []) → (is_opener p ≡ true → length bs < 200) → depth_after (length bs) p ≡ length cs → Stands cs (ps ++ p ∷ [])
-stands_with bs cs ps p stands at room after = record {
-  at = at;
-  shallow = EachAtDepth-append OpensShallow 0 ps (p ∷ []) stands.shallow ((λ opens. subst (λ (n : ℕ). n < 200) (sym stands.depth) (room opens)), tt);
-  depth = depth_through-append 0 ps (p ∷ []) ∙ ap (λ (d : ℕ). depth_after d p) stands.depth ∙ after;
-}
-
-stands-opener : (bs : List Bracket) (ps : List Piece) (p : Piece) → Stands bs ps → is_opener p ≡ true → StandsIf (opened_by (first_or_zero p.text) (byte_len (spelled ps)) bs) (ps ++ p ∷ [])
-stands-opener bs ps p stands opens =
-    let top : Bracket = record { opener = first_or_zero p.text; place = byte_len (spelled ps) } in
-    cond_both (nat_lt (length bs) 200) (Some (top ∷ bs)) None (λ o. StandsIf o (ps ++ p ∷ []))
-    (λ room. stands_with bs (top ∷ bs) ps p stands (inside (top ∷ bs) (ps ++ p ∷ []) top bs ps [] p refl refl stands.at opens refl refl (balance.none [] refl)) (λ h. ltb-true (length bs) 200 room) (depth-opener (length bs) p opens))
-    (λ full. tt)
-
-stands-pops : (b : Bracket) (bs : List Bracket) (ps : List Piece) (p : Piece) → StandsAt (b ∷ bs) ps → is_closer p ≡ true → first_or_zero p.text == closing_of b.opener ≡ true → StandsAt bs (ps ++ p ∷ [])
-stands-pops b bs ps p (level _ _ empty within) closes kind = absurd (cc)
-stands-pops b bs ps p (inside _ _ c others outer inner a is spell out opens kind place within) closes same =
-    let top : b ≡ c = cc in
-    let rest : others ≡ bs = cc in
-    let both : ArePair a p = record {
-      opens = opens;
-      closes = closes;
-      kind = kinds_agree a.text p.text (operator_begins is_opening a.class a.text opens) (operator_begins is_closing p.class p.text closes)
-          ∙ subst (λ (x : ℕ). first_or_zero p.text == closing_of x ≡ true) (ap (λ (x : Bracket). x.opener) top ∙ kind) same;
-    } in
-    subst (StandsAt bs) (sym (ap (λ l. l ++ p ∷ []) spell ∙ append_assoc outer (a ∷ inner) (p ∷ [])))
-    (stands-more bs outer (a ∷ inner ++ p ∷ []) (subst (λ l. StandsAt l outer) rest out) (balance.pair (a ∷ inner ++ p ∷ []) inner a p refl both within))
-
-stands-closer : (bs : List Bracket) (ps : List Piece) (p : Piece) → Stands bs ps → is_closer p ≡ true → StandsIf (closed_by (first_or_zero p.text) bs) (ps ++ p ∷ [])
-stands-closer [] ps p stands closes = tt
-stands-closer (b ∷ bs) ps p stands closes =
-    cond_both (first_or_zero p.text == closing_of b.opener) (Some bs) None (λ o. StandsIf o (ps ++ p ∷ []))
-    (λ same. stands_with (b ∷ bs) bs ps p stands (stands-pops b bs ps p stands.at closes same) (λ opens. absurd (both_ways _ (closer-not-opener p closes) opens)) (depth-closer (length bs) p closes))
-    (λ other. tt)
-
--- one more piece
-pub stands-push : (bs : List Bracket) (ps : List Piece) (p : Piece) → Stands bs ps → StandsIf (brackets_after bs (byte_len (spelled ps)) p) (ps ++ p ∷ [])
-unfolding brackets_after
-stands-push bs ps p stands =
-    cond_both (is_opener p) _ _ (λ o. StandsIf o (ps ++ p ∷ []))
-    (λ opens. stands-opener bs ps p stands opens)
-    (λ opens_not. cond_both (is_closer p) _ _ (λ o. StandsIf o (ps ++ p ∷ []))
-    (λ closes. stands-closer bs ps p stands closes)
-    (λ closes_not. stands_with bs bs ps p stands (stands-more bs ps (p ∷ []) stands.at (balance.one (p ∷ []) p refl (or_from _ _ opens_not closes_not))) (λ opens. absurd (both_ways _ opens_not opens)) (depth-other (length bs) p opens_not closes_not)))
-
--- more pieces
-pub stands-through : (ps done : List Piece) (o : Option (List Bracket)) → StandsIf o done → StandsIf (brackets_through o done ps) (done ++ ps)
-stands-through ps done None stands = tt
-stands-through [] done (Some bs) stands = subst (Stands bs) (sym (append-nil done)) stands
-stands-through (p ∷ ps) done (Some bs) stands =
-    subst (StandsIf (brackets_through (brackets_after bs (byte_len (spelled done)) p) (done ++ p ∷ []) ps)) (append_assoc done (p ∷ []) ps)
-    (stands-through ps (done ++ p ∷ []) (brackets_after bs (byte_len (spelled done)) p) (stands-push bs done p stands))
-
-stands-none : Stands [] []
-stands-none = record { at = level [] [] refl (balance.none [] refl); shallow = tt; depth = refl }
-
--- where the stack comes to, the pieces stand so
-pub stands : (ps : List Piece) (bs : List Bracket) → brackets_of ps ≡ Some bs → Stands bs ps
-stands ps bs steps = subst (λ o. StandsIf o ps) steps (stands-through ps [] (Some []) stands-none)
-
-balanced_at : (bs : List Bracket) (ps : List Piece) → bs ≡ [] → StandsAt bs ps → IsBalanced ps
-balanced_at bs ps empty (level _ _ is within) = within
-balanced_at bs ps empty (inside _ _ b others outer inner a is spell out opens kind place within) = absurd (cc)
-
--- an empty stack at the end says that brackets are in pairs, and never more than 200 open
-pub balanced-from_stack : (ps : List Piece) → brackets_of ps ≡ Some [] → IsBalanced ps × IsShallowPlain 0 ps
-balanced-from_stack ps steps =
-    let at_end = stands ps [] steps in
-    (balanced_at [] ps refl at_end.at, at_end.shallow)
-
 pub stack-from_balanced : (ps : List Piece) → IsBalanced ps → IsShallowPlain 0 ps → brackets_of ps ≡ Some []
 stack-from_balanced ps balanced shallow = balanced_through ps balanced [] [] shallow
 
@@ -193,10 +106,6 @@ some_before f none None b is =
     absurd (cc)
 some_before f none (Some a) b is = (a, refl)
 
--- the stack of the first pieces
-pub stack_before : (ps qs : List Piece) (bs : List Bracket) → brackets_of (ps ++ qs) ≡ Some bs → (first : List Bracket) × (brackets_of ps ≡ Some first)
-stack_before ps qs bs steps = some_before (λ o. brackets_through o ps qs) refl (brackets_of ps) bs (sym (through-append (Some []) [] ps qs) ∙ steps)
-
 -- the stack after one more piece
 pub stack_push : (done : List Piece) (p : Piece) (st : List Bracket) → brackets_of done ≡ Some st → brackets_of (done ++ p ∷ []) ≡ brackets_after st (byte_len (spelled done)) p
 stack_push done p st stack = through-append (Some []) [] done (p ∷ []) ∙ ap (λ o. brackets_through o done (p ∷ [])) stack ∙ go (brackets_after st (byte_len (spelled done)) p)
@@ -204,3 +113,47 @@ stack_push done p st stack = through-append (Some []) [] done (p ∷ []) ∙ ap 
     go : (o : Option (List Bracket)) → brackets_through o (done ++ p ∷ []) [] ≡ o
     go None = refl
     go (Some bs) = refl
+
+-- where the brackets after pieces are known, they are after the first of them
+through_parts : (st after : List Bracket) (done ps qs : List Piece) → brackets_through (Some st) done (ps ++ qs) ≡ Some after
+    → (mid : List Bracket) × (brackets_through (Some st) done ps ≡ Some mid) × (brackets_through (Some mid) (done ++ ps) qs ≡ Some after)
+through_parts st after done ps qs steps =
+    let whole = sym (through-append (Some st) done ps qs) ∙ steps in
+    let (mid, first) = some_before (λ o. brackets_through o (done ++ ps) qs) refl (brackets_through (Some st) done ps) after whole in
+    (mid, first, ap (λ o. brackets_through o (done ++ ps) qs) (sym first) ∙ whole)
+
+-- an opening one is the innermost then
+abbrev top_at : List Piece → Piece → Bracket
+top_at done p = record { opener = first_or_zero p.text; place = byte_len (spelled done) }
+
+opened_is : (st mid : List Bracket) (done : List Piece) (p : Piece) → is_opener p ≡ true → brackets_through (Some st) done (p ∷ []) ≡ Some mid
+    → mid ≡ top_at done p ∷ st
+unfolding brackets_after
+opened_is st mid done p opens is =
+    let P : Option (List Bracket) → Type 0 = λ o. brackets_through o (done ++ p ∷ []) [] ≡ Some mid → mid ≡ top_at done p ∷ st in
+    cond_both (nat_lt (length st) 200) (Some (top_at done p ∷ st)) None P (λ room same. (cc)) (λ full none. absurd (cc)) (rw (opens, brackets_through) at is)
+
+-- and balanced pieces leave those that were before
+balanced_back : (ps : List Piece) → IsBalanced ps → (st after : List Bracket) (done : List Piece) → brackets_through (Some st) done ps ≡ Some after → after ≡ st
+balanced_back ps (balance.none _ is) st after done steps = cc
+balanced_back ps (balance.one _ p is other) st after done steps =
+    let parts = or_parts (is_opener p) (is_closer p) other in
+    cc (other_keeps st (byte_len (spelled done)) p parts.0 parts.1)
+balanced_back ps (balance.pair _ inner a b is both within) st after done steps =
+    let (mid, first, last) = through_parts st after done (a ∷ inner) (b ∷ []) (ap (brackets_through (Some st) done) (sym is) ∙ steps) in
+    let (one, begun, more) = through_parts st mid done (a ∷ []) inner first in
+    let same = balanced_back inner within one mid (done ++ a ∷ []) more ∙ opened_is st one done a both.opens begun in
+    cc (same, last, closer_pops st (byte_len (spelled (done ++ a ∷ inner))) (top_at done a) b both.closes (pair_kind a b both))
+balanced_back ps (balance.both _ first second is left right) st after done steps =
+    let (mid, one, two) = through_parts st after done first second (ap (brackets_through (Some st) done) (sym is) ∙ steps) in
+    balanced_back second right mid after (done ++ first) two ∙ balanced_back first left st mid done one
+
+-- the innermost open bracket is that after which balanced pieces stand
+pub innermost_place : (outer inner : List Piece) (a : Piece) (b : Bracket) (bs : List Bracket) → is_opener a ≡ true → IsBalanced inner
+    → brackets_of (outer ++ a ∷ inner) ≡ Some (b ∷ bs) → b.place ≡ byte_len (spelled outer)
+innermost_place outer inner a b bs opens within stack =
+    let (st, first, rest) = through_parts [] (b ∷ bs) [] outer (a ∷ inner) stack in
+    let (mid, begun, more) = through_parts st (b ∷ bs) outer (a ∷ []) inner rest in
+    let is = balanced_back inner within mid (b ∷ bs) (outer ++ a ∷ []) more ∙ opened_is st mid outer a opens begun in
+    let top : b ≡ top_at outer a = cc in
+    ap (λ (x : Bracket). x.place) top

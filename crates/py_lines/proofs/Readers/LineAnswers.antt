@@ -1,19 +1,18 @@
 -- What the reader answers: its state after a line, and where a text ends, or is refused, its last line or the fault that stands there.
-use Rattle.std.proofs.Common.{◌≡◌, ℕ, ◌+◌, ◌-◌, ◌<◌, ◌≤◌, ◌⊎◌, inl, inr, true, None, Some, List, [], ◌∷◌, ◌++◌, length, take, drop, refl, sym, ap, ◌∙◌, subst, append_assoc, append-nil, arith, length-append, length-drop, length-take, Bool, false, ◌==◌}
-use Rattle.std.specs.Prelude.{encode_utf8_all, IsUtf8, if◌then◌else◌, encode_utf8, Result, Ok, Err}
+use Rattle.std.proofs.Common.{◌≡◌, ℕ, ◌+◌, ◌-◌, ◌<◌, ◌≤◌, ◌⊎◌, inl, inr, true, None, Some, List, [], ◌∷◌, ◌++◌, length, take, drop, refl, sym, ap, ◌∙◌, subst, append_assoc, append-nil, arith, length-append, length-drop, length-take, Bool, false, ◌==◌, encode_utf8_all, IsUtf8, if◌then◌else◌, encode_utf8, Result, Ok, Err}
 use Rattle.std.specs.Str.{all_scalars, IsCharBoundary, StartsWithNoChar}
 use Rattle.std.specs.Borrow.{Bor}
 use Rattle.std.proofs.lemmas.List.{append_cancel_left, drop-append-le, drop-drop, take-append-drop, take_all, nil_from_length}
 use Rattle.std.proofs.lemmas.Str.{length-le-encodes, encodes-append, IsUtf8-drop, IsUtf8-had, IsCharBoundary-from_rest, IsCharBoundary-at_seam, encodes_same, encode_ascii, encode_same}
 use Rattle.std.proofs.Math.Seq.{take-append_seam, drop-append_seam}
-use Rattle.std.proofs.lemmas.Bool.{both_ways, and_from, eq-eqb, false_from_ne_true, eqb-true}
-use Rattle.py_lines.specs.Character.{is_line_feed}
-use Rattle.py_lines.specs.Piece.{Class, line_end, Piece, begins, spelled}
+use Rattle.std.proofs.lemmas.Bool.{and_parts, both_ways, and_from, eq-eqb, false_from_ne_true, eqb-true}
+use Rattle.py_lines.specs.Character.{is_line_feed, is_return}
+use Rattle.py_lines.specs.Piece.{Class, line_end, Piece, begins, begins_marked, ends, spelled}
 use Rattle.py_lines.specs.Fields.{InClass, AreReadBefore, IsShallow, fielded}
 use Rattle.py_lines.specs.Reading as reading
+use Rattle.py_lines.specs.Reading.{Decodes}
 use Rattle.py_lines.specs.LogicalLine.{LogicalLine, cut, byte_len, line_ends, line_of, end_len_of, is_line_end_class}
 use Rattle.py_lines.specs.Reader.{HasGiven, Continues, standing_at, Fails}
-use Rattle.py_lines.specs.Reader.View.{reader_of}
 use Rattle.py_lines.specs.Token.{EachLiesIn}
 use Rattle.py_lines.specs.Balance.{IsBalanced, depth_through, depth_after}
 use Rattle.py_lines.specs.Balance as brackets
@@ -21,50 +20,37 @@ use Rattle.py_lines.specs.Given.{AreFirstLines}
 use Rattle.py_lines.specs.Settled.{EndsForGood}
 use Rattle.py_lines.specs.ScannerState.{GoesOnWith}
 use Rattle.py_lines.specs.Lexed.{IsLexed}
-use Rattle.py_lines.specs.declared.line_state.LineState.{LineState}
-use Rattle.py_lines.specs.Private.Machine.{Mode, Scanned, brackets_of, is_final}
 use Rattle.py_lines.specs.declared.scan.Scan.{Scan}
-use Rattle.py_lines.specs.declared.scan.Stop.{Stop}
 use Rattle.py_lines.specs.declared.scan.Stop.TheVariants as stops
-use Rattle.py_lines.specs.declared.source.Source.{Source}
 use Rattle.py_lines.specs.declared.fault.FaultKind.TheVariants.{BadUtf8}
 use Rattle.py_lines.specs.declared.fault.Fault.{Fault}
-use Rattle.py_lines.specs.declared.fault.LexError.{LexError}
 use Rattle.py_lines.specs.Private.Mode as modes
-use Rattle.py_lines.specs.declared.scan.LineFault.{LineFault}
-use Rattle.py_lines.specs.declared.fault.FaultKind.{FaultKind}
-use Rattle.py_lines.specs.Private.ScanMachine.{scan_steps, StringsFit, IsScanSound}
-use Rattle.py_lines.specs.Private.LineScan.{IsAtLineEnd, IsLeft, line_start, IsUnderWay, EndsNoLine, none_open}
+use Rattle.py_lines.specs.Private.LineScan.{EndsNoLine, IsApart, IsAtLineEnd, IsLeft, IsUnderWay, begins_line, line_begun}
 use Rattle.py_lines.specs.Private.Scan.{EndsTextSo, HasPending, IsFieldEnd, has_returned, EndsAs, Follows, Goes, GoesOverAll, StandsAs}
 use Rattle.py_lines.specs.Private.LineState.{first_mode, IsFaultAfter}
 use Rattle.py_lines.specs.Private.FieldFaults.{here, unfinished_at}
 use Rattle.py_lines.specs.Private.LineTokens.{AreLineText, IsLineText}
-use Rattle.py_lines.specs.Private.Source.{line_of_source, scanned_text, GivesTokens, HasScanned, EndsLine, FailsAfter}
+use Rattle.py_lines.specs.Private.Source.{line_of_source, scanned_text, GivesTokens, HasScanned, EndsLine, FailsAfter, reader_of, LineState, Mode, Stop, Source, LexError, LineFault, FaultKind}
 use Rattle.py_lines.proofs.Text.Incomplete.{text_none}
 use Rattle.py_lines.proofs.Text.Utf8Prefixes.{prefix_chars, all_scalars-parts, one_decoding}
 use Rattle.py_lines.proofs.Pieces.PieceLists.{spelled-append, AreReadIn-append, AreReadBefore-second}
 use Rattle.py_lines.proofs.LogicalLines.TokenPlaces.{each_after}
 use Rattle.py_lines.proofs.LogicalLines.Cuts.{byte_len-append, one_line, line_depth, one_part}
+use Rattle.py_lines.proofs.Lexings.LineEnds.{ends-line, read_on}
 use Rattle.py_lines.proofs.LineScan.LineCount.{line_ends-bytes}
-use Rattle.py_lines.proofs.LineScan.LineSteps.{follows_whole, returned, way_here, goes_on, rests_end}
+use Rattle.py_lines.proofs.LineScan.LineSteps.{follows_whole, goes_on, rests_end, returned, unmarked, way_here, way_runs, way_sound}
 use Rattle.py_lines.proofs.LineScan.TextSteps.{follows_base, begun_sound}
 use Rattle.py_lines.proofs.Lexings.FirstLines.{base_lines, ends_for_good, given_begin, piece_some}
 use Rattle.py_lines.proofs.Feeds.Known.{IsKnown, is_known}
-use Rattle.py_lines.proofs.Pieces.OpenBrackets.{balanced_depth, depth_through-append, stands}
-use Rattle.py_lines.proofs.Pieces.ShallowPieces.{IsShallow-append, fits_reading}
-use Rattle.py_lines.proofs.LineScan.PieceEnd.{no_class_bracket}
-use Rattle.py_lines.proofs.Readers.LineFaults.{Within, finished, unfinished_within, refused_within}
-use Rattle.py_lines.proofs.Machine.PieceSteps.{pieces_at}
-use Rattle.py_lines.proofs.Machine.LiveTexts.{stack_closed}
-use Rattle.py_lines.proofs.ScanMachine.Soundness.{StandsSound, stands_sound, end_sound}
-use Rattle.py_lines.proofs.LineScan.NextCharacter.{closed_one_line}
-use Rattle.py_lines.proofs.Feeds.DecidedSoFar.{way_open, by_character}
-use Rattle.py_lines.proofs.Feeds.Ended.{ended_bytes, ended_unfinished}
+use Rattle.py_lines.proofs.Pieces.OpenBrackets.{balanced_depth, depth_through-append}
+use Rattle.py_lines.proofs.Pieces.ShallowPieces.{IsShallow-append}
+use Rattle.py_lines.proofs.Readers.LineFaults.{Within, finished, unfinished_within, refused_within, ends_as_read, open_line}
+use Rattle.py_lines.proofs.Feeds.DecidedSoFar.{by_character, ended_bytes, ended_unfinished}
 use Rattle.py_lines.proofs.Feeds.Known as of
 use Rattle.py_lines.proofs.Lexings.Existence.{first_at}
-use Rattle.py_lines.specs.Reading.{Decodes}
-use Rattle.py_lines.specs.Private.FieldMachine.{FieldScanned}
-use Rattle.py_lines.proofs.FieldScans.Resting.{stands_open}
+use Rattle.py_lines.specs.Private.FieldMachine.{FieldScanned, IsFieldFinal, field_pieces, field_steps_from}
+use Rattle.py_lines.proofs.FieldMachine.OuterLists.{outer_alone}
+use Rattle.py_lines.proofs.FieldScans.Taking.{stands_open}
 
 -- What the scan says of the end of a text, which keeps count of a state that is as good as the machine's, holds of the machine.
 
@@ -82,8 +68,7 @@ ComesToEnd t rest (Err line_fault) new =
 first_is : (bytes rest : List ℕ) (c d : ℕ) → d < 128 → begins (λ x. x == d) bytes ≡ true → bytes ≡ encode_utf8 c ++ rest → c ≡ d
 first_is [] rest c d low first spell = absurd (both_ways _ refl first)
 first_is (b ∷ bs) rest c d low first spell =
-    let is = eqb-true b d first in
-    (encode_same c d rest bs (sym spell ∙ ap (λ x. x ∷ bs) is ∙ ap (λ x. x ++ bs) (sym (encode_ascii d low)))).0
+    let is = eqb-true b d first in (encode_same c d rest bs (sym spell ∙ ap (λ x. x ∷ bs) is ∙ ap (λ x. x ++ bs) (sym (encode_ascii d low)))).0
 
 -- bytes that begin no character don't begin with CR
 none_first : (rest : List ℕ) → StartsWithNoChar rest → begins (λ c. c == 13) rest ≡ true → ⊥
@@ -131,8 +116,7 @@ module _ (scan : Scan) (u t : FieldScanned) (left more : List ℕ) (follows : Fo
       let is = none_after e.whole in
       let bytes : length (left ++ more) ≡ byte_len all.run = ap length (sym spell) ∙ ap (λ x. length (encode_utf8_all all.run ++ x)) e.whole ∙ ap length (append-nil (encode_utf8_all all.run)) in
       (ap (λ (s : Scan). s.stop) e.stop ∙ omega (arith, size, bytes), inr (e.size, e.whole, ap has_returned is ∙ e.open_yet, ap unfinished_at is ∙ e.none))
-  by_end (Err line_fault) new (kept, open_yet, inl bad) =
-      (stands_open all.rest t all.to open_yet stands, inl (bad.0, bad.1, bad.2 ∙ sym size))
+  by_end (Err line_fault) new (kept, open_yet, inl bad) = (stands_open all.rest t all.to open_yet stands, inl (bad.0, bad.1, bad.2 ∙ sym size))
   by_end (Err line_fault) new (kept, open_yet, inr (is, end)) =
       (stands_open all.rest t all.to open_yet stands, inr (is, subst (λ x. IsFieldEnd x (Some line_fault)) (sym (none_after is)) end))
 
@@ -140,7 +124,7 @@ module _ (scan : Scan) (u t : FieldScanned) (left more : List ℕ) (follows : Fo
   comes_to_end result new ends = by_end result new (ends u follows over)
 
 -- the scan of a line has left the last characters of a text, and then these bytes follow
-module _ {m : Mode} {whole : List ℕ} {scan : Scan} {read rest : List ℕ} (left : IsLeft m whole scan read rest) (start : IsScanSound (line_start m) []) where
+module _ {m : Mode} {whole : List ℕ} {scan : Scan} {read rest : List ℕ} (left : IsLeft m whole scan read rest) (start : begins_line m ≡ true) where
   pub left_stop : scan.stop ≡ byte_len left.reached.read
   left_stop = rests_end left.reached.way start left.reached.rests
 
@@ -163,22 +147,20 @@ module _ {m : Mode} {whole : List ℕ} {scan : Scan} {read rest : List ℕ} (lef
       ) in
       subst (λ r. ComesToEnd left.way.field (r ++ more) result new) left.rest_is
       (comes_to_end scan left.reached.rests.as_if left.way.field left.left more left.reached.rests.follows left.all
-      (subst (λ r. StandsAs r left.way.field left.all.to) (sym left.rest_is) left.stands)
-      (λ returned. left.rest_is ∙ left.alone returned)
+      (subst (λ r. StandsAs r left.way.field left.all.to) (sym left.rest_is) left.stands) (λ returned. left.rest_is ∙ left.alone returned)
       (subst (λ r. StartsWithNoChar (r ++ more)) (sym left.rest_is) none) size result new ends)
 
 -- the pieces of a line that was read whole
-pub record IsReadLine (m : Scanned) (read : List ℕ) (u : List Piece) : Type 0 where
-  pub to : Scanned
-  pub steps : scan_steps (Some m) read ≡ Some to
+pub record IsReadLine (m : Mode) (read : List ℕ) (u : List Piece) : Type 0 where
   pub spell : spelled u ≡ read
   pub whole : cut 0 u ≡ u ∷ []
-  pub stacked : brackets_of u ≡ Some []
-  pub strings : StringsFit 0 u
+  pub balanced : IsBalanced u
+  pub shallow : IsShallow 0 u
+  pub unmarked : m ≡ modes.Free → begins_marked u ≡ false
   pub some : 0 < byte_len read
 
 -- and what the scan says of them
-pub record IsScannedLine (m : Scanned) (scan : Scan) (read : List ℕ) (end_len : ℕ) (u : List Piece) : Type 0 where
+pub record IsScannedLine (m : Mode) (scan : Scan) (read : List ℕ) (end_len : ℕ) (u : List Piece) : Type 0 where
   pub line : IsReadLine m read u
   pub stop : scan.stop ≡ byte_len read
   pub ends : end_len ≡ end_len_of u
@@ -186,13 +168,14 @@ pub record IsScannedLine (m : Scanned) (scan : Scan) (read : List ℕ) (end_len 
   pub fit : AreReadBefore u after
 
 -- its text alone says what its pieces are
-pub line_text : (m : Scanned) (scan : Scan) (read : List ℕ) (end_len : ℕ) (u : List Piece) → all_scalars read ≡ true → IsScannedLine m scan read end_len u → AreLineText (encode_utf8_all read) u
+pub line_text : (m : Mode) (scan : Scan) (read : List ℕ) (end_len : ℕ) (u : List Piece) → all_scalars read ≡ true
+    → IsScannedLine m scan read end_len u → AreLineText (encode_utf8_all read) u
 line_text m scan read end_len u scalars line = record {
   scalars = ap all_scalars line.line.spell ∙ scalars;
   spell = ap encode_utf8_all line.line.spell;
   after = line.after;
   fit = line.fit;
-  strings = line.line.strings;
+  shallow = line.line.shallow;
 }
 
 -- so much of the next line was gone over, with this of the text's characters after it
@@ -241,22 +224,21 @@ rest_characters s has = text_rest (drop s.state.place s.characters.now) has.read
 pub scanned_is : (s : Source) (has : HasRead s) → s.state.scan.stop ≡ byte_len has.read → scanned_text s ≡ encode_utf8_all has.read
 scanned_is s has size = ap (λ (n : ℕ). take n (drop s.state.place s.characters.now)) size ∙ ap (take (byte_len has.read)) (sym has.spell) ∙ take-append_seam (encode_utf8_all has.read) has.rest
 
-pub is_line_text : (s : Source) (has : HasRead s) (end_len : ℕ) (u : List Piece) → IsScannedLine (line_start (first_mode s.state.place)) s.state.scan has.read end_len u → AreLineText (scanned_text s) u
-is_line_text s has end_len u line = subst (λ t. AreLineText t u) (sym (scanned_is s has line.stop)) (line_text (line_start (first_mode s.state.place)) s.state.scan has.read end_len u has.scalars line)
+pub is_line_text : (s : Source) (has : HasRead s) (end_len : ℕ) (u : List Piece)
+    → IsScannedLine (first_mode s.state.place) s.state.scan has.read end_len u → AreLineText (scanned_text s) u
+is_line_text s has end_len u line = subst (λ t. AreLineText t u) (sym (scanned_is s has line.stop)) (line_text (first_mode s.state.place) s.state.scan has.read end_len u has.scalars line)
 
 -- the logical line that was scanned
-given_line : (old new : Source) (has : HasRead old) (end_len : ℕ) (u : List Piece) → IsScannedLine (line_start (first_mode old.state.place)) old.state.scan has.read end_len u → GivesTokens old end_len new → line_of_source new ≡ line_of old.state.place old.state.line u
+given_line : (old new : Source) (has : HasRead old) (end_len : ℕ) (u : List Piece)
+    → IsScannedLine (first_mode old.state.place) old.state.scan has.read end_len u → GivesTokens old end_len new
+    → line_of_source new ≡ line_of old.state.place old.state.line u
 given_line old new has end_len u line gives =
-    let start = gives.start in
-    let number = gives.line in
+    let start = gives.start in let number = gives.line in
     let size : new.state.place - new.start ≡ old.state.scan.stop = omega (arith, ap (λ (s : LineState). s.place) gives.state, start) in
     let text : take (new.state.place - new.start) (drop new.start new.characters.now) ≡ encode_utf8_all (spelled u)
     = ap (λ (n : ℕ). take n (drop new.start new.characters.now)) size ∙ ap (λ (n : ℕ). take old.state.scan.stop (drop n new.characters.now)) start ∙ ap (λ (b : Bor (List ℕ)). take old.state.scan.stop (drop old.state.place b.now)) gives.characters
     ∙ scanned_is old has line.stop ∙ ap encode_utf8_all (sym line.line.spell) in
-    let are = gives.tokens u (is_line_text old has end_len u line) in
-    let kind = are.kind in
-    let tokens = are.tokens in
-    let indent = are.indent in
+    let are = gives.tokens u (is_line_text old has end_len u line) in let kind = are.kind in let tokens = are.tokens in let indent = are.indent in
     let ends = gives.ends ∙ line.ends in
     λ i. record { kind = kind i; text = text i; tokens = tokens i; offset = start i; line = number i; indent = indent i; end_len = ends i }
 
@@ -270,9 +252,9 @@ pub data IsEnded (u : List Piece) (nothing : Type 0) : Type 0 where
   by_text : nothing → IsEnded u nothing
 
 -- a line that was read after the lines given
-module _ {text : List ℕ} {place line : ℕ} {lines : List LogicalLine} {read rest : List ℕ} (k : IsKnown text place line lines read rest) {u : List Piece} (own : IsReadLine (line_start (first_mode place)) read u) (fit : AreReadBefore u k.more) where
+module _ {text : List ℕ} {place line : ℕ} {lines : List LogicalLine} {read rest : List ℕ} (k : IsKnown text place line lines read rest) {u : List Piece} (own : IsReadLine (first_mode place) read u) (fit : AreReadBefore u k.more) where
   pub fits_after : AreReadBefore (k.base ++ u) k.more
-  fits_after = AreReadIn-append fielded k.base u k.more (subst (λ t. AreReadBefore k.base (t ++ k.more)) (sym own.spell) k.fit) fit (follows_base place k.base u read k.more own.to (of.stands text place line lines read rest k) own.spell fit own.steps)
+  fits_after = AreReadIn-append fielded k.base u k.more (subst (λ t. AreReadBefore k.base (t ++ k.more)) (sym own.spell) k.fit) fit (follows_base place k.base u (of.stands text place line lines read rest k) own.unmarked)
 
   pub spelled_after : spelled (k.base ++ u) ≡ spelled k.base ++ read
   spelled_after = spelled-append k.base u ∙ ap (λ t. spelled k.base ++ t) own.spell
@@ -281,10 +263,10 @@ module _ {text : List ℕ} {place line : ℕ} {lines : List LogicalLine} {read r
   level = balanced_depth k.base k.balanced 0
 
   pub balanced_after : IsBalanced (k.base ++ u)
-  balanced_after = brackets.both (k.base ++ u) k.base u refl k.balanced (fits_reading u own.stacked own.strings).0
+  balanced_after = brackets.both (k.base ++ u) k.base u refl k.balanced own.balanced
 
   pub shallow_after : IsShallow 0 (k.base ++ u)
-  shallow_after = IsShallow-append 0 k.base u k.shallow (subst (λ (d : ℕ). IsShallow d u) (sym level) (fits_reading u own.stacked own.strings).1)
+  shallow_after = IsShallow-append 0 k.base u k.shallow (subst (λ (d : ℕ). IsShallow d u) (sym level) own.shallow)
 
   pub ends_after : (body : List Piece) (last : Piece) → u ≡ body ++ last ∷ [] → last.class ≡ line_end → depth_through 0 body ≡ 0 → reading.EndsLine (k.base ++ u)
   ends_after body last is class deep =
@@ -338,8 +320,7 @@ module _ (old : Source) (has : HasRead old) where
   -- what comes after the line is decoded as the scan has it
   rest_is : (lines : List LogicalLine) (given : HasGiven (reader_of old) lines) → (encode_utf8_all (known lines given).more ≡ has.rest) × ((known lines given).tail ≡ tail old)
   rest_is lines given =
-      let k = known lines given in
-      let next = rest_characters old has in
+      let k = known lines given in let next = rest_characters old has in
       let scalars = (all_scalars-parts has.read k.more (all_scalars-parts (spelled k.base) (has.read ++ k.more) k.decodes.are).1).1 in
       let front = encode_utf8_all (spelled k.base ++ has.read) in
       let text : front ++ (encode_utf8_all k.more ++ k.tail) ≡ front ++ left =
@@ -349,22 +330,19 @@ module _ (old : Source) (has : HasRead old) where
       (ap encode_utf8_all same.0 ∙ next.1.1, same.1)
 
   -- one more line was given
-  pub continues : (new : Source) (end_len : ℕ) (u : List Piece) → IsScannedLine (line_start (first_mode old.state.place)) old.state.scan has.read end_len u → GivesTokens old end_len new
+  pub continues : (new : Source) (end_len : ℕ) (u : List Piece) → IsScannedLine (first_mode old.state.place) old.state.scan has.read end_len u
+      → GivesTokens old end_len new
       → ((after : List ℕ) → encode_utf8_all after ≡ has.rest → AreReadBefore u after × IsEnded u (after ++ tail old ≡ []))
       → Continues (reader_of old) (line_of_source new) (reader_of new) × EachLiesIn (line_of_source new).text new.state.tokens.tokens.items
   continues new end_len u line gives follows =
-      let read = has.read in
-      let next = line_of old.state.place old.state.line u in
-      let is = given_line old new has end_len u line gives in
+      let read = has.read in let next = line_of old.state.place old.state.line u in let is = given_line old new has end_len u line gives in
       let text : new.bytes.now ≡ old.bytes.now = ap (λ (b : Bor (List ℕ)). b.now) gives.bytes in
       let here : new.state.place ≡ old.state.place + byte_len read = ap (λ (s : LineState). s.place) gives.state ∙ ap (λ (n : ℕ). old.state.place + n) line.stop in
       let no_fault : new.state.fault ≡ None = ap (λ (s : LineState). s.fault) gives.state ∙ has.no_fault in
       let reached : new.state.line ≡ old.state.line + line_ends read = gives.after u (is_line_text old has end_len u line) ∙ ap (λ t. old.state.line + line_ends t) line.line.spell in
       let size : byte_len (spelled u) ≡ byte_len read = ap byte_len line.line.spell in
       let given : (lines : List LogicalLine) → HasGiven (reader_of old) lines → HasGiven (reader_of new) (lines ++ next ∷ []) = λ lines had.
-      let k = known lines had in
-      let rest = rest_is lines had in
-      let own = follows k.more rest.0 in
+      let k = known lines had in let rest = rest_is lines had in let own = follows k.more rest.0 in
       record { first = rw (text, here, reached) (one_more k line.line own.0 (subst (λ t. IsEnded u (k.more ++ t ≡ [])) (sym rest.1) own.1)); no_fault = no_fault } in
       let goes_on : Continues (reader_of old) next (reader_of new) = record {
         given = given;
@@ -391,16 +369,16 @@ full_line body last read class spell holds =
     omega (arith, ap byte_len (sym spell ∙ spelled-append body (last ∷ [])), byte_len-append (spelled body) (last.text ++ []), ap byte_len (append-nil last.text), piece_some last.class last.text holds, length-le-encodes last.text)
 
 -- a line with its line end
-pub line_at_end : (m : Mode) (scan : Scan) (read rest : List ℕ) (len : ℕ) (at : IsAtLineEnd m scan read rest len) (after : List ℕ) → encode_utf8_all after ≡ rest → IsScannedLine (line_start m) scan read len (at.body ++ at.last ∷ [])
+pub line_at_end : (m : Mode) (scan : Scan) (read rest : List ℕ) (len : ℕ) (at : IsAtLineEnd m scan read rest len) (after : List ℕ)
+    → encode_utf8_all after ≡ rest → IsScannedLine m scan read len (at.body ++ at.last ∷ [])
 line_at_end m scan read rest len at after is =
     record {
       line = record {
-        to = at.to;
-        steps = at.steps;
         spell = at.spell;
         whole = one_line 0 at.body at.last at.are.one_line at.are.class at.are.level;
-        stacked = no_class_bracket at.body at.last at.are.class at.are.paired;
-        strings = at.strings;
+        balanced = at.balanced;
+        shallow = at.shallow;
+        unmarked = at.unmarked;
         some = full_line at.body at.last read at.are.class at.spell (AreReadBefore-second at.body (at.last ∷ []) after (at.fit after is)).0;
       };
       stop = at.stop;
@@ -409,11 +387,19 @@ line_at_end m scan read rest len at after is =
       fit = at.fit after is;
     }
 
+-- which may stand before anything but LF after its CR
+pub fits_on : {m : Mode} {scan : Scan} {read : List ℕ} {len : ℕ} (at : IsAtLineEnd m scan read [] len) (more : List ℕ) → IsApart read more
+    → AreReadBefore (at.body ++ at.last ∷ []) more
+fits_on at more apart =
+    let fit = at.fit [] refl in let holds = (AreReadBefore-second at.body (at.last ∷ []) [] fit).0 in
+    read_on fielded at.body at.last [] more at.are.class fit (false_from_ne_true _ (λ both.
+    let parts = and_parts _ _ both in
+    both_ways _ (apart (ap (ends is_return) (sym at.spell) ∙ ends-line is_return at.body at.last at.are.class holds ∙ parts.0)) parts.1))
+
 -- a reader at the text's start has given no line
 pub start_given : (s : Source) → s.state.place ≡ 0 → s.state.line ≡ 1 → s.state.fault ≡ None → HasGiven (reader_of s) []
 start_given s place line fault =
-    let utf8 = IsUtf8-had _ s.text in
-    let tail = drop (length s.characters.now) s.bytes.now in
+    let utf8 = IsUtf8-had _ s.text in let tail = drop (length s.characters.now) s.bytes.now in
     let decodes : Decodes s.bytes.now utf8.0 tail = record { are = utf8.1.0; spell = ap (λ t. t ++ tail) (utf8.1.1 ∙ s.prefix) ∙ take-append-drop (length s.characters.now) s.bytes.now; bad = s.bad } in
     record { first = first_at s.bytes.now utf8.0 tail s.state.place s.state.line decodes place line; no_fault = fault }
 
@@ -424,8 +410,7 @@ pub record Stands (s : Source) (place line : ℕ) : Type 0 where
 
 pub given_stands : (s : Source) (place line : ℕ) (lines : List LogicalLine) → HasGiven (standing_at s.bytes.now place line) lines → Stands s place line
 given_stands s place line lines given =
-    let utf8 = IsUtf8-had _ s.text in
-    let spelling = encode_utf8_all (spelled given.first.pieces) in
+    let utf8 = IsUtf8-had _ s.text in let spelling = encode_utf8_all (spelled given.first.pieces) in
     let whole : encode_utf8_all utf8.0 ++ drop (length s.characters.now) s.bytes.now ≡ encode_utf8_all given.first.characters ++ given.first.tail
     = ap (λ t. t ++ drop (length s.characters.now) s.bytes.now) (utf8.1.1 ∙ s.prefix) ∙ take-append-drop (length s.characters.now) s.bytes.now ∙ sym given.first.decodes.spell in
     let same = one_decoding utf8.0 given.first.characters (drop (length s.characters.now) s.bytes.now) given.first.tail utf8.1.0 given.first.decodes.are s.bad given.first.decodes.bad whole in
@@ -448,24 +433,23 @@ one_or [] none some = absurd (some refl)
 one_or (p ∷ ps) none some = one_part 0 p ps none
 
 -- the text's last line, which no line end closes: its pieces, with the open one, are one line
-pub line_at_text_end : (m : Mode) (scan : Scan) (read : List ℕ) (way : IsUnderWay m read) → StandsSound m read way.state way.brackets → is_final way.state.mode ≡ true → (way.state.mode ≡ modes.Return → none_open way.brackets ≡ false) → way.brackets ≡ [] → 0 < byte_len read → scan.stop ≡ byte_len read → IsScannedLine (line_start m) scan read 0 (pieces_at way.state)
-line_at_text_end m scan read way sound final open_yet empty some stop =
-    let s = way.state in
-    let ended = end_sound m read s way.brackets sound final in
-    let none = closed_one_line s.mode s.done s.held way.brackets way.stacked way.one_line open_yet in
-    let stacked : brackets_of (pieces_at s) ≡ Some [] = stack_closed s.mode s.done s.held way.brackets way.stacked ∙ ap (λ l. Some l) empty in
+pub line_at_text_end : (m : Mode) (scan : Scan) (read : List ℕ) (way : IsUnderWay m read) → begins_line m ≡ true → IsFieldFinal way.field
+    → has_returned way.field ≡ false → 0 < byte_len read → scan.stop ≡ byte_len read → IsScannedLine m scan read 0 (field_pieces way.field)
+line_at_text_end m scan read way start final open_yet some stop =
+    let u = field_pieces way.field in let ended = ends_as_read way.field read (way_sound way start) final in
+    let none : EndsNoLine 0 u = subst (EndsNoLine 0) (outer_alone way.field final.outside).3 (open_line way start open_yet) in
     record {
       line = record {
-        to = s;
-        steps = way.steps;
         spell = ended.spell;
-        whole = one_or (pieces_at s) none (λ e. omega (arith, some, ap byte_len (sym ended.spell ∙ ap spelled e)));
-        stacked = stacked;
-        strings = ended.strings;
+        whole = one_or u none (λ e. omega (arith, some, ap byte_len (sym ended.spell ∙ ap spelled e)));
+        balanced = ended.balanced;
+        shallow = ended.shallow;
+        unmarked = λ free. unmarked u [] way.field ended.fit
+            (ap (field_steps_from (Some (line_begun modes.Free))) ended.spell ∙ subst (λ k. field_steps_from (Some (line_begun k)) read ≡ Some way.field) free (way_runs way).0);
         some = some;
       };
       stop = stop;
-      ends = sym (end_len-none 0 (pieces_at s) none (stands (pieces_at s) [] stacked).depth);
+      ends = sym (end_len-none 0 u none (balanced_depth u ended.balanced 0));
       after = [];
       fit = ended.fit;
     }
@@ -474,7 +458,7 @@ line_at_text_end m scan read way sound final open_yet empty some stop =
 pub record IsNext (s : Source) (end_len : ℕ) : Type 0 where
   pub has : HasRead s
   pub pieces : List Piece
-  pub line : IsScannedLine (line_start (first_mode s.state.place)) s.state.scan has.read end_len pieces
+  pub line : IsScannedLine (first_mode s.state.place) s.state.scan has.read end_len pieces
   pub follows : (after : List ℕ) → encode_utf8_all after ≡ has.rest → AreReadBefore pieces after × IsEnded pieces (after ++ tail s ≡ [])
 
 -- or this is wrong in it
@@ -490,9 +474,7 @@ HasEnded s (Err line_fault) = IsFaulty s line_fault
 -- the reader fails with what is wrong
 pub fails : (old new : Source) (line_fault : LineFault) (error : LexError) (at : FailsAfter old line_fault error new) → IsFaulty old line_fault → Fails (reader_of old) at.keeps.fault (reader_of new)
 fails old new line_fault error at wrong =
-    let has = wrong.has in
-    let w = wrong.within in
-    let later = encode_utf8_all w.later ++ has.rest in
+    let has = wrong.has in let w = wrong.within in let later = encode_utf8_all w.later ++ has.rest in
     let taken : take line_fault.place (drop old.state.place old.characters.now) ≡ encode_utf8_all w.prefix
     = ap (take line_fault.place) (sym (prefix_spells old has line_fault.place w)) ∙ ap (λ (n : ℕ). take n (encode_utf8_all w.prefix ++ later)) w.size ∙ take-append_seam (encode_utf8_all w.prefix) later in
     record {
@@ -520,18 +502,15 @@ has_read old stop h = record { more = h.more; no_fault = h.no_fault; read = h.sc
 
 whole_line : (old : Source) (len : ℕ) → HasScanned old (stops.LineEnd len) → IsNext old len
 whole_line old len h =
-    let has = has_read old (stops.LineEnd len) h in
-    let next = rest_characters old has in
+    let has = has_read old (stops.LineEnd len) h in let next = rest_characters old has in
     let apart = follows_whole h.scans.read h.scans.rest next.0 [] [] h.scans.stops.1 (ap (λ t. t ++ []) next.1.1) in
     next_at old has len next.0 next.1.1 (subst (λ t. IsAtLineEnd (first_mode old.state.place) old.state.scan h.scans.read t len) next.1.1 (h.scans.stops.0 next.0 apart))
 
 -- a character that is refused
 refused_line : (old : Source) (line_fault : LineFault) → HasScanned old (stops.Wrong line_fault) → IsFaulty old line_fault
 refused_line old line_fault h =
-    let has = has_read old (stops.Wrong line_fault) h in
-    let read = h.scans.read in
-    let is = h.scans.stops in
-    let w = refused_within old.state.place read is.way is.c is.none line_fault is.fault in
+    let has = has_read old (stops.Wrong line_fault) h in let read = h.scans.read in
+    let is = h.scans.stops in let w = refused_within old.state.place read is.way is.c is.none line_fault is.fault in
     let spell : left old has ≡ encode_utf8 is.c ++ (is.after ++ tail old) = ap (λ t. t ++ tail old) is.spell ∙ append_assoc (encode_utf8 is.c) is.after (tail old) in
     record {
       has = has;
@@ -582,11 +561,8 @@ module _ (old : Source) (h : HasScanned old stops.TextEnd) (scan : Scan) where
   abbrev way : IsUnderWay (first_mode old.state.place) has.read
   way = h.scans.stops.way
 
-  start : IsScanSound (line_start (first_mode old.state.place)) []
+  start : begins_line (first_mode old.state.place) ≡ true
   start = begun_sound old.state.place
-
-  sound : StandsSound (first_mode old.state.place) has.read way.state way.brackets
-  sound = stands_sound (first_mode old.state.place) has.read way.state way.brackets start (record { run = way.steps; stack = way.stacked })
 
   -- after the characters nothing comes, or bytes that begin none
   none_left : has.rest ≡ []
@@ -605,14 +581,14 @@ module _ (old : Source) (h : HasScanned old stops.TextEnd) (scan : Scan) where
   -- or with none
   next_bare : scan.stop ≡ here way.field → has.rest ++ tail old ≡ [] → has_returned way.field ≡ false → unfinished_at way.field ≡ None → IsNext s 0
   next_bare stop none open_yet ends =
-      let (final, empty) = finished way start ends in
+      let final = finished way.field ends in
       record {
         has = has;
-        pieces = pieces_at way.state;
-        line = line_at_text_end (first_mode old.state.place) scan has.read way sound final (way_open way start open_yet) empty (some_read none) (stop ∙ way_here way start);
+        pieces = field_pieces way.field;
+        line = line_at_text_end (first_mode old.state.place) scan has.read way start final open_yet (some_read none) (stop ∙ way_here way start);
         follows = λ after is.
             let nothing = encodes_same after [] (is ∙ none_left) in (
-              subst (AreReadBefore (pieces_at way.state)) (sym nothing) (end_sound (first_mode old.state.place) has.read way.state way.brackets sound final).fit,
+              subst (AreReadBefore (field_pieces way.field)) (sym nothing) (ends_as_read way.field has.read (way_sound way start) final).fit,
               IsEnded.by_text (ap (λ t. t ++ tail old) (nothing ∙ sym none_left) ∙ none),
             );
       }
@@ -669,11 +645,7 @@ module _ (s new : Source) (bytes : s.bytes ≡ new.bytes) (characters : s.charac
     line = rw (sym state) is.line;
     follows = rw (sym bytes, sym characters) is.follows;
   }
-  ended_same (Err line_fault) is = record {
-    has = read_same is.has;
-    within = is.within;
-    lexed = rw (sym bytes, sym state) is.lexed;
-  }
+  ended_same (Err line_fault) is = record { has = read_same is.has; within = is.within; lexed = rw (sym bytes, sym state) is.lexed }
 
 -- what the end of the line's scan comes to
 pub has_ended : (old new : Source) (stop : Stop) (result : Result ℕ LineFault) → HasScanned old stop → EndsLine old stop result new → HasEnded new result

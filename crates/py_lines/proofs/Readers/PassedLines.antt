@@ -1,122 +1,74 @@
 -- Lines that were passed over are the text's next.
-use Rattle.std.proofs.Common.{◌≡◌, ℕ, zero, suc, ◌+◌, ◌-◌, ◌<◌, ◌≤◌, ◌&&◌, inl, inr, true, false, None, Some, List, [], ◌∷◌, ◌++◌, length, take, drop, refl, sym, ap, ◌∙◌, subst, append_assoc, append-nil, arith, length-append, ⊎_elim}
-use Rattle.std.specs.Prelude.{encode_utf8_all, flat_map}
+use Rattle.std.proofs.Common.{◌≡◌, ℕ, ◌+◌, ◌-◌, ◌<◌, ◌≤◌, ◌&&◌, inl, inr, true, false, None, List, [], ◌∷◌, ◌++◌, length, take, drop, refl, sym, ap, ◌∙◌, subst, append_assoc, append-nil, arith, length-append, ⊎_elim, encode_utf8_all, flat_map}
 use Rattle.std.specs.Str.{all_scalars, IsCharBoundary, IsUtf8}
 use Rattle.std.proofs.lemmas.List.{drop-drop, length-append, length-take-le, length-drop, take-append-drop, take-append-le, take_all}
-use Rattle.std.proofs.lemmas.Str.{IsCharBoundary-from_rest, IsCharBoundary-from_take, IsUtf8-drop, IsUtf8-had, encodes-append, length-le-encodes}
+use Rattle.std.proofs.lemmas.Str.{IsCharBoundary-from_rest, IsCharBoundary-from_take, IsUtf8-drop, IsUtf8-had, encodes-append}
 use Rattle.std.proofs.Math.Seq.{drop-append_seam, take-append_seam}
-use Rattle.std.proofs.lemmas.Bool.{and_parts, cond_both, both_ways, cases_Bool, false_from_ne_true}
-use Rattle.py_lines.specs.Character.{is_line_feed, is_mark, is_return}
-use Rattle.py_lines.specs.Fields.{AreReadBefore}
-use Rattle.py_lines.specs.Piece.{line_end, Piece, begins, ends, spelled}
+use Rattle.std.proofs.lemmas.Bool.{and_parts, both_ways, cases_Bool, false_from_ne_true}
+use Rattle.py_lines.specs.Character.{is_line_feed, is_return}
+use Rattle.py_lines.specs.Piece.{Piece, begins, ends, spelled}
 use Rattle.py_lines.specs.LogicalLine.{LogicalLine, byte_len, line_ends, line_of}
 use Rattle.py_lines.specs.Lines.{PassesUpTo}
 use Rattle.py_lines.specs.Reader.{Reader, PassesLine, PassesLines, HasGiven}
-use Rattle.py_lines.specs.Reader.View.{reader_of}
+use Rattle.py_lines.specs.Private.Source.{reader_of, Source, Mode}
 use Rattle.py_lines.specs.Private.Mode as modes
-use Rattle.py_lines.specs.Private.Machine.{Move}
-use Rattle.py_lines.specs.Private.Machine.{Move as moves}
-use Rattle.py_lines.specs.declared.source.Source.{Source}
+use Rattle.py_lines.specs.Private.LineScan.{EndsWhole, IsAtLineEnd}
 use Rattle.py_lines.specs.Private.LineState.{first_mode}
-use Rattle.py_lines.specs.Private.Machine.{Scanned, moved, move_of, started}
-use Rattle.py_lines.specs.Private.ScanMachine.{IsScanSound, StringsFit, meet_of, scan_steps}
-use Rattle.py_lines.specs.Private.LineScan.{line_start, EndsWhole}
-use Rattle.py_lines.specs.Private.Outline.{AreWholeLines, BeginWithLines, IsEndedBy, IsWholeLine}
-use Rattle.py_lines.proofs.Pieces.PieceLists.{piece, spelled-push}
-use Rattle.py_lines.proofs.Machine.Starts.{start-mark}
-use Rattle.py_lines.proofs.Lexings.LineEnds.{line_string, return_returns}
+use Rattle.py_lines.specs.Private.WholeLines.{AreWholeLines, BeginWithLines, IsWholeLine}
+use Rattle.py_lines.proofs.Text.Utf8Prefixes.{all_scalars-append}
+use Rattle.py_lines.proofs.LineScan.LineSteps.{follows_whole}
 use Rattle.py_lines.proofs.LineScan.LineCount.{line_ends-bytes}
-use Rattle.py_lines.proofs.LineScan.LineSteps.{follows_whole, returned_fit, sound_steps}
-use Rattle.py_lines.proofs.LineScan.PieceEnd.{no_class_bracket}
-use Rattle.py_lines.proofs.LineScan.TextSteps.{begun_sound}
-use Rattle.py_lines.proofs.LogicalLines.Cuts.{ends-last, line_ends-append, one_line}
-use Rattle.py_lines.proofs.SimpleLines.Tails.{ended_stack}
-use Rattle.py_lines.proofs.SimpleLines.Lines.{lines_scalars}
-use Rattle.py_lines.proofs.Readers.LineAnswers.{IsReadLine, text_from}
+use Rattle.py_lines.proofs.LogicalLines.Cuts.{line_ends-append}
+use Rattle.py_lines.proofs.Readers.LineAnswers.{IsReadLine, line_at_end, text_from}
 use Rattle.py_lines.proofs.Feeds.Known.{IsKnown, goes_with_first, is_known}
-use Rattle.py_lines.proofs.Feeds.SettledSoFar.{IsNextLine, settled_ready}
+use Rattle.py_lines.proofs.Feeds.SettledSoFar.{IsNextLine, next_line, settled_ready}
 use Rattle.py_lines.proofs.Feeds.Released.{released}
 use Rattle.py_lines.proofs.Lexings.FirstLines.{given_begin}
 use Rattle.py_lines.specs.Settled.{IsSettled}
 use Rattle.py_lines.specs.Given.{AreFirstLines}
 use Rattle.py_lines.specs.ScannerState.{EndsExactly, GoesOnWith}
 
--- the pieces of a line that was passed, and what may follow them
-pub record IsPassedLine (read : List ℕ) (pieces : List Piece) : Type 0 where
-  pub spell : spelled pieces ≡ read
-  pub strings : StringsFit 0 pieces
-  pub fit : (more : List ℕ) → (ends is_return read ≡ true → begins is_line_feed more ≡ false) → AreReadBefore pieces more
+-- the line where nothing follows it
+abbrev alone : {read after : List ℕ} (line : IsWholeLine read after) → IsAtLineEnd modes.Free line.scan read [] line.len
+alone line = line.is [] (λ returned. refl)
 
-pub passed_line : (read after : List ℕ) (line : IsWholeLine read after) → IsPassedLine read (line.body ++ line.last ∷ [])
-passed_line read after line = by line.ended
-  where
-    sound : IsScanSound line.state read
-    sound = sound_steps modes.Free read line.state (begun_sound 1) line.steps (ended_stack line.state line.body line.last line.are line.ended)
+-- its pieces
+abbrev pub pieces_of : {read after : List ℕ} → IsWholeLine read after → List Piece
+pieces_of line = (alone line).body ++ (alone line).last ∷ []
 
-    by : IsEndedBy line.state line.body line.last → IsPassedLine read (line.body ++ line.last ∷ [])
-    by (inl is) =
-        let closed = subst (λ (s : Scanned). IsScanSound s read) is sound in
-        record {
-          spell = sym (append-nil (spelled (line.body ++ line.last ∷ []))) ∙ closed.spell;
-          strings = closed.strings;
-          fit = λ more none. closed.fit more;
-        }
-    by (inr (is, last)) =
-        let open_yet = subst (λ (s : Scanned). IsScanSound s read) is sound in
-        let returned : ends is_return read ≡ true = ap (ends is_return) (sym open_yet.spell) ∙ ends-last is_return (spelled line.body) 13 ∙ return_returns in
-        subst (λ (p : Piece). IsPassedLine read (line.body ++ p ∷ [])) (sym last)
-        (record {
-          spell = spelled-push line.body line_end (13 ∷ []) ∙ open_yet.spell;
-          strings = line_string line.body (piece line_end (13 ∷ [])) refl open_yet.strings;
-          fit = λ more none. returned_fit line.body (13 ∷ []) read more open_yet refl (none returned);
-        })
-
--- a character at which the machine begins a line is no mark, so it begins the text's first line as well
-first_steps : (place : ℕ) (read : List ℕ) (s : Scanned) → 0 < length read → scan_steps (Some (line_start modes.Free)) read ≡ Some s → scan_steps (Some (line_start (first_mode place))) read ≡ Some s
-unfolding meet_of move_of
-first_steps (suc n) read s some steps = steps
-first_steps zero [] s some steps = absurd (omega (arith, some))
-first_steps zero (c ∷ cs) s some steps =
-    cond_both (is_mark c) moves.Closes moves.Breaks (λ (v : Move). scan_steps (moved (line_start modes.Start) c v) cs ≡ Some s)
-    (λ marks. let stuck : None ≡ Some s = ap (λ st. scan_steps (started [] c st) cs) (sym (start-mark c marks)) ∙ steps in absurd (cc))
-    (λ other. steps)
-
-pub whole_read : (place : ℕ) (read after : List ℕ) → 0 < length read → (line : IsWholeLine read after) → IsReadLine (line_start (first_mode place)) read (line.body ++ line.last ∷ [])
-whole_read place read after some line =
-    let passed = passed_line read after line in
-    record {
-      to = line.state;
-      steps = first_steps place read line.state some line.steps;
-      spell = passed.spell;
-      whole = one_line 0 line.body line.last line.are.one_line line.are.class line.are.level;
-      stacked = no_class_bracket line.body line.last line.are.class line.are.paired;
-      strings = passed.strings;
-      some = omega (arith, some, length-le-encodes read);
-    }
+-- it is read whole, also where a mark may stand
+pub whole_read : (m : Mode) {read after : List ℕ} (line : IsWholeLine read after) → IsReadLine m read (pieces_of line)
+whole_read m {read} line =
+    let own = (line_at_end modes.Free line.scan read [] line.len (alone line) [] refl).line in
+    record { spell = own.spell; whole = own.whole; balanced = own.balanced; shallow = own.shallow; unmarked = λ free. own.unmarked refl; some = own.some }
 
 -- the first bytes of a slice
 pub take_slice : (bytes : List ℕ) (n k : ℕ) → n ≤ length (take k bytes) → take n (take k bytes) ≡ take n bytes
 take_slice bytes n k within = sym (take-append-le n (take k bytes) (drop k bytes) within) ∙ ap (take n) (take-append-drop k bytes)
 
+-- lines are characters
+lines_scalars : (texts : List (List ℕ)) (read after : List ℕ) → AreWholeLines texts read after → all_scalars read ≡ true
+lines_scalars [] read after none = ap all_scalars none
+lines_scalars (t ∷ texts) read after are = ap all_scalars are.spell ∙ all_scalars-append t are.later are.whole.scalars (lines_scalars texts are.later after are.lines)
+
 -- a character begins after whole characters
 whole_boundary : (s : Source) (len : ℕ) → s.state.place + len ≤ length s.characters.now → IsUtf8 (take len (drop s.state.place s.characters.now)) → IsCharBoundary s.characters.now (s.state.place + len)
 whole_boundary s len room utf8 =
-    let rest = drop s.state.place s.characters.now in
-    let place : s.state.place ≤ length s.characters.now = omega (arith, room) in
+    let rest = drop s.state.place s.characters.now in let place : s.state.place ≤ length s.characters.now = omega (arith, room) in
     let size : len ≤ length rest = omega (arith, room, length-drop s.state.place s.characters.now) in
     IsCharBoundary-from_rest s.characters.now s.state.place len place (IsCharBoundary-from_take rest len (IsUtf8-drop s.characters.now s.state.place (IsUtf8-had _ s.text) s.boundary) size utf8)
 
 -- the logical lines of the lines that were found, from this byte and line of a text on
 abbrev pub lines_at : (texts : List (List ℕ)) (place line : ℕ) (read after : List ℕ) → AreWholeLines texts read after → List LogicalLine
 lines_at [] place line read after are = []
-lines_at (t ∷ texts) place line read after are = line_of place line (are.whole.body ++ are.whole.last ∷ []) ∷ lines_at texts (place + byte_len t) (line + line_ends t) are.later after are.lines
+lines_at (t ∷ texts) place line read after are = line_of place line (pieces_of are.whole) ∷ lines_at texts (place + byte_len t) (line + line_ends t) are.later after are.lines
 
 -- what they spell
 pub lines_spell : (texts : List (List ℕ)) (place line : ℕ) (read after : List ℕ) (are : AreWholeLines texts read after) → flat_map (λ (l : LogicalLine). l.text) (lines_at texts place line read after are) ≡ encode_utf8_all read
 lines_spell [] place line read after are = ap encode_utf8_all (sym are)
 lines_spell (t ∷ texts) place line read after are =
     let others = flat_map (λ (l : LogicalLine). l.text) (lines_at texts (place + byte_len t) (line + line_ends t) are.later after are.lines) in
-    ap (λ u. u ++ others) (ap encode_utf8_all (passed_line t (encode_utf8_all are.later ++ after) are.whole).spell)
+    ap (λ u. u ++ others) (ap encode_utf8_all (alone are.whole).spell)
     ∙ ap (λ u. encode_utf8_all t ++ u) (lines_spell texts (place + byte_len t) (line + line_ends t) are.later after are.lines)
     ∙ sym (ap encode_utf8_all are.spell ∙ encodes-append t are.later)
 
@@ -128,8 +80,7 @@ pub record IsShown (line following : List ℕ) : Type 0 where
   pub spell : following ≡ more ++ unseen
 
 pub shown : (line following : List ℕ) → EndsWhole line following → IsShown line following
-shown line following whole = ⊎_elim
-    (λ returned. ⊎_elim (λ feed. absurd (both_ways _ feed returned))
+shown line following whole = ⊎_elim (λ returned. ⊎_elim (λ feed. absurd (both_ways _ feed returned))
     (λ next. record { more = next.0 ∷ []; unseen = next.1; exact = inr (returned, (next.0, refl, next.3)); spell = next.2 }) whole)
     (λ other. record { more = []; unseen = following; exact = inl (other, refl); spell = refl }) (cases_Bool (ends is_return line))
 
@@ -142,26 +93,18 @@ abbrev pub AreSettledAt : List ℕ → ℕ → ℕ → ℕ → List LogicalLine 
 AreSettledAt text place line known lines = AreFirstLines text place line lines × IsSettled (take (place + known) text) lines
 
 -- a line that the text goes on with, and what is known after it
-module _ (text : List ℕ) (place line : ℕ) (given : List LogicalLine) (first : AreFirstLines text place line given) (read more : List ℕ) (some : 0 < length read) (goes : GoesOnWith text place (encode_utf8_all read ++ more)) (exact : EndsExactly read more) (after : List ℕ) (whole : IsWholeLine read after) where
+module _ (text : List ℕ) (place line : ℕ) (given : List LogicalLine) (first : AreFirstLines text place line given) (read more : List ℕ) (goes : GoesOnWith text place (encode_utf8_all read ++ more)) (exact : EndsExactly read more) (after : List ℕ) (whole : IsWholeLine read after) where
   abbrev pieces : List Piece
-  pieces = whole.body ++ whole.last ∷ []
+  pieces = pieces_of whole
+
+  as_line : IsReadLine (first_mode place) read pieces
+  as_line = whole_read (first_mode place) whole
 
   known : IsKnown text place line given read more
-  known = is_known text place line given read more first whole.scalars goes (omega (arith, some, length-le-encodes read, length-append (encode_utf8_all read) more))
-
-  as_line : IsReadLine (line_start (first_mode place)) read pieces
-  as_line = whole_read place read after some whole
+  known = is_known text place line given read more first whole.scalars goes (omega (arith, as_line.some, length-append (encode_utf8_all read) more))
 
   next : IsNextLine place read known.more pieces
-  next = record {
-    body = whole.body;
-    last = whole.last;
-    is = refl;
-    class = whole.are.class;
-    level = whole.are.level;
-    fit = (passed_line read after whole).fit known.more (follows_whole read more known.more known.tail known.beyond (exactly_whole read more exact) known.follow);
-    line = as_line;
-  }
+  next = next_line (alone whole) as_line known.more (follows_whole read more known.more known.tail known.beyond (exactly_whole read more exact) known.follow)
 
   settled : IsSettled (take (place + length (encode_utf8_all read ++ more)) text) (given ++ line_of place line pieces ∷ [])
   settled = settled_ready text place line given read more known pieces next exact
@@ -178,20 +121,17 @@ abbrev pub further : Reader → ℕ → ℕ → Reader
 further r len feeds = record { text = r.text; place = r.place + len; line = r.line + feeds; fault = r.fault }
 
 -- a line whose bytes those after the reader's place begin with
-passes_line : (r : Reader) → r.fault ≡ None → (read after beyond : List ℕ) → 0 < length read → encode_utf8_all read ++ (after ++ beyond) ≡ drop r.place r.text → (line : IsWholeLine read after)
-    → PassesLine r (line_of r.place r.line (line.body ++ line.last ∷ [])) (further r (byte_len read) (line_ends read))
-passes_line r no_fault read after beyond some split line =
-    let bytes = encode_utf8_all read in
-    let u = line.body ++ line.last ∷ [] in
-    let new = further r (byte_len read) (line_ends read) in
-    let as_line = whole_read r.place read after some line in
-    let spell : encode_utf8_all (spelled u) ≡ bytes = ap encode_utf8_all as_line.spell in
-    let own = shown read after line.whole in
+passes_line : (r : Reader) → r.fault ≡ None → (read after beyond : List ℕ) → encode_utf8_all read ++ (after ++ beyond) ≡ drop r.place r.text
+    → (line : IsWholeLine read after) → PassesLine r (line_of r.place r.line (pieces_of line)) (further r (byte_len read) (line_ends read))
+passes_line r no_fault read after beyond split line =
+    let bytes = encode_utf8_all read in let u = pieces_of line in
+    let new = further r (byte_len read) (line_ends read) in let as_line = whole_read (first_mode r.place) line in
+    let spell : encode_utf8_all (spelled u) ≡ bytes = ap encode_utf8_all as_line.spell in let own = shown read after line.whole in
     let parts : (bytes ++ own.more) ++ (own.unseen ++ beyond) ≡ drop r.place r.text
     = append_assoc bytes own.more (own.unseen ++ beyond) ∙ ap (λ t. bytes ++ t) (sym (append_assoc own.more own.unseen beyond) ∙ ap (λ t. t ++ beyond) (sym own.spell)) ∙ split in
     let near : GoesOnWith r.text r.place (bytes ++ own.more) = goes_with_first r.text r.place (bytes ++ own.more) (own.unseen ++ beyond) (subst (GoesOnWith r.text r.place) (sym parts) (take_all (length (drop r.place r.text)) (drop r.place r.text) (omega arith))) in
     let given : (lines : List LogicalLine) → HasGiven r lines → HasGiven new (lines ++ line_of r.place r.line u ∷ [])
-    = λ lines h. record { first = (line_settled r.text r.place r.line lines h.first read own.more some near own.exact after line).0; no_fault = no_fault } in
+    = λ lines h. record { first = (line_settled r.text r.place r.line lines h.first read own.more near own.exact after line).0; no_fault = no_fault } in
     let long : byte_len read ≡ r.place + byte_len read - r.place = omega arith in
     record {
       continues = record {
@@ -199,8 +139,8 @@ passes_line r no_fault read after beyond some split line =
         begins = λ lines h. given_begin new (lines ++ line_of r.place r.line u ∷ []) (given lines h);
         text = refl;
         place = ap (λ t. r.place + length t) (sym spell);
-        some_text = omega (arith, ap length spell, some, length-le-encodes read);
-        within = omega (arith, some, length-le-encodes read, ap length split, length-append bytes (after ++ beyond), length-drop r.place r.text);
+        some_text = omega (arith, ap length spell, as_line.some);
+        within = omega (arith, as_line.some, ap length split, length-append bytes (after ++ beyond), length-drop r.place r.text);
         fault = no_fault;
         no_fault = no_fault;
       };
@@ -221,8 +161,7 @@ passes_all [] r read after beyond no_fault split are =
     let line : r.line + line_ends read ≡ r.line = omega (arith, ap line_ends are) in
     λ i. record { text = r.text; place = place i; line = line i; fault = r.fault }
 passes_all (t ∷ texts) r read after beyond no_fault split are =
-    let own_bytes = encode_utf8_all t in
-    let later_bytes = encode_utf8_all are.later in
+    let own_bytes = encode_utf8_all t in let later_bytes = encode_utf8_all are.later in
     let all : encode_utf8_all read ≡ own_bytes ++ later_bytes = ap encode_utf8_all are.spell ∙ encodes-append t are.later in
     let parts : own_bytes ++ ((later_bytes ++ after) ++ beyond) ≡ drop r.place r.text =
     ap (λ u. own_bytes ++ u) (append_assoc later_bytes after beyond) ∙ sym (append_assoc own_bytes later_bytes (after ++ beyond)) ∙ ap (λ u. u ++ (after ++ beyond)) (sym all) ∙ split in
@@ -232,7 +171,7 @@ passes_all (t ∷ texts) r read after beyond no_fault split are =
     let place : r.place + byte_len read ≡ r.place + byte_len t + byte_len are.later = omega (arith, ap length all, length-append own_bytes later_bytes) in
     let line : r.line + line_ends read ≡ r.line + line_ends t + line_ends are.later = omega (arith, ap line_ends are.spell, line_ends-append t are.later (apart t are.later after are.whole.whole)) in (
       mid,
-      passes_line r no_fault t (later_bytes ++ after) beyond are.some parts are.whole,
+      passes_line r no_fault t (later_bytes ++ after) beyond parts are.whole,
       subst (PassesLines mid (lines_at texts mid.place mid.line are.later after are.lines)) (sym (λ i. record { text = r.text; place = place i; line = line i; fault = r.fault }))
           (passes_all texts mid are.later after beyond no_fault later_split are.lines),
     )
@@ -266,16 +205,11 @@ module _ (s : Source) (no_fault : s.state.fault ≡ None) (before : ℕ) (ordere
 
   split : encode_utf8_all read ++ (after ++ beyond) ≡ drop s.state.place s.bytes.now
   split =
-      let characters = drop s.state.place s.characters.now in
-      let slice = take (before - s.state.place) characters in
-      let rest = drop (before - s.state.place) characters in
-      let tail = drop (length s.characters.now) s.bytes.now in
-      sym (append_assoc (encode_utf8_all found.read) (drop len slice) (rest ++ tail))
-      ∙ ap (λ t. (t ++ drop len slice) ++ (rest ++ tail)) found.spell
-      ∙ ap (λ t. t ++ (rest ++ tail)) (take-append-drop len slice)
-      ∙ sym (append_assoc slice rest tail)
-      ∙ ap (λ t. t ++ tail) (take-append-drop (before - s.state.place) characters)
-      ∙ text_from s
+      let characters = drop s.state.place s.characters.now in let slice = take (before - s.state.place) characters in
+      let rest = drop (before - s.state.place) characters in let tail = drop (length s.characters.now) s.bytes.now in
+      sym (append_assoc (encode_utf8_all found.read) (drop len slice) (rest ++ tail)) ∙ ap (λ t. (t ++ drop len slice) ++ (rest ++ tail)) found.spell
+      ∙ ap (λ t. t ++ (rest ++ tail)) (take-append-drop len slice) ∙ sym (append_assoc slice rest tail)
+      ∙ ap (λ t. t ++ tail) (take-append-drop (before - s.state.place) characters) ∙ text_from s
 
   pub passes_up_to : PassesUpTo (reader_of s) before len (further (reader_of s) len (line_ends read))
   passes_up_to = record {

@@ -5,10 +5,9 @@ use Rattle.std.specs.Prelude.{min, encode_utf8, IsUtf8, MatchOption}
 use Rattle.std.specs.Str.{StartsWithNoChar, IsValidUpTo, all_scalars}
 use Rattle.std.specs.Char.{IsScalar, len_utf8}
 use Rattle.std.proofs.Math.Nat.{le-min, min-le_left}
-use Rattle.std.proofs.Math.Utf8.{low_scalar}
 use Rattle.std.proofs.lemmas.Bool.{and_parts}
 use Rattle.std.proofs.lemmas.List.{get_or_append_left, take_all}
-use Rattle.std.proofs.lemmas.Str.{cons_from_encodes, encode_ascii, length-encode, len_utf8_bounds, IsUtf8-encode}
+use Rattle.std.proofs.lemmas.Str.{cons_from_encodes, length-encode, len_utf8_bounds, IsUtf8-encode}
 use Rattle.std.proofs.Math.Seq.{take-append_seam, drop-append_seam}
 use Rattle.py_lines.specs.Private.Run.{BeginsWith}
 use Rattle.py_lines.proofs.Text.Utf8Prefixes.{nothing_bad}
@@ -32,10 +31,6 @@ begins_with bytes rest c scalar is = record {
 -- so many bytes it has
 pub first_size : {bytes : List ℕ} {c : ℕ} → BeginsWith bytes c → len_utf8 c + length (drop (len_utf8 c) bytes) ≡ length bytes
 first_size {bytes = bytes} {c = c} next = omega (arith, ap length next.spell, length-append (encode_utf8 c) (drop (len_utf8 c) bytes), length-encode c)
-
-pub ascii_begins : (bytes : List ℕ) → 0 < length bytes → slice_index bytes 0 < 128 → BeginsWith bytes (slice_index bytes 0)
-ascii_begins [] some low = absurd (omega (arith, some))
-ascii_begins (b ∷ bs) some low = begins_with (b ∷ bs) bs b (low_scalar b (omega (arith, low))) (ap (λ t. t ++ bs) (sym (encode_ascii b low)))
 
 pub some_bytes : (bytes : List ℕ) → length bytes == 0 ≡ false → 0 < length bytes
 some_bytes bytes none = grind (arith, nat_tests)

@@ -6,7 +6,7 @@ use mir.Val.{bool_byte}
 use Rattle.std.proofs.Math.Bool.{or-false, or-true}
 use Rattle.std.proofs.lemmas.List.{take-append-drop}
 use Rattle.std.proofs.lemmas.List.Folds.{list_any-append, list_any_more}
-use Rattle.std.proofs.lemmas.List.Sums.{count_by-le-length, count_by_more_no, count_by_more_yes, sum_by-cons, sum_by-take-drop, sum_by-take-le}
+use Rattle.std.proofs.lemmas.List.Sums.{count_by_more_no, count_by_more_yes, sum_by-cons, sum_by-take-drop}
 use Rattle.std.proofs.lemmas.Bool.{and_parts, both_ways, cases_lt, cases_Bool, false_from_ne_true, not-true, or_parts}
 use Rattle.py_lines.specs.Character.{is_break, is_line_feed, is_return}
 use Rattle.py_lines.specs.Piece.{begins}
@@ -68,9 +68,6 @@ feeds_more bytes i within =
     ⊎_elim (λ yes. omega (arith, ap bool_byte (test ∙ yes), count_by_more_yes is_line_feed bytes i 0 within yes))
     (λ no. omega (arith, ap bool_byte (test ∙ no), count_by_more_no is_line_feed bytes i 0 within no))
     (cases_Bool (is_line_feed (slice_index bytes i)))
-
-pub feeds_few : (bytes : List ℕ) (i : ℕ) → count_by is_line_feed (take i bytes) ≤ length bytes
-feeds_few bytes i = omega (arith, sum_by-take-le (λ x. cond (is_line_feed x) 1 0) bytes i, count_by-le-length is_line_feed bytes)
 
 return_from : (b : ℕ) → b ≡ 13 → is_return b ≡ true
 unfolding is_return

@@ -1,6 +1,6 @@
--- The machine of Machine.antt with fields: it goes through a text whose strings hold fields, one character at a time,
--- with code in the fields of strings. Proofs tie it to Fields. The scan of a line goes by it: what the scan keeps of what is open
--- is told in its words.
+-- The machine that goes through a text whose strings hold fields, one character at a time, with code in the fields of strings: it keeps the
+-- finished pieces, the fields that are open, and the piece that is. Proofs tie it to Fields. The scan of a line goes by it: what the scan keeps
+-- of what is open is told in its words.
 use Rattle.std.specs.Prelude.{◌≡◌, ℕ, ◌+◌, Bool, true, false, not, ◌==◌, ◌||◌, ◌&&◌, Option, None, Some, List, [], ◌∷◌, ◌++◌, length, nat_lt, if◌then◌else◌}
 use Rattle.std.specs.Str.{byte}
 use Rattle.std.specs.List.{list_any}

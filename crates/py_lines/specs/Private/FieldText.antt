@@ -1,15 +1,15 @@
 -- The text of a string with fields that is simple enough to be taken at once: the machine with fields goes through it. It serves the
 -- contracts of private functions.
-use Rattle.std.specs.Prelude.{◌≡◌, ℕ, ◌+◌, ◌<◌, ◌≤◌, ◌==◌, ◌&&◌, not, nat_lt, Bool, true, false, Option, None, Some, List, [], ◌∷◌, ◌++◌, length, take, codes}
+use Rattle.std.specs.Prelude.{◌≡◌, ℕ, ◌+◌, ◌<◌, ◌≤◌, ◌==◌, ◌&&◌, not, nat_lt, Bool, true, false, Option, None, Some, List, [], ◌∷◌, length, take, codes}
 use Rattle.std.specs.Str.{byte}
+use Rattle.std.specs.List.{list_all}
 use Rattle.py_lines.specs.Character.{is_brace, is_break, is_one_of, is_quote}
 use Rattle.py_lines.specs.Piece.{Piece}
 use Rattle.py_lines.specs.FieldStrings.{literal, specification}
 use Rattle.py_lines.specs.Private.Machine.{Mode}
 use Rattle.py_lines.specs.Private.Mode as modes
-use Rattle.py_lines.specs.Private.Machine.{IsFull}
 use Rattle.py_lines.specs.Private.FieldMachine.{between, after_brace, plain, body, Level, FieldScanned, field_state, levels_open}
-use Rattle.py_lines.specs.Private.Scan.{GoesThrough}
+use Rattle.py_lines.specs.Private.Scan.{Goes, KeepsOpen}
 
 -- Where the machine stands in a string: `outer` are the fields round the string, and `l` says what stands before it in its list,
 -- and which string it is. It is between two parts of the literal part.
@@ -58,12 +58,13 @@ abbrev pub AtSpecification : List Level → Level → FieldScanned → Type 0
 AtSpecification outer l t =
     (front : List ℕ) × (held : List ℕ) × (t ≡ field_state (level_after l front ∷ outer) [] [] (body l.host specification false between) held)
 
--- characters lead from one such place to another in each string of this quote, where at most a hundred brackets and fields are open
--- round it
-abbrev pub Leads : ℕ → (List Level → Level → FieldScanned → Type 0) → List ℕ → (List Level → Level → FieldScanned → Type 0) → Type 0
-Leads quote From run To =
-    (outer : List Level) (l : Level) (depth : ℕ) (t : FieldScanned) → l.host.quote ≡ quote → is_quote quote ≡ true
-    → depth + (length l.openers + levels_open outer) ≤ 100 → From outer l t → (u : FieldScanned) × GoesThrough depth t run u × To outer l u
+-- these characters are ASCII, and lead from one such place to another in each string of this quote, where at most a hundred brackets and
+-- fields are open round it
+pub record Leads (quote : ℕ) (From : List Level → Level → FieldScanned → Type 0) (run : List ℕ) (To : List Level → Level → FieldScanned → Type 0) : Type 0 where
+  pub low : list_all (λ c. nat_lt c 128) run ≡ true
+  pub goes : (outer : List Level) (l : Level) (t : FieldScanned) → l.host.quote ≡ quote → is_quote quote ≡ true
+      → length l.openers + levels_open outer ≤ 100 → From outer l t
+      → (u : FieldScanned) × Goes t run u × KeepsOpen t run × To outer l u
 
 -- so do the first bytes, so many of them
 abbrev pub LeadsBy : ℕ → (List Level → Level → FieldScanned → Type 0) → List ℕ → ℕ → (List Level → Level → FieldScanned → Type 0) → Type 0
@@ -111,18 +112,3 @@ HasPart quote bytes (Some len) = (0 < len) × LeadsBy quote InText bytes len InT
 -- the text of a string that the bytes begin with, as far as it is simple
 abbrev pub HasText : ℕ → List ℕ → ℕ → Type 0
 HasText quote bytes len = LeadsBy quote InText bytes len InText
-
--- a short string with fields from its first quote on, where its text is simple, with so many bytes
-pub record IsQuotedText (bytes : List ℕ) (len : ℕ) : Type 0 where
-  pub q : ℕ
-  pub run : List ℕ
-  pub after : List ℕ
-  pub spell : q ∷ (run ++ q ∷ after) ≡ bytes
-  pub size : length run + 2 ≡ len
-  pub quote : is_quote q ≡ true
-  pub full : IsFull run
-  pub text : Leads q InText run InText
-
-abbrev pub HasQuotedText : List ℕ → Option ℕ → Type 0
-HasQuotedText bytes None = Unit {0}
-HasQuotedText bytes (Some len) = IsQuotedText bytes len

@@ -1,18 +1,16 @@
--- How far the scan of one logical line has come, in the words of the machines. It serves the contracts of private functions.
-use Rattle.std.specs.Prelude.{◌≡◌, ℕ, ◌==◌, ◌&&◌, not, Bool, true, false, Option, None, Some, List, [], ◌∷◌, ◌++◌, encode_utf8, encode_utf8_all, ◌⊎◌}
+-- How far the scan of one logical line has come, in the words of the machine. It serves the contracts of private functions.
+use Rattle.std.specs.Prelude.{◌≡◌, ℕ, ◌==◌, ◌&&◌, not, Bool, true, false, None, List, [], ◌∷◌, ◌++◌, encode_utf8, encode_utf8_all, ◌⊎◌}
 use Rattle.std.specs.Str.{all_scalars, StartsWithNoChar}
 use Rattle.std.specs.Char.{IsScalar}
 use Rattle.py_lines.specs.Character.{is_return, is_line_feed}
-use Rattle.py_lines.specs.Piece.{line_end, Piece, ends, spelled, begins}
-use Rattle.py_lines.specs.Balance.{depth_after, depth_through}
-use Rattle.py_lines.specs.Fields.{AreReadBefore}
+use Rattle.py_lines.specs.Piece.{line_end, Piece, ends, spelled, begins, begins_marked}
+use Rattle.py_lines.specs.Balance.{IsBalanced, depth_after, depth_through}
+use Rattle.py_lines.specs.Fields.{AreReadBefore, IsShallow}
 use Rattle.py_lines.specs.LogicalLine.{byte_len, is_line_end_class}
-use Rattle.py_lines.specs.Private.Machine.{Mode, Scanned, Bracket, brackets_of}
+use Rattle.py_lines.specs.Private.Machine.{Mode}
 use Rattle.py_lines.specs.Private.Mode as modes
-use Rattle.py_lines.specs.Private.FieldMachine.{FieldScanned, field_steps_from}
-use Rattle.py_lines.specs.Private.ScanMachine.{scan_step, scan_steps, StringsFit, IsScanSound, line_begun}
-pub use Rattle.py_lines.specs.Private.ScanMachine.{line_start}
-use Rattle.py_lines.specs.Private.Scan.{GoesOverAll, HasPending, IsFieldFault, Rests, StandsAs, has_returned, opened_at}
+use Rattle.py_lines.specs.Private.FieldMachine.{FieldScanned, field_state, plain, room_step}
+use Rattle.py_lines.specs.Private.Scan.{Goes, GoesOverAll, HasPending, IsFieldFault, Rests, StandsAs, has_returned, opened_at}
 use Rattle.py_lines.specs.declared.mode.Mode.{Mode as OpenMode}
 use Rattle.py_lines.specs.declared.mode.Mode.TheVariants as opens
 use Rattle.py_lines.specs.declared.scan.LineFault.{LineFault}
@@ -25,10 +23,15 @@ abbrev pub EndsNoLine : ℕ → List Piece → Type 0
 EndsNoLine d [] = Unit {0}
 EndsNoLine d (p ∷ ps) = (is_line_end_class p.class && (d == 0) ≡ false) × EndsNoLine (depth_after d p) ps
 
--- whether no bracket is open
-abbrev pub none_open : List Bracket → Bool
-none_open [] = true
-none_open (b ∷ bs) = false
+-- whether a line begins in this mode
+abbrev pub begins_line : Mode → Bool
+begins_line modes.Start = true
+begins_line modes.Free = true
+begins_line other = false
+
+-- the machine where nothing of a line is read, and this mode is open
+abbrev pub line_begun : Mode → FieldScanned
+line_begun m = field_state [] [] [] (plain m) []
 
 -- the scan begins a line in this mode
 abbrev pub first_open : Mode → OpenMode
@@ -38,29 +41,17 @@ first_open other = opens.Free
 abbrev pub HasBegun : Mode → Scan → Type 0
 HasBegun m scan = scan ≡ opened_at (first_open m)
 
--- the open brackets where the machine comes to
-abbrev pub stack_if : Option Scanned → Option (List Bracket)
-stack_if None = None
-stack_if (Some s) = brackets_of s.done
-
 -- pieces of one line, which the last ends
 pub record AreLine (body : List Piece) (last : Piece) (len : ℕ) : Type 0 where
   pub one_line : EndsNoLine 0 body
   pub class : last.class ≡ line_end
   pub level : depth_through 0 body ≡ 0
-  pub paired : brackets_of body ≡ Some []
   pub size : len ≡ byte_len last.text
 
--- The machines have gone through these characters of a line, none of which ended it: with these brackets open, where each string is one
--- piece.
+-- the machine has gone through these characters of a line, none of which ended it
 pub record IsUnderWay (m : Mode) (read : List ℕ) : Type 0 where
-  pub state : Scanned
-  pub steps : scan_steps (Some (line_start m)) read ≡ Some state
-  pub brackets : List Bracket
-  pub stacked : brackets_of state.done ≡ Some brackets
-  pub one_line : EndsNoLine 0 state.done
   pub field : FieldScanned
-  pub field_steps : field_steps_from (Some (line_begun m)) read ≡ Some field
+  pub goes : Goes (line_begun m) read field
 
 -- the scan of a text has come to `rest`
 pub record Reached (m : Mode) (text : List ℕ) (scan : Scan) (rest : List ℕ) : Type 0 where
@@ -73,23 +64,23 @@ pub record Reached (m : Mode) (text : List ℕ) (scan : Scan) (rest : List ℕ) 
 -- this holds of each text of which the scan has come to these bytes
 abbrev pub WhereverReached : Scan → List ℕ → (Mode → List ℕ → Type 0) → Type 0
 WhereverReached scan rest holds =
-    (m : Mode) (whole : List ℕ) → IsScanSound (line_start m) [] → Reached m whole scan rest → holds m whole
+    (m : Mode) (whole : List ℕ) → begins_line m ≡ true → Reached m whole scan rest → holds m whole
 
 -- it has come there in some line
 abbrev pub ReachedInSomeLine : Scan → List ℕ → Type 0
 ReachedInSomeLine scan rest =
-    (m : Mode) × (whole : List ℕ) × IsScanSound (line_start m) [] × Reached m whole scan rest
+    (m : Mode) × (whole : List ℕ) × (begins_line m ≡ true) × Reached m whole scan rest
 
--- these characters are a line with its line end, and may stand before what follows
+-- these characters are a line with its line end, which may stand before what follows: a mark begins it at a text's start alone
 pub record IsAtLineEnd (m : Mode) (scan : Scan) (read rest : List ℕ) (len : ℕ) : Type 0 where
   pub body : List Piece
   pub last : Piece
   pub are : AreLine body last len
-  pub to : Scanned
-  pub steps : scan_steps (Some (line_start m)) read ≡ Some to
   pub spell : spelled (body ++ last ∷ []) ≡ read
   pub fit : (after : List ℕ) → encode_utf8_all after ≡ rest → AreReadBefore (body ++ last ∷ []) after
-  pub strings : StringsFit 0 (body ++ last ∷ [])
+  pub balanced : IsBalanced (body ++ last ∷ [])
+  pub shallow : IsShallow 0 (body ++ last ∷ [])
+  pub unmarked : m ≡ modes.Free → begins_marked (body ++ last ∷ []) ≡ false
   pub stop : scan.stop ≡ byte_len read
 
 -- LF doesn't follow CR
@@ -118,14 +109,14 @@ pub record IsLeft (m : Mode) (whole : List ℕ) (scan : Scan) (read rest : List 
   pub stands : StandsAs rest way.field all.to
   pub alone : has_returned all.to ≡ true → rest ≡ []
 
--- the machines refuse the character after these of a line, which hadn't ended before it with CR
+-- the machine refuses the character after these of a line, which hadn't ended before it with CR
 pub record IsRefused (m : Mode) (read rest : List ℕ) (line_fault : LineFault) : Type 0 where
   pub way : IsUnderWay m read
   pub c : ℕ
   pub after : List ℕ
   pub scalar : IsScalar c
   pub spell : rest ≡ encode_utf8 c ++ after
-  pub none : stack_if (scan_step way.state c) ≡ None
+  pub none : room_step way.field c ≡ None
   pub open_yet : has_returned way.field && not (is_line_feed c) ≡ false
   pub fault : IsFieldFault way.field c line_fault
 

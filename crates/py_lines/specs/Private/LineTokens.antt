@@ -4,9 +4,9 @@ use Rattle.std.specs.List.{starts_with}
 use Rattle.std.specs.Str.{all_scalars}
 use Rattle.py_lines.specs.Character.{is_digit, is_line_feed, is_quote, is_return}
 use Rattle.py_lines.specs.Piece.{Class, space, word, string, operator, comment, join, Piece, begins, begins_marked, is_mark_class, spelled}
-use Rattle.py_lines.specs.Fields.{AreReadBefore}
+use Rattle.py_lines.specs.Fields.{AreReadBefore, IsShallow}
 use Rattle.py_lines.specs.LogicalLine.{byte_len, line_ends, first_or_zero, token, tokens_from, kind_of, indent_of}
-use Rattle.py_lines.specs.Private.ScanMachine.{StringsFit, begins_string}
+use Rattle.py_lines.specs.Private.Machine.{begins_string}
 use Rattle.py_lines.specs.Private.Run.{word_spelling}
 use Rattle.py_lines.specs.Token.{is_comment}
 use Rattle.py_lines.specs.declared.token.Token.{Token}
@@ -19,14 +19,14 @@ use Rattle.py_lines.specs.declared.line_tokens.Role.TheVariants as roles
 use Rattle.py_lines.specs.declared.line_tokens.LinePiece.{LinePiece}
 use Rattle.py_lines.specs.declared.line_tokens.LineTokens.{LineTokens}
 
--- the text is what these pieces spell, which something may follow, and there is room for all that their strings open where so many
--- brackets are open before them
+-- the text is what these pieces spell, which something may follow, and there is room for all that they open where so many brackets are open
+-- before them
 pub record AreTextAt (depth : ℕ) (text : List ℕ) (pieces : List Piece) : Type 0 where
   pub scalars : all_scalars (spelled pieces) ≡ true
   pub spell : encode_utf8_all (spelled pieces) ≡ text
   pub after : List ℕ
   pub fit : AreReadBefore pieces after
-  pub strings : StringsFit depth pieces
+  pub shallow : IsShallow depth pieces
 
 -- so for a whole line
 abbrev pub AreLineText : List ℕ → List Piece → Type 0

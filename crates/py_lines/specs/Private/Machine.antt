@@ -1,11 +1,11 @@
--- The machine that knows no fields in strings: it goes through a text, one character at a time. Those of FieldMachine and
--- ScanMachine, which read for `Lines` and `Scanner`, are made from it. It serves the contracts of private functions; what a
--- text reads to is said by Piece, Balance, LogicalLine and Lexed, and proofs tie the two.
+-- What a character does to the piece that is open, where that is no string with fields, what it begins, and what the open piece spells then;
+-- and the brackets that are open after pieces. The machine of FieldMachine.antt, by which the scan goes, is made from it. It serves the contracts of
+-- private functions; what a text reads to is said by Piece, Balance, LogicalLine and Lexed, and proofs tie the two.
 use Rattle.std.specs.Prelude.{◌≡◌, ℕ, Bool, true, false, ◌==◌, ◌&&◌, Option, None, Some, List, [], ◌∷◌, ◌++◌, length, nat_lt, if◌then◌else◌}
 use Rattle.py_lines.specs.Character.{is_mark, is_space, is_word_character, is_word_start, is_digit, is_quote, is_operator, is_line_feed, is_return, is_break, is_hash, is_backslash, is_r, is_b, is_f, is_t, is_u}
 use Rattle.std.specs.List.{list_all}
 use Rattle.py_lines.specs.Piece.{Class, mark, space, word, string, operator, comment, join, line_end, Piece, spelled}
-use Rattle.py_lines.specs.PieceGrammar.{IsRun, IsComment, IsPrefix, is_item, is_short_item, joined, has_triple, AreReadPlain}
+use Rattle.py_lines.specs.PieceGrammar.{IsRun, IsComment, IsPrefix, is_item, is_short_item, joined, has_triple}
 use Rattle.py_lines.specs.Balance.{is_opener, is_closer, closing_of}
 use Rattle.py_lines.specs.LogicalLine.{first_or_zero, byte_len}
 pub use Rattle.py_lines.specs.declared.mode.Spelling.{Spelling}
@@ -61,6 +61,26 @@ is_prefix_spelling Spelling.Tr = false
 is_prefix_spelling Spelling.Prefix = true
 is_prefix_spelling Spelling.Name = false
 
+-- whether the word is the prefix of a string with fields
+abbrev pub is_field_spelling : Spelling → Bool
+is_field_spelling Spelling.F = true
+is_field_spelling Spelling.Fr = true
+is_field_spelling Spelling.T = true
+is_field_spelling Spelling.Tr = true
+is_field_spelling other = false
+
+-- whether it has `r` besides
+abbrev pub is_raw_spelling : Spelling → Bool
+is_raw_spelling Spelling.Fr = true
+is_raw_spelling Spelling.Tr = true
+is_raw_spelling other = false
+
+-- whether the word is the prefix of a string, with fields or without
+abbrev pub begins_string : Spelling → Bool
+begins_string Spelling.Number = false
+begins_string Spelling.Name = false
+begins_string other = true
+
 -- the spelling of a word that goes on
 abbrev pub spelling_on : Spelling → List ℕ → Spelling
 spelling_on s [] = s
@@ -96,9 +116,6 @@ move_of (Mode.Long q) c = if c == q then Move.Grows (Mode.LongOne q) else long_m
 move_of (Mode.LongOne q) c = if c == q then Move.Grows (Mode.LongTwo q) else long_move q c
 move_of (Mode.LongTwo q) c = if c == q then Move.Closes else long_move q c
 move_of (Mode.LongEscape q) c = Move.Grows (Mode.Long q)
-move_of (Mode.FieldOpened h) c = Move.Refused
-move_of (Mode.FieldEmpty h) c = Move.Refused
-move_of Mode.Fielded c = Move.Refused
 move_of Mode.Backslash c = if is_line_feed c then Move.Closes else (if is_return c then Move.Grows Mode.JoinReturn else Move.Refused)
 move_of Mode.JoinReturn c = if is_line_feed c then Move.Closes else Move.Breaks
 move_of Mode.Return c = if is_line_feed c then Move.Closes else Move.Breaks
@@ -115,20 +132,6 @@ start_of c =
     else (if is_hash c then Start.Open Mode.Comment
     else (if is_backslash c then Start.Open Mode.Backslash
     else Start.Nothing)))))))
-
--- the pieces that are finished, and the one that is open
-pub record Scanned : Type 0 where
-  pub done : List Piece
-  pub mode : Mode
-  pub held : List ℕ
-
--- finished pieces, with none open after them
-abbrev pub fresh : List Piece → Scanned
-fresh pieces = record { done = pieces; mode = Mode.Free; held = [] }
-
--- at the text's start
-abbrev pub text_start : Scanned
-text_start = record { done = []; mode = Mode.Start; held = [] }
 
 -- the class of the open piece, and of what a character at the start or after no piece closes
 abbrev pub class_of : Mode → Class
@@ -148,36 +151,6 @@ closed Mode.Start done held = done
 closed Mode.Free done held = done
 closed m done held = done ++ record { class = class_of m; text = held } ∷ []
 
--- a new piece after finished ones
-abbrev pub started : List Piece → ℕ → Start → Option Scanned
-started done c (Start.Open m) = Some (record { done = done; mode = m; held = c ∷ [] })
-started done c Start.Operator = Some (fresh (done ++ record { class = operator; text = c ∷ [] } ∷ []))
-started done c Start.LineEnd = Some (fresh (done ++ record { class = line_end; text = c ∷ [] } ∷ []))
-started done c Start.Nothing = None
-
--- the state after a character that does this to the open piece
-abbrev pub moved : Scanned → ℕ → Move → Option Scanned
-moved s c (Move.Grows m) = Some (record { done = s.done; mode = m; held = s.held ++ c ∷ [] })
-moved s c Move.Closes = Some (fresh (s.done ++ record { class = class_of s.mode; text = s.held ++ c ∷ [] } ∷ []))
-moved s c Move.Breaks = started (closed s.mode s.done s.held) c (start_of c)
-moved s c Move.Refused = None
-
--- characters, one after another, each of which does so to the open piece
-abbrev pub steps_by : (Scanned → ℕ → Move) → Option Scanned → List ℕ → Option Scanned
-steps_by move None cs = None
-steps_by move (Some s) [] = Some s
-steps_by move (Some s) (c ∷ cs) = steps_by move (moved s c (move s c)) cs
-
--- what a character does in this machine
-abbrev pub move_from : Scanned → ℕ → Move
-move_from s c = move_of s.mode c
-
-abbrev pub step : Scanned → ℕ → Option Scanned
-step s c = moved s c (move_from s c)
-
-abbrev pub steps_from : Option Scanned → List ℕ → Option Scanned
-steps_from s cs = steps_by move_from s cs
-
 -- whether the text may end there, brackets aside
 abbrev pub is_final : Mode → Bool
 is_final Mode.Start = true
@@ -186,7 +159,6 @@ is_final Mode.Space = true
 is_final (Mode.Word s) = true
 is_final Mode.Comment = true
 is_final (Mode.Empty q) = true
-is_final (Mode.FieldEmpty h) = true
 is_final Mode.JoinReturn = true
 is_final Mode.Return = true
 is_final other = false
@@ -197,16 +169,14 @@ in_short (Mode.Opened q) = true
 in_short (Mode.Inside q) = true
 in_short (Mode.Escape q) = true
 in_short (Mode.EscapeReturn q) = true
-in_short (Mode.FieldOpened h) = true
 in_short other = false
 
--- whether a long string is open, or one with fields that holds something
+-- whether a long string is open
 abbrev pub in_long : Mode → Bool
 in_long (Mode.Long q) = true
 in_long (Mode.LongOne q) = true
 in_long (Mode.LongTwo q) = true
 in_long (Mode.LongEscape q) = true
-in_long Mode.Fielded = true
 in_long other = false
 
 -- whether a backslash stands directly before, outside strings and comments
@@ -306,15 +276,6 @@ Holds (Mode.LongTwo q) done held = (before : List ℕ) × (held ≡ before ++ q 
 Holds (Mode.LongEscape q) done held =
     (before : List ℕ) × (slash : ℕ) × (held ≡ before ++ slash ∷ []) × HoldsPrefix q before
     × (is_backslash slash ≡ true)
-Holds (Mode.FieldOpened h) done held = ⊥
-Holds (Mode.FieldEmpty h) done held = ⊥
-Holds Mode.Fielded done held = ⊥
 Holds Mode.Backslash done held = (slash : ℕ) × (held ≡ slash ∷ []) × (is_backslash slash ≡ true)
 Holds Mode.JoinReturn done held = (slash : ℕ) × (r : ℕ) × (held ≡ slash ∷ r ∷ []) × (is_backslash slash ≡ true) × (is_return r ≡ true)
 Holds Mode.Return done held = (r : ℕ) × (held ≡ r ∷ []) × (is_return r ≡ true)
-
--- the machine has read these characters, and stands so
-pub record IsSound (s : Scanned) (read : List ℕ) : Type 0 where
-  pub spell : spelled s.done ++ s.held ≡ read
-  pub holds : Holds s.mode s.done s.held
-  pub fit : (more : List ℕ) → AreReadPlain s.done (s.held ++ more)

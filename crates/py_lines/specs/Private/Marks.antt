@@ -1,4 +1,4 @@
--- The bytes at which the outline of a text stops, and where they stand, in blocks of 64.
+-- Bytes that aren't plain, and where they stand, in blocks of 64.
 use Rattle.std.specs.Prelude.{bit_and, ◌≡◌, ℕ, ◌+◌, ◌/◌, ◌<◌, ◌≤◌, Bool, true, false, ◌==◌, ◌&&◌, ◌||◌, not, nat_lt, nat_le, List, length, slice_index}
 use Rattle.std.specs.Int.{bit_at}
 use Rattle.py_lines.specs.Character.{is_backslash, is_hash, is_line_feed, is_operator, is_quote, is_return, is_space}

@@ -1,11 +1,10 @@
--- The modes of the machines: what is open, and how far it has come.
+-- The modes of the machine outside strings with fields: what is open, and how far it has come.
 use Rattle.std.specs.Prelude.{ℕ}
-use Rattle.py_lines.specs.declared.host.StringWithFields.{StringWithFields}
 use Rattle.py_lines.specs.declared.mode.Spelling.{Spelling}
 
 -- The piece that is open, and how far it has come. A number is the quote of the string: after one quote of a short string, or after two;
 -- in it; after a backslash, or after a backslash and CR, to which LF may belong; in a long one, after one or two quotes of its own, or
--- after a backslash. Of a string with fields ScanMachine knows no more than that it holds something.
+-- after a backslash.
 pub data Mode : Type 0 where
   Start : Mode
   Free : Mode
@@ -21,9 +20,6 @@ pub data Mode : Type 0 where
   LongOne : ℕ → Mode
   LongTwo : ℕ → Mode
   LongEscape : ℕ → Mode
-  FieldOpened : StringWithFields → Mode
-  FieldEmpty : StringWithFields → Mode
-  Fielded : Mode
   Backslash : Mode
   JoinReturn : Mode
   Return : Mode

@@ -1,73 +1,113 @@
 -- Bytes of a line that are passed over at one that isn't plain: what that comes to, wherever in a line they stand.
-use Rattle.std.specs.Prelude.{◌≡◌, ℕ, ◌+◌, ◌<◌, ◌≤◌, true, List, [], ◌++◌, length, take, drop, slice_index, encode_utf8_all}
-use Rattle.py_lines.specs.Character.{is_quote}
-use Rattle.py_lines.specs.LogicalLine.{byte_len}
+use Rattle.std.specs.Prelude.{◌≡◌, ℕ, ◌+◌, ◌-◌, ◌<◌, ◌≤◌, ◌⊎◌, ◌&&◌, not, nat_lt, Bool, true, false, Option, None, Some, List, [], ◌∷◌, length, take, drop, slice_index, if◌then◌else◌}
+use Rattle.std.specs.List.{count_by, list_any}
+use Rattle.py_lines.specs.Character.{is_backslash, is_break, is_line_feed, is_return}
 use Rattle.py_lines.specs.declared.frames.Frame.{Frame}
 use Rattle.py_lines.specs.declared.marks.Marks.{Marks}
-use Rattle.py_lines.specs.Private.Machine.{Mode}
+use Rattle.py_lines.specs.declared.mode.Mode.TheVariants as opens
+use Rattle.py_lines.specs.declared.mode.Spelling.{Spelling}
+use Rattle.py_lines.specs.declared.mode.Spelling.TheVariants as spellings
 use Rattle.py_lines.specs.declared.passing.Passing.{Passing}
 use Rattle.py_lines.specs.declared.passing.Special.{Special}
 use Rattle.py_lines.specs.declared.passing.Special.TheVariants as special
-use Rattle.py_lines.specs.Private.Scan.{frames_of}
-use Rattle.py_lines.specs.Private.Machine.{Bracket}
+use Rattle.py_lines.specs.declared.scan.Progress.TheVariants as progress
+use Rattle.py_lines.specs.declared.scan.Scan.{Scan}
+use Rattle.py_lines.specs.Private.Frames.{has_field}
+use Rattle.py_lines.specs.Private.Machine.{begins_string, first_spelling, spelling_with}
 use Rattle.py_lines.specs.Private.Marks.{HasMarks}
-use Rattle.py_lines.specs.Private.Outline.{BeginsOuterEnd, HoldsEnds, StandsBefore, StandsFree, tail_of}
+use Rattle.py_lines.specs.Private.Run.{is_ascii_word}
+use Rattle.py_lines.specs.Private.Scan.{Steps, Takes, passed}
 
--- nothing was passed
+-- the spelling of the word of ASCII that a text ends with, if it ends with one: with one more character or byte, and with more of them
+abbrev pub tail_with : Option Spelling → ℕ → Option Spelling
+tail_with None c = if is_ascii_word c then Some (first_spelling c) else None
+tail_with (Some s) c = if is_ascii_word c then Some (spelling_with s c) else None
+
+abbrev pub tail_on : Option Spelling → List ℕ → Option Spelling
+tail_on tail [] = tail
+tail_on tail (c ∷ cs) = tail_on (tail_with tail c) cs
+
+abbrev pub tail_of : List ℕ → Option Spelling
+tail_of text = tail_on None text
+
+-- such a word was found, or is known to begin no string
+abbrev pub IsWordBefore : Option Spelling → Option Spelling → Type 0
+IsWordBefore found tail = (found ≡ tail) ⊎ ((found ≡ Some spellings.Name) × (s : Spelling) × (tail ≡ Some s) × (begins_string s ≡ false))
+
+-- whether a backslash stands at this byte, and after it ASCII that is no line end
+abbrev pub begins_escape : List ℕ → ℕ → Bool
+begins_escape bytes at =
+    is_backslash (slice_index bytes at)
+    && (nat_lt (at + 1) (length bytes) && (nat_lt (slice_index bytes (at + 1)) 128 && not (is_break (slice_index bytes (at + 1)))))
+
+-- no byte was passed
 abbrev pub nothing_passed : Marks → Passing
-nothing_passed marks = record { all = 0; line_ends = 0; marks = marks }
+nothing_passed marks = record { all = 0; feeds = 0; returned = false; marks = marks }
 
--- the bytes up to this one were passed, with so many more line ends
-abbrev pub passed_to : Passing → ℕ → ℕ → Passing
-passed_to old to n = record old { all = to; line_ends = old.line_ends + n }
+-- the bytes up to this one were passed, with a line end at their end
+abbrev pub passed_line_end : Passing → ℕ → Passing
+passed_line_end old to = record old { all = to; feeds = old.feeds + 1 }
 
--- wherever the bytes stand so in a line, at this byte of it, so many of them can be passed
-pub record PassesOver (bytes : List ℕ) (at place len : ℕ) (st after : List Bracket) : Type 0 where
-  pub some : 0 < len
-  pub within : at + len ≤ length bytes
-  pub run : List ℕ
-  pub spell : encode_utf8_all run ≡ take len (drop at bytes)
-  pub leads : (m : Mode) (read : List ℕ) → (is_quote (slice_index bytes at) ≡ true → tail_of read ≡ tail_of (take at bytes)) → byte_len read ≡ place
-      → StandsBefore (drop at bytes) m read st → StandsFree (drop (at + len) bytes) m (read ++ run) after
+-- more bytes were passed: where none is CR, so many more LF stand in them
+pub record CountsOn (bytes : List ℕ) (old new : Passing) : Type 0 where
+  pub further : old.all ≤ new.all
+  pub few : old.feeds ≤ old.all → new.feeds ≤ new.all
+  pub unreturned : new.returned ≡ false
+      → (old.returned ≡ false) × (list_any is_return (take (new.all - old.all) (drop old.all bytes)) ≡ false)
+  pub feeds : new.returned ≡ false → new.feeds ≡ old.feeds + count_by is_line_feed (take (new.all - old.all) (drop old.all bytes))
 
--- so where these frames are open, which are those brackets, and others after them
-abbrev pub PassesFrames : List ℕ → ℕ → ℕ → ℕ → List Frame → List Frame → Type 0
-PassesFrames bytes at place len before after =
-    (st : List Bracket) → before ≡ frames_of st
-    → (later : List Bracket) × (after ≡ frames_of later) × PassesOver bytes at place len st later
+-- what a line end comes to, where nothing is open or something is
+abbrev pub line_end_special : Bool → ℕ → Special
+line_end_special true len = special.LineEnd len
+line_end_special false len = special.Passed
 
--- they were passed, after others
+-- the scan with other frames
+abbrev pub with_frames : Scan → List Frame → Scan
+with_frames old fs = record old { frames = fs }
+
+-- the scan stands at this byte of its line in code outside fields, with these frames
+pub record StandsFree (start : ℕ) (fs : List Frame) (scan : Scan) : Type 0 where
+  pub mode : scan.mode ≡ opens.Free
+  pub stop : scan.stop ≡ start
+  pub frames : scan.frames ≡ fs
+  pub outside : has_field fs ≡ false
+
+-- so many bytes of these can be passed: each scan that stands so before them stands so after them, with these frames
+abbrev pub Passes : List ℕ → ℕ → ℕ → List Frame → List Frame → Type 0
+Passes bytes len start before after =
+    (scan : Scan) → StandsFree start before scan → Takes scan bytes len (passed (with_frames scan after) len)
+
+-- What stands at a byte, which in its line is this one, was passed, with the plain bytes before it, where these frames are open; and then
+-- those are.
 pub record PassesSo (bytes : List ℕ) (at place : ℕ) (old : Passing) (b : List Frame) (new : Passing) (c : List Frame) : Type 0 where
-  pub len : ℕ
-  pub more : ℕ
-  pub some : 0 < len
-  pub within : at + len ≤ length bytes
-  pub over : PassesFrames bytes at place len b c
-  pub holds : HoldsEnds bytes at len more
-  pub is : new ≡ passed_to (record old { marks = new.marks }) (at + len) more
-  pub marked : HasMarks bytes (at + len) new.marks
+  pub further : at < new.all
+  pub within : new.all ≤ length bytes
+  pub marked : HasMarks bytes new.all new.marks
+  pub outside : has_field b ≡ false → has_field c ≡ false
+  pub over : (start : ℕ) → place ≡ start + (at - old.all) → Passes (drop old.all bytes) (new.all - old.all) start b c
 
--- a line end of so many bytes stands there
-pub record IsLineEndAt (bytes : List ℕ) (at len : ℕ) : Type 0 where
-  pub within : at < length bytes
-  pub ends : BeginsOuterEnd (drop at bytes) len
+-- so a piece that leaves all frames as they are
+abbrev pub PassesPiece : List ℕ → ℕ → Passing → Passing → Type 0
+PassesPiece bytes at old new = (place : ℕ) (b : List Frame) → PassesSo bytes at place old b new b
+
+-- a scan that stands so before bytes goes over so many of them, and the next are a line end of so many, which ends the line: the scan stops
+-- after it
+pub record EndsAfter (scan : Scan) (bytes : List ℕ) (before len : ℕ) (new : Scan) : Type 0 where
+  pub mid : Scan
+  pub takes : Takes scan bytes before mid
+  pub ends : Steps mid (drop before bytes) (progress.LineEnded len) new
 
 -- a line end of so many bytes was passed, which ends the line
 pub record EndsLineSo (bytes : List ℕ) (at : ℕ) (old : Passing) (b : List Frame) (len : ℕ) (new : Passing) (c : List Frame) : Type 0 where
-  pub ends : BeginsOuterEnd (drop at bytes) len
-  pub none : b ≡ []
-  pub kept : c ≡ b
-  pub holds : HoldsEnds bytes at len 1
-  pub is : new.all ≡ at + len
-  pub lines : new.line_ends ≡ old.line_ends + 1
-  pub marked : HasMarks bytes (at + len) new.marks
+  pub all : new.all ≡ at + len
+  pub within : new.all ≤ length bytes
+  pub marked : HasMarks bytes new.all new.marks
+  pub some : 0 < len
+  pub over : (start : ℕ) (scan : Scan) → StandsFree start b scan
+      → EndsAfter scan (drop old.all bytes) (at - old.all) len (passed (with_frames scan c) (new.all - old.all))
 
 -- what a byte that isn't plain comes to
 abbrev pub PassesSpecial : List ℕ → ℕ → ℕ → Passing → List Frame → Special → Passing → List Frame → Type 0
 PassesSpecial bytes at place old b special.Unpassed new c = (new ≡ old) × (c ≡ b)
 PassesSpecial bytes at place old b special.Passed new c = PassesSo bytes at place old b new c
 PassesSpecial bytes at place old b (special.LineEnd len) new c = EndsLineSo bytes at old b len new c
-
--- it, or the piece that it begins, was passed, where few brackets are open, which stay as they are
-abbrev pub PassesMarked : List ℕ → ℕ → Passing → Passing → Type 0
-PassesMarked bytes at old new = (place : ℕ) (b : List Frame) → length b ≤ 100 → PassesSo bytes at place old b new b

@@ -82,15 +82,6 @@ is_code_byte c = is_ascii_word c || is_code_sign c
 abbrev pub is_comment_byte : ℕ → Bool
 is_comment_byte c = not (is_break c)
 
--- the same, of ASCII
-abbrev pub is_remark_byte : ℕ → Bool
-is_remark_byte c = is_comment_byte c && nat_lt c 128
-
--- the comment that the bytes begin with has so many of them, is whole characters, and a line end follows it
-abbrev pub IsWholeComment : List ℕ → Option ℕ → Type 0
-IsWholeComment bytes None = Unit {0}
-IsWholeComment bytes (Some len) = IsRunOf is_comment_byte bytes len × IsUtf8 (take len bytes) × (len < length bytes)
-
 -- whether a byte is one of a run's
 abbrev pub is_in_run : ByteRun → ℕ → Bool
 is_in_run runs.Word = is_ascii_word
@@ -102,7 +93,6 @@ is_in_run (runs.Long q) = is_long_byte q
 is_in_run (runs.LongText q) = is_long_text_byte q
 is_in_run (runs.Literal q) = is_literal_byte q
 is_in_run runs.Code = is_code_byte
-is_in_run runs.Remark = is_remark_byte
 
 -- whether a byte, or a character, leaves the open piece as it is, where that is no string with fields
 abbrev pub stays : OpenMode → ℕ → Bool

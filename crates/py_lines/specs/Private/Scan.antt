@@ -8,7 +8,7 @@ use Rattle.py_lines.specs.Character.{is_break, is_line_feed, is_mark, is_quote, 
 use Rattle.py_lines.specs.LogicalLine.{byte_len}
 use Rattle.py_lines.specs.Faults.{kind_of_cause, Unfinished, open_bracket, kind_of_unfinished}
 use Rattle.py_lines.specs.Piece.{Piece, begins, spelled}
-use Rattle.py_lines.specs.FieldStrings.{Place, literal, specification}
+use Rattle.py_lines.specs.FieldStrings.{Host, Place, literal, specification}
 use Rattle.py_lines.specs.declared.fault.FaultKind.{FaultKind}
 use Rattle.py_lines.specs.declared.fault.FaultKind.TheVariants.{BadUtf8, TooDeep}
 use Rattle.py_lines.specs.declared.frames.OpenField.{OpenField}
@@ -26,16 +26,17 @@ use Rattle.py_lines.specs.declared.scan.Progress.{Progress}
 use Rattle.py_lines.specs.declared.scan.Progress.TheVariants as progress
 use Rattle.py_lines.specs.declared.string_text.TextMove.{TextMove}
 use Rattle.py_lines.specs.declared.string_text.TextMove.TheVariants as text_moves
-use Rattle.py_lines.specs.Private.Frames.{InField}
-use Rattle.py_lines.specs.Private.Machine.{Mode, Holds, Bracket, brackets_of, spelling_with}
+use Rattle.py_lines.specs.Private.Frames.{InField, has_field}
+use Rattle.py_lines.specs.Private.Machine.{Holds, Bracket, brackets_of, is_field_spelling, is_raw_spelling, spelling_with}
 use Rattle.py_lines.specs.Private.Mode as modes
-use Rattle.py_lines.specs.Private.Machine.{Move as moves}
-use Rattle.py_lines.specs.Private.FieldMachine.{FieldMode, FieldMove, plain, empty, body, between, grows, closes, breaks, ends_field, refused, closing_move, after_open_backslash, Level, FieldScanned, field_class_of, field_fresh, field_move, field_pieces, field_step, field_steps_from, room_step, text_place, before, frames}
+use Rattle.py_lines.specs.Private.FieldMachine.{FieldMode, FieldMove, plain, empty, body, between, grows, closes, breaks, ends_field, refused, closing_move, after_open_backslash, Level, FieldScanned, field_class_of, field_fresh, field_move, field_pieces, room_step, text_place, before, frames}
 use Rattle.py_lines.specs.Private.FieldFaults.{here, piece_start, cause_in, cause_place, is_waiting, quotes_specification, unfinished_at, unfinished_place}
-use Rattle.py_lines.specs.Private.ScanMachine.{host_in, is_field_spelling, is_raw_spelling, fielded_move, IsScanSound, line_begun, line_start}
 use Rattle.py_lines.specs.Private.Run.{BeginsWith}
 
 -- what the code's words are in the machine's
+abbrev pub host_in : StringWithFields → Host
+host_in h = record { quote = h.quote; is_long = h.is_long; is_raw = h.is_raw }
+
 abbrev pub region_in : Region → Place
 region_in regions.Literal = literal
 region_in regions.Specification = specification
@@ -95,6 +96,10 @@ HasQuote other = Unit {0}
 -- no piece is open, no bracket and no field
 abbrev pub is_settled : Scan → Bool
 is_settled scan = is_free_mode scan.mode && (length scan.frames == 0)
+
+-- no piece is open and no field, so that code of the line goes on
+abbrev pub is_in_code : Scan → Bool
+is_in_code scan = is_free_mode scan.mode && not (has_field scan.frames)
 
 -- the frames of brackets, of the line's own list, and of one that starts at this byte
 abbrev pub frames_of : List Bracket → List Frame
@@ -399,33 +404,31 @@ TakesOne t c old other new = ⊥
 abbrev pub TakesOperator : Scan → ℕ → Progress → Scan → Type 0
 TakesOperator old c result new = (t : FieldScanned) → Follows old t → field_move t.mode t.held c ≡ breaks → TakesOne t c old result new
 
--- The machine goes from one state to another through these characters, where so many brackets are open round the string: they are
--- ASCII, none of them ends a line, and the string goes on over each.
-abbrev pub GoesThrough : ℕ → FieldScanned → List ℕ → FieldScanned → Type 0
-GoesThrough depth t [] u = t ≡ u
-GoesThrough depth t (c ∷ cs) u =
-    (c < 128) × (is_break c ≡ false) × (fielded_move depth (Some t) c ≡ moves.Grows modes.Fielded)
-    × (next : FieldScanned) × (field_step t c ≡ Some next) × GoesThrough depth next cs u
-
--- it has come there from a line's start through these characters
-pub record HasReached (read : List ℕ) (t : FieldScanned) : Type 0 where
-  pub first : Mode
-  pub start : IsScanSound (line_start first) []
-  pub steps : field_steps_from (Some (line_begun first)) read ≡ Some t
-
 -- after each of these characters a piece is open, where no field is
 abbrev pub KeepsOpen : FieldScanned → List ℕ → Type 0
 KeepsOpen t [] = Unit {0}
 KeepsOpen t (c ∷ cs) = (next : FieldScanned) × (room_step t c ≡ Some next) × (next.outer ≡ [] → is_shut next.mode ≡ false) × KeepsOpen next cs
 
--- the machine goes on through the first bytes of these, so many of them, wherever it has come to in a line, and the scan follows: no piece
--- is finished by them outside fields
-pub record HoldsField (old : Scan) (bytes : List ℕ) (len : ℕ) (new : Scan) : Type 0 where
+-- the machine goes through these characters, which may be none, and the scan follows before these bytes
+abbrev pub ComesOver : FieldScanned → List ℕ → Scan → List ℕ → Type 0
+ComesOver t [] new rest = Follows new t
+ComesOver t (c ∷ cs) new rest = (u : FieldScanned) × Goes t (c ∷ cs) u × Rests new u rest
+
+-- so through the first of these bytes, so many of them
+pub record TakesFrom (t : FieldScanned) (bytes : List ℕ) (len : ℕ) (new : Scan) : Type 0 where
   pub run : List ℕ
   pub spell : encode_utf8_all run ++ drop len bytes ≡ bytes
   pub scalars : all_scalars run ≡ true
   pub size : byte_len run ≡ len
-  pub stay : (read : List ℕ) (t : FieldScanned) → HasReached read t → Rests old t bytes → (u : FieldScanned) × Goes t run u × KeepsOpen t run × Rests new u (drop len bytes)
+  pub comes : ComesOver t run new (drop len bytes)
+
+-- wherever the scan keeps count of the machine
+abbrev pub Takes : Scan → List ℕ → ℕ → Scan → Type 0
+Takes old bytes len new = (t : FieldScanned) → Follows old t → TakesFrom t bytes len new
+
+-- so that no piece is finished by them outside fields
+abbrev pub HoldsField : Scan → List ℕ → ℕ → Scan → Type 0
+HoldsField old bytes len new = (t : FieldScanned) → Follows old t → (takes : TakesFrom t bytes len new) × KeepsOpen t takes.run
 
 -- these bytes are left of others, on the first of which it has gone on so
 abbrev pub HoldsRun : Scan → List ℕ → List ℕ → Scan → Type 0

@@ -1,7 +1,7 @@
 use Rattle.std.proofs.Common.{rules, ◌-◌, ◌<◌, List, ◌≡◌, Bool, ℕ, ◌∷◌, ◌++◌, [], length, drop, slice_index, sym, ap, ◌∙◌, subst, arith, if◌then◌else◌}
 use Rattle.std.proofs.Math.Seq.{drop-append_seam}
 use Rattle.py_lines.specs.ScannerState.{HoldsAfterLines}
-use Rattle.py_lines.specs.Private.Outline.{BeginWithLines}
+use Rattle.py_lines.specs.Private.WholeLines.{BeginWithLines}
 use Rattle.py_lines.proofs.Feeds.PassedLines.{byte_after, byte_follows, nothing_after}
 use Rattle.py_lines.proofs.feed.hold_after_lines.Goals as goal
 

@@ -9,8 +9,7 @@ tells : (bytes word : List ℕ) (r : Option ℕ) → 0 < length bytes → FindsN
 tells bytes word None some nowhere = (λ none k low high. nowhere k low (omega (arith, high)), λ is. absurd (cc))
 tells bytes word (Some n) some (before, occurs) = (
   λ none. absurd (cc),
-  λ is lacks. ⊎_elim
-      (λ longer. lacks n (omega arith) (omega (arith, longer, occurs.fits)) occurs)
+  λ is lacks. ⊎_elim (λ longer. lacks n (omega arith) (omega (arith, longer, occurs.fits)) occurs)
       (λ empty. lacks 0 (omega arith) some (record { fits = omega (arith, empty); reads = λ j within. absurd (omega (arith, empty, within)) }))
       (cases_lt 0 (length word)),
 )

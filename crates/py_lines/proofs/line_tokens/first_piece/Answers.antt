@@ -12,8 +12,7 @@ returns-in-Quote c = λ p b. c.string.ensures p (class_is b c.of.ensures c.in-Qu
 
 pub returns-in-Operator : goal.returns-in-Operator
 returns-in-Operator c = λ p b.
-    subst (IsTakenFor p) (sym c.token.ensures) (operator_taken b
-    (⊎_elim (λ is. class_is b c.of.ensures is)
+    subst (IsTakenFor p) (sym c.token.ensures) (operator_taken b (⊎_elim (λ is. class_is b c.of.ensures is)
     (⊎_elim (λ is. class_is b c.of.ensures is) (λ is. class_is b c.of.ensures is)) c.in-Operator.is))
 
 pub returns-in-Hash : goal.returns-in-Hash
@@ -22,7 +21,8 @@ returns-in-Hash c = λ p b.
     (comment_taken b c.comment_run.result (class_is b c.of.ensures c.in-Hash.is) c.comment_run.ensures)
 
 pub whole_line_end-requires-in-LineFeed : goal.whole_line_end-requires-in-LineFeed
-whole_line_end-requires-in-LineFeed c = line_end_breaks c.requires.1 (⊎_elim (λ is. class_is c.requires.1 c.of.ensures is) (λ is. class_is c.requires.1 c.of.ensures is) c.in-LineFeed.is)
+whole_line_end-requires-in-LineFeed c =
+    line_end_breaks c.requires.1 (⊎_elim (λ is. class_is c.requires.1 c.of.ensures is) (λ is. class_is c.requires.1 c.of.ensures is) c.in-LineFeed.is)
 
 pub returns-in-LineFeed : goal.returns-in-LineFeed
 returns-in-LineFeed c = λ p b.

@@ -1,29 +1,26 @@
-use Rattle.std.proofs.Common.{◌≤◌, length, sym, ap, ◌∙◌, subst}
+use Rattle.std.proofs.Common.{◌≡◌, ◌≤◌, None, Some, length, sym, ap, ◌∙◌, subst}
 use Rattle.std.proofs.lemmas.List.{length-take-le}
-use Rattle.py_lines.specs.Private.FieldText.{HasQuotedText}
 use Rattle.py_lines.specs.Private.LineTokens.{IsStringLen, role_of}
-use Rattle.py_lines.specs.Private.Outline.{HasString}
+use Rattle.py_lines.specs.Private.Run.{HasWholePlainString}
 use Rattle.py_lines.proofs.FieldScans.TextLengths.{rest_of}
 use Rattle.py_lines.proofs.LineTokens.FirstString.{string_text, string_within}
-use Rattle.py_lines.proofs.LineTokens.Strings.{fields_taken, plain_taken}
+use Rattle.py_lines.proofs.LineTokens.Strings.{plain_taken}
 use Rattle.py_lines.proofs.line_tokens.string.Goals as goal
-use Rattle.py_lines.proofs.line_tokens.string.Goals.{Joined-simple, then-has_fields, else-has_fields, in-Some, in_default}
+use Rattle.py_lines.proofs.line_tokens.string.Goals.{Joined-simple, then-has_fields, else-has_fields, in-Some, in-None}
 
 is_len : (c : Joined-simple) → IsStringLen c.args.bytes.now c.match-simple.len
 is_len c =
     elim c.match-simple.branch [
       | in-Some v ↦
           subst (IsStringLen c.args.bytes.now) (sym v.len-is) (elim c.if-has_fields.branch [
-            | then-has_fields w ↦
-                fields_taken c.args.bytes.now c.args.prefix v.in-Some.len c.requires.quote c.requires.prefix
-                (sym c.requires.fields ∙ w.if-has_fields.true)
-                (subst (HasQuotedText (rest_of c.args.bytes.now c.args.prefix)) (sym w.simple-is ∙ v.in-Some.is) w.quoted_text_len-simple.ensures)
+            | then-has_fields w ↦ absurd (let clash : None ≡ Some v.in-Some.len = sym w.simple-is ∙ v.in-Some.is in cc)
             | else-has_fields w ↦
                 plain_taken c.args.bytes.now c.args.prefix v.in-Some.len c.requires.quote c.requires.prefix
-                (sym c.requires.fields ∙ w.if-has_fields.false) v.if-len-gt2.true
-                (subst (HasString (rest_of c.args.bytes.now c.args.prefix)) (sym w.simple-is ∙ v.in-Some.is) w.plain_string-simple.ensures.string)
+                (sym c.requires.fields ∙ w.if-has_fields.false)
+                (subst (HasWholePlainString (rest_of c.args.bytes.now c.args.prefix)) (sym w.simple-is ∙ v.in-Some.is)
+                w.whole_plain_string-simple.ensures)
           ])
-      | in_default v ↦ λ p is b. v.len-is ∙ v.take_first.ensures p is b
+      | in-None v ↦ λ p is b. v.len-is ∙ v.take_first.ensures p is b
     ]
 
 pub slice_bounds-line_ends-end : goal.slice_bounds-line_ends-end

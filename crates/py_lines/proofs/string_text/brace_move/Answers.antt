@@ -10,8 +10,7 @@ use Rattle.py_lines.specs.declared.mode.Mode.{Mode as OpenMode}
 use Rattle.py_lines.specs.declared.mode.Mode.TheVariants as opens
 use Rattle.py_lines.specs.Private.FieldMachine.{FieldMode, after_brace, between, body, body_move, field_move, grows}
 use Rattle.py_lines.specs.Private.Run.{BeginsWith}
-use Rattle.py_lines.specs.Private.Scan.{GrowsInText, WaitsInText, is_pending, mode_from}
-use Rattle.py_lines.specs.Private.ScanMachine.{host_in}
+use Rattle.py_lines.specs.Private.Scan.{GrowsInText, WaitsInText, is_pending, mode_from, host_in}
 use Rattle.py_lines.proofs.FieldMachine.StringParts.{open_moves}
 use Rattle.py_lines.proofs.FieldScans.StringTexts.{text_as-self}
 use Rattle.py_lines.proofs.FieldScans.StringBytes.{first_byte_at, first_is, grows_low, text_in, waits_low}
@@ -40,13 +39,11 @@ waits_brace h rest quotes none =
 
 grows_braces : (h : StringWithFields) (rest : List ℕ) → is_quote h.quote ≡ true → GrowsInText (text_in h regions.Literal false) (123 ∷ 123 ∷ rest) (opens.Fields h regions.Literal false) 2
 unfolding field_move body_move
-grows_braces h rest quotes =
-    let text = text_in h regions.Literal false in
+grows_braces h rest quotes = let text = text_in h regions.Literal false in
     grows_low text text (opens.Fields h regions.Literal false) (123 ∷ 123 ∷ []) rest (refl, quotes) refl (omega arith) (opened h, open_goes h quotes, (text, refl, refl)) (text_as-self rest text)
 
 pub returns-in-None : goal.returns-in-None
-returns-in-None c quotes =
-    literal_by (λ r. WaitsInText (text_in c.args.host r false) c.args.bytes.now) c.args.region c.in_default.not-Specification
+returns-in-None c quotes = literal_by (λ r. WaitsInText (text_in c.args.host r false) c.args.bytes.now) c.args.region c.in_default.not-Specification
     (subst (WaitsInText (text_in c.args.host regions.Literal false)) (first_byte_at c.args.bytes.now 123 c.requires (omega arith))
     (waits_brace c.args.host (drop 1 c.args.bytes.now) quotes (subst StartsWithNoChar (take_rest c.args.bytes.now 1) c.in-None.ensures)))
 

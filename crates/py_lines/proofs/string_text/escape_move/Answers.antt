@@ -9,8 +9,7 @@ use Rattle.py_lines.specs.declared.host.Region.TheVariants as regions
 use Rattle.py_lines.specs.declared.mode.Mode.{Mode as OpenMode}
 use Rattle.py_lines.specs.declared.mode.Mode.TheVariants as opens
 use Rattle.py_lines.specs.Private.FieldMachine.{At, FieldMode, after_name, after_slash, between, body, body_move, escape_move, field_move, grows, is_barred_escape}
-use Rattle.py_lines.specs.Private.ScanMachine.{host_in}
-use Rattle.py_lines.specs.Private.Scan.{BreaksInText, GrowsInText, WaitsInText, escape_in, is_part_of_text, is_pending, mode_from, region_in}
+use Rattle.py_lines.specs.Private.Scan.{host_in, BreaksInText, GrowsInText, WaitsInText, escape_in, is_part_of_text, is_pending, mode_from, region_in}
 use Rattle.py_lines.proofs.Text.CharacterTests.{none_of, the_one}
 use Rattle.py_lines.proofs.Text.Utf8Prefixes.{nothing_bad}
 use Rattle.py_lines.proofs.FieldMachine.StringParts.{slash_grows}
@@ -62,15 +61,13 @@ module _ (h : StringWithFields) (region : Region) (named : Bool) (quotes : is_qu
   -- alone
   waits_slash : length bytes < 2 → WaitsInText (at between) bytes
   unfolding is_backslash
-  waits_slash fewer =
-      subst (WaitsInText (at between)) (ap (λ t. 92 ∷ t) (sym (drop_all 1 bytes (omega (arith, fewer)))) ∙ one_byte)
+  waits_slash fewer = subst (WaitsInText (at between)) (ap (λ t. 92 ∷ t) (sym (drop_all 1 bytes (omega (arith, fewer)))) ∙ one_byte)
       (waits_low (at between) (at after_slash) (92 ∷ []) [] refl nothing_bad (at after_slash, goes, refl) (pending (92 ∷ []) refl))
 
   -- before a brace, which keeps its meaning
   grows_slash : 2 ≤ length bytes → is_brace (slice_index bytes 1) ≡ true → GrowsInText (at between) bytes mode 1
   unfolding body_move escape_move
-  grows_slash some brace =
-      subst (λ t. GrowsInText (at between) t mode 1) (two_bytes some)
+  grows_slash some brace = subst (λ t. GrowsInText (at between) t mode 1) (two_bytes some)
       (grows_low (at between) (at after_slash) mode (92 ∷ []) (slice_index bytes 1 ∷ drop 2 bytes) (refl, quotes) refl (omega arith) (at after_slash, goes, refl)
       (body_alike (slice_index bytes 1) (host_in h) (region_in region) named after_slash refl (λ c first. rw (ap is_brace (the_low (slice_index bytes 1) c (brace_low (slice_index bytes 1) brace) first) ∙ brace) refl)))
 
@@ -97,16 +94,14 @@ module _ (h : StringWithFields) (region : Region) (named : Bool) (quotes : is_qu
 
   grows_name : 2 < length bytes → h.is_raw ≡ false → slice_index bytes 1 ≡ 78 → slice_index bytes 2 ≡ 123 → GrowsInText (at between) bytes (opens.Fields h region true) 3
   unfolding body_move field_move
-  grows_name some raw name brace =
-      let to = mode_from (opens.Fields h region true) in
+  grows_name some raw name brace = let to = mode_from (opens.Fields h region true) in
       subst (λ t. GrowsInText (at between) t (opens.Fields h region true) 3)
       (ap (λ (x : ℕ). 92 ∷ 78 ∷ x ∷ drop 3 bytes) (sym brace) ∙ ap (λ t. 92 ∷ 78 ∷ t) (sym (drop-cons bytes 2 0 some)) ∙ ap (λ (x : ℕ). 92 ∷ x ∷ drop 2 bytes) (sym name) ∙ two_bytes (omega (arith, some)))
       (grows_low (at between) to (opens.Fields h region true) (92 ∷ 78 ∷ 123 ∷ []) (drop 3 bytes) (refl, quotes) refl (omega arith) (at after_slash, goes, (at after_name, name_goes raw, (to, refl, refl))) (text_as-self (drop 3 bytes) to))
 
   waits_name : 2 ≤ length bytes → length bytes < 3 → h.is_raw ≡ false → slice_index bytes 1 ≡ 78 → WaitsInText (at between) bytes
   unfolding is_backslash
-  waits_name some fewer raw name =
-      subst (WaitsInText (at between))
+  waits_name some fewer raw name = subst (WaitsInText (at between))
       (ap (λ (x : ℕ). 92 ∷ x ∷ []) (sym name) ∙ ap (λ t. 92 ∷ slice_index bytes 1 ∷ t) (sym (drop_all 2 bytes (omega (arith, fewer)))) ∙ two_bytes some)
       (waits_low (at between) (at after_name) (92 ∷ 78 ∷ []) [] refl nothing_bad (at after_slash, goes, (at after_name, name_goes raw, refl)) (pending (92 ∷ 78 ∷ []) refl))
 
@@ -132,16 +127,14 @@ returns-then-bytes-lt3 c quotes =
 -- before another byte
 come_here : (c : After-escape_len) → is_quote c.args.host.quote ≡ true → Comes (opens.Fields c.args.host c.args.region c.args.named) c.args.bytes.now (escape_in c.args.bytes.now)
 unfolding is_backslash
-come_here c quotes =
-    let d : ℕ = slice_index c.args.bytes.now 1 in
+come_here c quotes = let d : ℕ = slice_index c.args.bytes.now 1 in
     let barred : is_barred_escape (host_in c.args.host) (region_in c.args.region) d ≡ false = may_escape c.args.host c.args.region d (elim c.else-is_break.branch [
       | else-is_break-via-then-is_break+then-matches+else-not-host w ↦ inr (inl w.if-not-host.false)
       | else-is_break-via-then-is_break+else-matches w ↦ inr (inr (λ same. elim w.match-matches.branch [ in-Specification x ↦ absurd (cc) | in_default x ↦ x.in_default.not-Specification same ]))
       | else-is_break-via-else-is_break w ↦ inl (sym w.if-is_break.ensures)
     ]) in
     let no_name : HasNoName (host_in c.args.host) d (drop 2 c.args.bytes.now) = λ is.
-    let both = and_parts (d == 78) (not c.args.host.is_raw) is in
-    let name = eqb-true d 78 both.0 in
+    let both = and_parts (d == 78) (not c.args.host.is_raw) is in let name = eqb-true d 78 both.0 in
     let some : 2 < length c.args.bytes.now = elim c.else-c-eq78-2.branch [
       | else-c-eq78-2-via-then-c-eq78-2+then-not-host-3+else-bytes-lt3 w ↦ omega (arith, w.if-bytes-lt3.false)
       | else-c-eq78-2-via-then-c-eq78-2+else-not-host-3 w ↦ absurd (both_ways _ w.if-not-host-3.false both.1)

@@ -40,8 +40,7 @@ end_grows h regions.Specification named quotes (inl other) = absurd (other refl)
 end_grows h regions.Specification named quotes (inr is) = rw (is, not_quote 125 h.quote quotes refl)
 
 grows_end : (h : StringWithFields) (region : Region) (named : Bool) (bytes : List ℕ) → is_quote h.quote ≡ true → slice_index bytes 0 ≡ 125 → (region ≡ regions.Specification → ⊥) ⊎ (named ≡ true) → GrowsInText (text_in h region named) bytes (opens.Fields h region false) 1
-grows_end h region named bytes quotes first stays =
-    let to = text_in h region false in
+grows_end h region named bytes quotes first stays = let to = text_in h region false in
     subst (λ t. GrowsInText (text_in h region named) t (opens.Fields h region false) 1) (first_byte_at bytes 125 first (omega arith))
     (grows_low (text_in h region named) to (opens.Fields h region false) (125 ∷ []) (drop 1 bytes) (refl, quotes) refl (omega arith) (to, end_grows h region named quotes stays, refl) (text_as-self (drop 1 bytes) to))
 
@@ -54,8 +53,7 @@ returns-in_default-region-2 c quotes = grows_end c.args.host c.args.region c.arg
 -- what another byte does
 text_here : (c : After-text_move) → IsTextAt (text_in c.args.host c.args.region c.args.named) c.args.host.quote c.args.host.is_long (slice_index c.args.bytes.now 0)
 unfolding is_backslash
-text_here c =
-    let b = slice_index c.args.bytes.now 0 in
+text_here c = let b = slice_index c.args.bytes.now 0 in
     elim c.in_default.branch [
       | in_default-via-in-123+else-not-named w ↦
           (refl, refl, or_from (b == 92) false (ne_eqb b 92 (λ same. omega arith)) refl, ne_eqb b 125 (λ same. omega arith), and_right (b == 123) (not c.args.named) (ap not w.if-not-named.false))
@@ -64,8 +62,7 @@ text_here c =
     ]
 
 pub returns-in-Specification-Closes : goal.returns-in-Specification-Closes
-returns-in-Specification-Closes c quotes =
-    let m = text_in c.args.host c.args.region c.args.named in
+returns-in-Specification-Closes c quotes = let m = text_in c.args.host c.args.region c.args.named in
     let place = ap region_in c.in-Specification-Closes.is-0 in
     (c.in-Specification-Closes.field-0-1, subst (λ p. QuotesInText m c.args.bytes.now c.in-Specification-Closes.field-0-1 (closing_move p)) place (c.in-Specification-Closes.ensures.does (text_here (goal.at.returns-in-Specification-Closes c).After-text_move)), place)
 

@@ -22,13 +22,12 @@ long_by c q long (inr other) same = absurd (other same)
 
 quotes_here : (c : After-is_break) → IsTextAt (mode_from c.args.mode) c.args.quote c.args.is_long (slice_index c.args.bytes.now 0) → c.in-Some.c ≡ c.args.quote → QuotesCome c.args.mode c.args.bytes.now (quotes_in c.args.bytes.now)
 quotes_here c at same =
-    quotes_come c.args.mode c.args.quote c.args.bytes.now c.requires.quote c.requires.some (subst (BeginsWith c.args.bytes.now) same c.in-Some.ensures) (rw (← long_by c.in-Some.c c.args.quote c.args.is_long c.else-c-quote.either same) at)
+    quotes_come c.args.mode c.args.quote c.args.bytes.now c.requires.quote (subst (BeginsWith c.args.bytes.now) same c.in-Some.ensures) (rw (← long_by c.in-Some.c c.args.quote c.args.is_long c.else-c-quote.either same) at)
 
 -- what a backslash comes to
 escapes_here : (c : After-is_break) → IsTextAt (mode_from c.args.mode) c.args.quote c.args.is_long (slice_index c.args.bytes.now 0) → c.in-Some.c ≡ 92 → Comes c.args.mode c.args.bytes.now (escape_in c.args.bytes.now)
 unfolding is_backslash
-escapes_here c at same =
-    let first = first_byte_is c.args.bytes.now 92 (omega arith) (subst (BeginsWith c.args.bytes.now) same c.in-Some.ensures) in
+escapes_here c at same = let first = first_byte_is c.args.bytes.now 92 (omega arith) (subst (BeginsWith c.args.bytes.now) same c.in-Some.ensures) in
     escapes_come c.args.mode c.args.quote c.args.is_long (slice_index c.args.bytes.now 0) c.args.bytes.now at c.requires.quote (ap is_backslash first)
     (plain_escapes (mode_from c.args.mode) c.args.quote c.args.is_long (slice_index c.args.bytes.now 1) (drop 2 c.args.bytes.now) (rw (← first) at) c.requires.quote)
 
@@ -41,8 +40,7 @@ unfolding is_backslash
 no_slash c other = or_from (c == 92) false (ne_eqb c 92 other) refl
 
 pub returns-in-Some-eq3-clause-does : goal.returns-in-Some-eq3-clause-does
-returns-in-Some-eq3-clause-does c at =
-    let three : quotes_in c.args.bytes.now ≡ Some 3 = cc in
+returns-in-Some-eq3-clause-does c at = let three : quotes_in c.args.bytes.now ≡ Some 3 = cc in
     ⊎_elim (λ closes. closes.1) (λ grows. absurd (grows.0 refl))
     (subst (QuotesCome c.args.mode c.args.bytes.now) three (quotes_here (goal.at.returns-in-Some-eq3-clause-does c).After-is_break at c.if-c-quote-2.true))
 

@@ -55,30 +55,22 @@ slice_bounds-end-start c =
 
 pub end-requires-clause-pending : goal.end-requires-clause-pending
 end-requires-clause-pending c =
-    let f = c.meet.new.self in
-    let l = left_at (left_open (goal.at.end-requires-clause-pending c).Else-is_some) in
+    let f = c.meet.new.self in let l = left_at (left_open (goal.at.end-requires-clause-pending c).Else-is_some) in
     subst (HasPending f.state.scan.mode) (sym (next_is f l.left l.reached c.deref.result.now c.deref.ensures.value)) l.pending
 
 pub fail-requires-clause-cut : goal.fail-requires-clause-cut
 fail-requires-clause-cut c =
-    let f = c.meet.new.self in
-    let h = left_open (goal.at.fail-requires-clause-cut c).Else-is_some in
-    let s = h.scanned.0 in
-    let l = left_at h in
+    let f = c.meet.new.self in let h = left_open (goal.at.fail-requires-clause-cut c).Else-is_some in let s = h.scanned.0 in let l = left_at h in
     let comes = at_end h c.end.new.self _ (next_is f l.left l.reached c.deref.result.now c.deref.ensures.value) (Err c.in-Err.line_fault) c.in-Err.ensures in
     (within_held f s.read s.rest s.spell s.scalars c.in-Err.line_fault.place (end_fault_within h c.end.new.self c.in-Err.line_fault comes)).0
 
 pub returns-in-Ok : goal.returns-in-Ok
 returns-in-Ok c =
-    let f = c.meet.new.self in
-    let h = left_open (goal.at.returns-in-Ok c).Else-is_some in
-    let l = left_at h in
+    let f = c.meet.new.self in let h = left_open (goal.at.returns-in-Ok c).Else-is_some in let l = left_at h in
     ends_so h c.end.new.self c.in-Ok.end_len (at_end h c.end.new.self _ (next_is f l.left l.reached c.deref.result.now c.deref.ensures.value) (Ok c.in-Ok.end_len) c.in-Ok.ensures)
 
 pub returns-in-Err : goal.returns-in-Err
 returns-in-Err c =
-    let f = c.meet.new.self in
-    let h = left_open (goal.at.returns-in-Err c).Else-is_some in
-    let l = left_at h in
+    let f = c.meet.new.self in let h = left_open (goal.at.returns-in-Err c).Else-is_some in let l = left_at h in
     end_fault_fails h c.end.new.self c.in-Err.line_fault (none_is f.ready (sym c.is_some.ensures ∙ c.if-is_some.false)) c.fail.new.self c.fail.result c.fail.ensures
     (at_end h c.end.new.self _ (next_is f l.left l.reached c.deref.result.now c.deref.ensures.value) (Err c.in-Err.line_fault) c.in-Err.ensures)

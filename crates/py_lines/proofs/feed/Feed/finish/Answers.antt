@@ -5,8 +5,7 @@ use Rattle.py_lines.proofs.feed.Feed.finish.Goals as goal
 
 pub read_tokens-requires : goal.read_tokens-requires
 read_tokens-requires c =
-    let ended = c.in_ok-end_text.ensures in
-    record { holds = (ended.line, ended.holds); room = last_room c.requires.sound c.in_default.is ended }
+    let ended = c.in_ok-end_text.ensures in record { holds = (ended.line, ended.holds); room = last_room c.requires.sound c.in_default.is ended }
 
 pub returns-in_err-read_tokens : goal.returns-in_err-read_tokens
 returns-in_err-read_tokens c =

@@ -28,8 +28,7 @@ overflow_add-end c =
 
 pub returns-then-is_some : goal.returns-then-is_some
 returns-then-is_some c =
-    let f = c.args.self.now in
-    let some = sym c.is_some.ensures ∙ c.if-is_some.true in
+    let f = c.args.self.now in let some = sym c.is_some.ensures ∙ c.if-is_some.true in
     let small = stop_small f c.args.before c.requires.scanned some in
     let last = c.index.ensures ∙ get_or_default_zero f.held.items (f.state.scan.stop - 1) c.index.result.now (omega (arith, small.0, small.1)) in
     let end : f.state.scan.stop + bool_byte (c.index.result.now == 13) ≡ whole_end f.held.items f.state.scan.stop

@@ -11,18 +11,14 @@ use Rattle.py_lines.proofs.feed.Feed.hold.Goals as goal
 -- more is held after what the scan stands before
 pub scan_held-requires-clause-opens : goal.scan_held-requires-clause-opens
 scan_held-requires-clause-opens c =
-    let f = c.args.self.now in
-    let (rest, o) = c.requires.opens in
-    let bytes = take c.min.result c.args.piece.now in
+    let f = c.args.self.now in let (rest, o) = c.requires.opens in let bytes = take c.min.result c.args.piece.now in
     let items : c.extend_from_slice.new.self.items ≡ f.held.items ++ bytes = c.in_ok-extend_from_slice.ensures.items in
     (rest ++ bytes, subst (λ t. Reached (first_mode f.state.place) t f.state.scan (rest ++ bytes)) (sym items) (reached_more f rest bytes o))
 
 -- all that is held was scanned: the scan stands before the piece
 pub extend-stop-requires : goal.extend-stop-requires
 extend-stop-requires c =
-    let f = c.args.self.now in
-    let piece = c.args.piece.now in
-    let (rest, o) = c.requires.opens in
+    let f = c.args.self.now in let piece = c.args.piece.now in let (rest, o) = c.requires.opens in
     record {
       way = (first_mode f.state.place, f.held.items ++ piece, begun_sound f.state.place, reached_next f piece c.requires.opens (omega (arith, c.if-self-before.false, c.len-before.ensures)));
       bytes = omega (arith, open_stop f rest o, open_size f rest o, c.requires.room.fits);
@@ -30,17 +26,14 @@ extend-stop-requires c =
 
 pub overflow_add-self : goal.overflow_add-self
 overflow_add-self c =
-    let f = c.args.self.now in
-    let piece = c.args.piece.now in
+    let f = c.args.self.now in let piece = c.args.piece.now in
     let s = c.in-LineEnd.ensures.stops (first_mode f.state.place) (f.held.items ++ piece) (begun_sound f.state.place) (reached_next f piece c.requires.opens (omega (arith, c.if-self-before.false, c.len-before.ensures))) in
     omega (arith, stop_within s, length-append f.held.items piece, c.requires.room.fits)
 
 -- what is held then
 held_stop : (c : Joined-stop) → HoldsStop (first_mode c.args.self.now.state.place) c.args.self.now.held.items c.args.piece.now c.extend-stop.new.self c.extend-stop.result c.match-stop.len
 held_stop c =
-    let f = c.args.self.now in
-    let m = first_mode f.state.place in
-    let piece = c.args.piece.now in
+    let f = c.args.self.now in let m = first_mode f.state.place in let piece = c.args.piece.now in
     let s = c.extend-stop.ensures.stops m (f.held.items ++ piece) (begun_sound f.state.place) (reached_next f piece c.requires.opens (omega (arith, c.if-self-before.false, c.len-before.ensures))) in
     elim c.match-stop.branch [
       | in-LineEnd w ↦ subst (λ (t : Stop). HoldsStop m f.held.items piece c.extend-stop.new.self t c.match-stop.len) (sym w.in-LineEnd.is)

@@ -16,6 +16,5 @@ returns-then-not-lacks_both c =
 
 pub returns : goal.returns
 returns c =
-    let f = c.args.self.now in
-    let at = line_stands f f.ready c.requires.holds.1 (c.is_none.ensures ∙ ap not c.if-is_none.false) in
+    let f = c.args.self.now in let at = line_stands f f.ready c.requires.holds.1 (c.is_none.ensures ∙ ap not c.if-is_none.false) in
     (at.0, at.1, subst (λ (items : List ℕ). LacksBoth c.args.word.now c.args.other.now (take f.state.scan.stop items)) c.deref.ensures.value (c.lacks_both.ensures.yes c.if-not-lacks_both.false), c.let_go.ensures)

@@ -14,10 +14,8 @@ returns-in-LineEnd c = (record { held = refl; place = refl; line = refl; ended =
 
 pub fail-requires-clause-cut : goal.fail-requires-clause-cut
 fail-requires-clause-cut c =
-    let f = c.args.self.now in
-    let s = refused (goal.at.fail-requires-clause-cut c).In-Wrong in
-    let no = s.stops in
-    let line_fault = c.in-Wrong.line_fault in
+    let f = c.args.self.now in let s = refused (goal.at.fail-requires-clause-cut c).In-Wrong in
+    let no = s.stops in let line_fault = c.in-Wrong.line_fault in
     (within_held f s.read s.rest s.spell s.scalars line_fault.place (refused_within f.state.place s.read no.way no.c no.none line_fault no.fault)).0
 
 pub returns-in-Wrong : goal.returns-in-Wrong

@@ -1,5 +1,4 @@
-use Rattle.std.proofs.Common.{ℕ, List, sym, ◌∙◌, ap, not, subst, length, take, arith}
-use Rattle.std.proofs.lemmas.List.{length-take, length-take-le}
+use Rattle.std.proofs.Common.{ℕ, List, sym, ◌∙◌, ap, not, subst, length, take, arith, length-take, length-take-le}
 use Rattle.py_lines.specs.Private.Feed.{HasReadTokens, LineState}
 use Rattle.py_lines.specs.Private.LineTokens.{HoldsTokens, IsLineAfter, IsLineText}
 use Rattle.py_lines.proofs.Feeds.ReadyLines.{held_line_text, held_within, line_stands, none_is, none_read, some_read}
@@ -10,14 +9,12 @@ returns-then-is_none c = none_read c.requires.room (none_is c.args.self.now.read
 
 pub slice_bounds-read_tokens-end : goal.slice_bounds-read_tokens-end
 slice_bounds-read_tokens-end c =
-    let f = c.args.self.now in
-    let at = line_stands f f.ready c.requires.holds.1 (c.is_none.ensures ∙ ap not c.if-is_none.false) in
+    let f = c.args.self.now in let at = line_stands f f.ready c.requires.holds.1 (c.is_none.ensures ∙ ap not c.if-is_none.false) in
     sym (length-take-le f.state.scan.stop c.deref.result.now (omega (arith, held_within f at.0 at.2, ap length c.deref.ensures.value)))
 
 pub read_tokens-requires : goal.read_tokens-requires
 read_tokens-requires c =
-    let f = c.args.self.now in
-    let at = line_stands f f.ready c.requires.holds.1 (c.is_none.ensures ∙ ap not c.if-is_none.false) in
+    let f = c.args.self.now in let at = line_stands f f.ready c.requires.holds.1 (c.is_none.ensures ∙ ap not c.if-is_none.false) in
     record {
       text = subst (λ (l : List ℕ). IsLineText (take f.state.scan.stop l)) (sym c.deref.ensures.value) (held_line_text f at.0 at.2);
       lines = omega (arith, c.requires.room.fits, c.requires.room.few_lines, ap length c.deref.ensures.value, length-take f.state.scan.stop c.deref.result.now);
@@ -25,8 +22,7 @@ read_tokens-requires c =
 
 pub returns-in-Ok : goal.returns-in-Ok
 returns-in-Ok c =
-    let f = c.args.self.now in
-    let at = line_stands f f.ready c.requires.holds.1 (c.is_none.ensures ∙ ap not c.if-is_none.false) in
+    let f = c.args.self.now in let at = line_stands f f.ready c.requires.holds.1 (c.is_none.ensures ∙ ap not c.if-is_none.false) in
     let tokens = subst (λ (l : List ℕ). HoldsTokens (take f.state.scan.stop l) f.state.line c.read_tokens.new.self.tokens) c.deref.ensures.value c.in-Ok.ensures.tokens in
     let after = subst (λ (l : List ℕ). IsLineAfter f.state.line (take f.state.scan.stop l) c.in-Ok.line) c.deref.ensures.value c.in-Ok.ensures.after in
     subst (λ (s : LineState). HasReadTokens f (record f { state = s; next_line = c.in-Ok.line })) (sym c.read_tokens.ensures.same) (some_read f c.read_tokens.new.self c.in-Ok.line tokens after c.requires.room at.1 at.2)

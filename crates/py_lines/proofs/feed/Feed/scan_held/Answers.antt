@@ -14,10 +14,8 @@ slice_bounds-extend-start c = let o = c.requires.opens in omega (arith, open_wit
 -- the line that is open, whose next bytes the scan is given
 pub extend-requires : goal.extend-requires
 extend-requires c =
-    let o = c.requires.opens in
-    let f = c.args.self.now in
-    let next = next_is f o.0 o.1 c.deref.result.now c.deref.ensures.value in
-    let size = ap length next in
+    let o = c.requires.opens in let f = c.args.self.now in
+    let next = next_is f o.0 o.1 c.deref.result.now c.deref.ensures.value in let size = ap length next in
     record {
       way = (first_mode f.state.place, f.held.items, begun_sound f.state.place, subst (Reached (first_mode f.state.place) f.held.items f.state.scan) (sym next) o.1);
       bytes = omega (arith, open_stop f o.0 o.1, open_size f o.0 o.1, c.requires.room.fits, size);
@@ -25,8 +23,7 @@ extend-requires c =
 
 pub returns : goal.returns
 returns c =
-    let o = c.requires.opens in
-    let f = c.args.self.now in
+    let o = c.requires.opens in let f = c.args.self.now in
     record {
       text = record { held = refl; place = refl; line = refl; ended = refl; fault = refl };
       not_ready = c.requires.not_ready;

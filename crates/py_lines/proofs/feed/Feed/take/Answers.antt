@@ -1,9 +1,8 @@
-use Rattle.std.proofs.Common.{◌≤◌, Ok, length, take, ap, subst, length-append, arith}
-use Rattle.std.proofs.lemmas.List.{length-take-le}
+use Rattle.std.proofs.Common.{◌≤◌, Ok, length, take, ap, subst, length-append, arith, length-take-le}
 use Rattle.std.proofs.lemmas.Result.{err_from_is_err_and}
 use Rattle.py_lines.specs.Private.Feed.{StandsSo}
 use Rattle.py_lines.proofs.Feeds.OpenLine.{room_more, runs_out, scans_on}
-use Rattle.py_lines.proofs.Feeds.Taken.{back_kept, fails, taken_back}
+use Rattle.py_lines.proofs.Feeds.FedScanner.{back_kept, fails, taken_back}
 use Rattle.py_lines.proofs.feed.Feed.take.Goals as goal
 
 pub hold-requires : goal.hold-requires
@@ -22,8 +21,7 @@ returns-in_err-stop c =
 
 pub meet-requires : goal.meet-requires
 meet-requires c =
-    let (n, within, some, held) = c.in_ok-stop.ensures in
-    let bytes = take n c.args.piece.now in
+    let (n, within, some, held) = c.in_ok-stop.ensures in let bytes = take n c.args.piece.now in
     record {
       stops = held.stops;
       not_ready = held.not_ready;
@@ -38,8 +36,7 @@ returns-in_err-meet c =
 
 pub give_back-requires : goal.give_back-requires
 give_back-requires c =
-    let (n, within, some, held) = c.in_ok-stop.ensures in
-    let (text, scanned) = c.in_ok-meet.ensures in
+    let (n, within, some, held) = c.in_ok-stop.ensures in let (text, scanned) = c.in_ok-meet.ensures in
     let size = length-append c.args.self.now.held.items (take n c.args.piece.now) in
     record {
       scanned = scanned;
@@ -49,8 +46,7 @@ give_back-requires c =
 
 pub overflow_sub-result : goal.overflow_sub-result
 overflow_sub-result c =
-    let (n, within, some, held) = c.in_ok-stop.ensures in
-    let size = length-append c.args.self.now.held.items (take n c.args.piece.now) in
+    let (n, within, some, held) = c.in_ok-stop.ensures in let size = length-append c.args.self.now.held.items (take n c.args.piece.now) in
     let before : c.len-before.result ≤ length c.meet.new.self.held.items = omega (arith, c.len-before.ensures, ap length c.in_ok-meet.ensures.0.held, ap length held.text.held, size) in
     omega (arith, c.len.ensures, back_kept before c.give_back.ensures)
 

@@ -1,8 +1,7 @@
 use Rattle.std.proofs.Common.{ap, ◌∙◌, not}
 use Rattle.py_lines.specs.ScannerState.View.{ready_of}
-use Rattle.py_lines.proofs.Feeds.FedScanner.{takes_more, takes_open, takes_short}
+use Rattle.py_lines.proofs.Feeds.FedScanner.{takes_more, takes_open, takes_short, fails_on, rest_is}
 use Rattle.py_lines.proofs.Feeds.ReadyLines.{none_is}
-use Rattle.py_lines.proofs.Feeds.Taken.{fails_on, rest_is}
 use Rattle.py_lines.proofs.feed.Feed.take_bytes.Goals as goal
 
 pub loop-taken-preserved : goal.loop-taken-preserved
@@ -12,8 +11,7 @@ loop-taken-preserved c =
 
 pub returns-in-Err-Fault : goal.returns-in-Err-Fault
 returns-in-Err-Fault c =
-    let failed = rw c.in-Err-Fault.field-0-is at c.in-Err-Fault.ensures in
-    let inv = c.loop-taken.invariant in
+    let failed = rw c.in-Err-Fault.field-0-is at c.in-Err-Fault.ensures in let inv = c.loop-taken.invariant in
     let none = none_is c.loop-taken.self.ready (c.is_none.ensures ∙ ap not c.if-is_none.true) in
     (fails_on (ap (ready_of c.args.self.now) c.requires.not_ready) (ap (ready_of c.loop-taken.self) none) (takes_open inv none).0 (rest_is c.args.piece.now c.loop-taken.taken) failed.0, failed.1)
 

@@ -33,8 +33,7 @@ overflow_add-start c =
 pub overflow_add-line_here : goal.overflow_add-line_here
 overflow_add-line_here c =
     let room = taken (goal.at.overflow_add-line_here c).After-first_piece-piece c.requires.text.0 c.requires.text.1 in
-    let bound : c.pieces.line_here + c.first_piece-piece.result.line_ends < 18446744073709551616
-    = omega (arith, room.lines, c.requires.lines) in
+    let bound : c.pieces.line_here + c.first_piece-piece.result.line_ends < 18446744073709551616 = omega (arith, room.lines, c.requires.lines) in
     search (rules, bound)
 
 pub pieces-smaller : goal.pieces-smaller

@@ -20,6 +20,4 @@ returns c = run_goes_on (is_in_run c.args.self) c.args.bytes.now c.loop-len.len 
 pub overflow_add-len : goal.overflow_add-len
 overflow_add-len c =
     let s = sixteen (is_in_run c.args.self) c.args.bytes.now c.loop-len.len c.set_first-more.result _ c.loop-len.invariant.within c.loop-len-test.true c.loop-len.invariant.each c.set_first-more.ensures c.mark.ensures in
-    let room = s.room in
-    let most = s.most in
-    search (rules, most, room)
+    let room = s.room in let most = s.most in search (rules, most, room)

@@ -2,13 +2,13 @@ use Rattle.std.specs.Prelude.{◌||◌}
 use Rattle.std.specs.Simd.Lanes.{zip2}
 use Rattle.std.proofs.Common.{◌≡◌, ℕ, List, [], ◌∷◌, bit_and, bit_or, cond, eqb, leb, ltb, map, not, arith, ◌∙◌}
 use Rattle.std.proofs.lemmas.Bool.Decides.{nat_tests}
-use Rattle.py_lines.specs.Character.{is_brace, is_break, is_space}
+use Rattle.py_lines.specs.Character.{is_brace, is_space}
 use Rattle.py_lines.specs.declared.run.ByteRun.{ByteRun}
 use Rattle.py_lines.specs.declared.run.ByteRun.TheVariants as runs
 use Rattle.py_lines.specs.Private.Run.{Marks, is_ascii_word, is_between, is_code_sign, is_in_run, is_long_byte, is_text_byte}
 use Rattle.py_lines.proofs.Text.Lanes.{both_marked, either_marked, more_marked, none_marked, two_marked}
 use Rattle.py_lines.proofs.run.ByteRun.mark.Goals as goal
-use Rattle.py_lines.proofs.run.ByteRun.mark.Goals.{in-Word, in-WideWord, in-Space, in-Body, in-Text, in-Long, in-LongText, in-Literal, in-Code, in-Remark}
+use Rattle.py_lines.proofs.run.ByteRun.mark.Goals.{in-Word, in-WideWord, in-Space, in-Body, in-Text, in-Long, in-LongText, in-Literal, in-Code}
 
 -- lanes that hold this byte
 abbrev Are : ℕ → List ℕ → List ℕ → Type 0
@@ -28,9 +28,6 @@ spaces : (vs a b c : List ℕ) → Are 32 vs a → Are 9 vs b → Are 12 vs c �
 unfolding is_space
 spaces vs a b c first second third = more_marked 32 (9 ∷ 12 ∷ []) vs a (zip2 bit_or b c) first (two_marked 9 12 vs b c second third)
 
-long_text : (q : ℕ) (vs xs ys : List ℕ) → Marks (is_long_byte q) vs xs → Marks (λ c. ltb c 128) vs ys → Marks (is_in_run (runs.LongText q)) vs (zip2 bit_and xs ys)
-long_text q = both_marked (is_long_byte q) (λ c. ltb c 128)
-
 literal : (q : ℕ) (vs text a b others : List ℕ) → Marks (is_text_byte q) vs text → Are 123 vs a → Are 125 vs b → Are 0 (zip2 bit_or a b) others
     → Marks (is_in_run (runs.Literal q)) vs (zip2 bit_and text others)
 unfolding is_brace
@@ -46,13 +43,6 @@ code vs words a b c is first second third =
     (either_marked (is_between 42 47) (λ x. is_between 32 33 x || eqb x 61) vs a _ first
     (either_marked (is_between 32 33) (λ x. eqb x 61) vs b c second third))
 
-remark : (vs a b others ascii : List ℕ) → Are 10 vs a → Are 13 vs b → Are 0 (zip2 bit_or a b) others → Marks (λ x. ltb x 128) vs ascii
-    → Marks (is_in_run runs.Remark) vs (zip2 bit_and others ascii)
-unfolding is_break
-remark vs a b others ascii first second none is =
-    both_marked (λ x. not (is_break x)) (λ x. ltb x 128) vs others ascii
-    (none_marked is_break vs (zip2 bit_or a b) others (two_marked 10 13 vs a b first second) none) is
-
 by_arm : (r k : ByteRun) (vs m n : List ℕ) → r ≡ k → m ≡ n → Marks (is_in_run k) vs n → Marks (is_in_run r) vs m
 by_arm r k vs m n is same h = rw (is, same) h
 
@@ -66,11 +56,9 @@ returns c =
       | in-Body w ↦ by_arm _ _ v _ _ w.in-Body.is w.result-is w.body.ensures
       | in-Text w ↦ by_arm _ _ v _ _ w.in-Text.is w.result-is w.text.ensures
       | in-Long w ↦ by_arm _ _ v _ _ w.in-Long.is w.result-is w.long.ensures
-      | in-LongText w ↦ by_arm _ _ v _ _ w.in-LongText.is w.result-is (long_text _ v _ _ w.long-in-LongText.ensures w.ascii-in-LongText.ensures)
+      | in-LongText w ↦ by_arm _ _ v _ _ w.in-LongText.is w.result-is (both_marked (is_long_byte _) (λ x. ltb x 128) v _ _ w.long-in-LongText.ensures w.ascii-in-LongText.ensures)
       | in-Literal w ↦ by_arm _ _ v _ _ w.in-Literal.is w.result-is
           (literal _ v _ _ _ _ w.text-in-Literal.ensures w.equal-in-Literal.ensures w.equal-in-Literal-2.ensures w.equal-in-Literal-3.ensures)
       | in-Code w ↦ by_arm _ _ v _ _ w.in-Code.is w.result-is
           (code v _ _ _ _ w.words-in-Code.ensures w.between-in-Code.ensures w.between.ensures w.equal-in-Code.ensures)
-      | in-Remark w ↦ by_arm _ _ v _ _ w.in-Remark.is w.result-is
-          (remark v _ _ _ _ w.equal-in-Remark.ensures w.equal-in-Remark-2.ensures w.equal-in-Remark-3.ensures w.ascii-in-Remark.ensures)
     ]

@@ -24,7 +24,7 @@ no_return : (c : Joined-else-returned) (t : FieldScanned) → Follows c.args.sel
 no_return c t follow all =
     pending_open c.args.self.now t all.to all.run follow (pending_run c.args.self.now.mode c.args.bytes.now all.run all.rest follow.quote c.requires.pending all.scalars all.none all.spell).0 all.goes
     (λ code none is.
-    let first : slice_index c.args.bytes.now 0 ≡ 13 = ap (λ (x : List ℕ). slice_index x 0) (sym (rw is at all.spell) ∙ ap (λ x. x ++ all.rest) (low_encoded (13 ∷ []) (omega arith, tt))) in
+    let first : slice_index c.args.bytes.now 0 ≡ 13 = ap (λ (x : List ℕ). slice_index x 0) (sym (rw is at all.spell) ∙ ap (λ x. x ++ all.rest) (low_encoded (13 ∷ []) refl)) in
     elim c.else-returned.branch [
       | else-returned-via-then-returned+then-not-is_text+else-is_empty w ↦
           both_ways _ (sym w.is_empty-then-not-is_text.ensures ∙ w.if-is_empty.false) (ap (λ n. n == 0) (open-length c.args.self.now t follow) ∙ none)
@@ -47,8 +47,7 @@ returns-then-characters-bytes c = λ t follow all.
 pub unfinished-requires : goal.unfinished-requires
 unfinished-requires c = record {
   pending = λ quote.
-      let (x, (scalars, spelled)) = c.utf8_prefix-characters.utf8 in
-      let prefix = c.utf8_prefix-characters.result.now in
+      let (x, (scalars, spelled)) = c.utf8_prefix-characters.utf8 in let prefix = c.utf8_prefix-characters.result.now in
       let whole = take_all (length prefix) c.args.bytes.now c.if-characters-bytes.false in
       let run = pending_run c.args.self.now.mode c.args.bytes.now x (drop (length prefix) c.args.bytes.now) quote c.requires.pending scalars c.utf8_prefix-characters.ensures.bad
       (ap (λ p. p ++ drop (length prefix) c.args.bytes.now) (spelled ∙ c.utf8_prefix-characters.ensures.prefix) ∙ take-append-drop (length prefix) c.args.bytes.now) in
@@ -62,8 +61,7 @@ record GoesOverThem (c : Else-characters-bytes) (t : FieldScanned) (all : GoesOv
   pub length_is : length c.utf8_prefix-characters.result.now ≡ length c.args.bytes.now
 
 goes_over : (c : Else-characters-bytes) (t : FieldScanned) → Follows c.args.self.now t → (all : GoesOverAll t c.args.bytes.now) → GoesOverThem c t all
-goes_over c t follow all =
-    let prefix = c.utf8_prefix-characters.result.now in
+goes_over c t follow all = let prefix = c.utf8_prefix-characters.result.now in
     let w = whole_run c.args.bytes.now prefix all.run all.rest c.utf8_prefix-characters.ensures.prefix c.utf8_prefix-characters.utf8 c.utf8_prefix-characters.ensures.bad all.scalars all.none all.spell in
     let run = pending_run c.args.self.now.mode c.args.bytes.now all.run all.rest follow.quote c.requires.pending all.scalars all.none all.spell in
     let rest : all.rest ≡ [] = w.1 ∙ drop_all (length prefix) c.args.bytes.now c.if-characters-bytes.false in

@@ -19,8 +19,7 @@ returns c = (
   c.match-self.len,
   elim c.match-self.branch [
     | in-Fields-default-Literal-false w ↦
-        let at = w.in-Fields-default-Literal-false in
-        let mode : c.args.self.now.mode ≡ opens.Fields at.host regions.Literal false = grind arith in
+        let at = w.in-Fields-default-Literal-false in let mode : c.args.self.now.mode ≡ opens.Fields at.host regions.Literal false = grind arith in
         rw w.len-is (holds_text c.args.self.now at.host c.args.bytes.now w.text_len-len.result mode (subst HasQuote at.is c.requires.quote) (let few = w.if-len-le10.true in omega (arith, few, w.len.ensures.is)) w.text_len-len.ensures)
     | in-Fields+in-Fields w ↦
         rw w.len-is (holds_literal c.args.self.now w.in-Fields.host w.in-Fields.field-1 w.in-Fields.field-2 c.args.bytes.now w.literal_run-len.result w.in-Fields.is w.literal_run-len.ensures)

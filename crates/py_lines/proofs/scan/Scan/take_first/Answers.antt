@@ -20,7 +20,8 @@ pass-requires c =
     let (p, is, begin) = c.requires.string in
     let at = c.items.invariant.first in
     let comes = step_comes at (some_left at p is begin) c.step.result c.step.new.self c.step.ensures in
-    omega (arith, c.requires.bytes, stops_there at p is begin c.step.result c.step.new.self comes c.in_default.not-Going, string_within c.args.bytes.now p begin)
+    let stop = stops_there at p is begin c.step.result c.step.new.self comes c.in_default.not-Going in
+    omega (arith, c.requires.bytes, stop, string_within c.args.bytes.now p begin)
 
 pub returns-in_default : goal.returns-in_default
 returns-in_default c p is begin =
@@ -67,4 +68,5 @@ items-smaller c =
 
 pub items-preserved : goal.items-preserved
 items-preserved c =
-    record { first = first_run (goes (goal.at.items-preserved c).Else-is_settled) (rw (take_rest c.items.rest.now c.in-Going.len) at c.hold-rest.ensures) }
+    let held = rw (take_rest c.items.rest.now c.in-Going.len) at c.hold-rest.ensures in
+    record { first = first_run (goes (goal.at.items-preserved c).Else-is_settled) held }

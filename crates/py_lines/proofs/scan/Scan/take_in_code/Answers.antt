@@ -6,8 +6,7 @@ pub returns-in_default : goal.returns-in_default
 returns-in_default c = λ t follow. nothing_waits c.args.self.now t c.args.bytes.now follow c.requires.code c.in_default.ensures
 
 pub returns-then-is_mark : goal.returns-then-is_mark
-returns-then-is_mark c = λ t follow.
-    rw c.pass.ensures
+returns-then-is_mark c = λ t follow. rw c.pass.ensures
     (mark_taken c.args.self.now t c.args.bytes.now c.in-Some.c follow c.in-Some.ensures c.in-Start.is (sym c.is_mark.ensures ∙ c.if-is_mark.true) c.len_utf8-len.result c.len_utf8-len.ensures.value)
 
 pub returns-in-Some-with : goal.returns-in-Some-with

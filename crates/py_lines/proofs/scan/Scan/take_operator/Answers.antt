@@ -5,13 +5,11 @@ use Rattle.py_lines.proofs.scan.Scan.take_operator.Goals as goal
 use Rattle.py_lines.proofs.scan.Scan.take_operator.Goals.{then-is_opening+else-not-open, else-is_opening+in_default+else-is_closing, in_default-via-in-Some+in_default, in_default-via-in_default, else-is_closing-via-then-is_closing+else-not-close, else-is_closing-via-else-is_closing}
 
 pub returns-then-not-open : goal.returns-then-not-open
-returns-then-not-open c = λ t follow is.
-    rw c.wrong.ensures
+returns-then-not-open c = λ t follow is. rw c.wrong.ensures
     (bracket_too_deep c.args.self.now c.args.c t follow is c.requires.operator (sym c.is_opening.ensures ∙ c.if-is_opening.true) c.open.result c.if-not-open.true c.open.new.self c.open.ensures _ refl)
 
 pub returns-then-not-close : goal.returns-then-not-close
-returns-then-not-close c = λ t follow is.
-    rw c.wrong-then-not-close.ensures
+returns-then-not-close c = λ t follow is. rw c.wrong-then-not-close.ensures
     (closes_none c.args.self.now c.args.c t follow is c.requires.operator (sym c.is_closing.ensures ∙ c.if-is_closing.true)
     c.innermost.result c.innermost.ensures
     (elim c.in_default.branch [

@@ -4,8 +4,9 @@ use Rattle.py_lines.specs.Character.{is_backslash, is_quote}
 use Rattle.py_lines.specs.declared.class.Class.{Class}
 use Rattle.py_lines.specs.declared.class.Class.TheVariants as class
 use Rattle.py_lines.specs.Private.Scan.{ends_before}
-use Rattle.py_lines.proofs.FieldScans.CodeItems.{begins_so, break_waits, comment_begins, first_index, line_end_comes, nothing_wrong, operator_comes, slash_low, space_begins, word_begins}
-use Rattle.py_lines.proofs.FieldScans.TextItems.{quote_low}
+use Rattle.py_lines.proofs.FieldScans.CodeItems.{begins_so, break_waits, comment_begins, line_end_comes, nothing_wrong, operator_comes, slash_low, space_begins, word_begins}
+use Rattle.py_lines.proofs.FieldScans.StringBytes.{first_byte_is}
+use Rattle.py_lines.proofs.LineScan.AsciiRuns.{quote_ascii}
 use Rattle.py_lines.proofs.LineScan.ClassStarts.{begins_as, operator_as}
 use Rattle.py_lines.proofs.Text.FirstCharacters.{first_size}
 use Rattle.py_lines.proofs.scan.Scan.take_piece.Goals as goal
@@ -35,12 +36,12 @@ take_operator-requires-clause-operator c = operator_as c.of.result c.args.bytes.
 pub take_quotes-requires-clause-quote : goal.take_quotes-requires-clause-quote
 take_quotes-requires-clause-quote c =
     let quote = begins_as class.Quote c.of.result c.args.bytes.now c.args.c c.requires.first c.of.ensures c.in-Quote.is in
-    begins_so is_quote c.args.bytes.now c.args.c c.requires.first (quote_low c.args.c quote) quote
+    begins_so is_quote c.args.bytes.now c.args.c c.requires.first (quote_ascii c.args.c quote) quote
 
 pub take_quotes-requires-clause-after : goal.take_quotes-requires-clause-after
 take_quotes-requires-clause-after c =
     let quote = begins_as class.Quote c.of.result c.args.bytes.now c.args.c c.requires.first c.of.ensures c.in-Quote.is in
-    sym (ap (ends_before c.args.self.now.mode) (first_index c.args.bytes.now c.args.c c.requires.first (quote_low c.args.c quote))) ∙ c.requires.after
+    ap (ends_before c.args.self.now.mode) (first_byte_is c.args.bytes.now c.args.c (quote_ascii c.args.c quote) c.requires.first) ∙ c.requires.after
 
 pub take_join-requires-clause-backslash : goal.take_join-requires-clause-backslash
 take_join-requires-clause-backslash c =
@@ -50,7 +51,7 @@ take_join-requires-clause-backslash c =
 pub take_join-requires-clause-after : goal.take_join-requires-clause-after
 take_join-requires-clause-after c =
     let slash = begins_as class.Backslash c.of.result c.args.bytes.now c.args.c c.requires.first c.of.ensures c.in-Backslash.is in
-    sym (ap (ends_before c.args.self.now.mode) (first_index c.args.bytes.now c.args.c c.requires.first (slash_low c.args.c slash))) ∙ c.requires.after
+    ap (ends_before c.args.self.now.mode) (first_byte_is c.args.bytes.now c.args.c (slash_low c.args.c slash) c.requires.first) ∙ c.requires.after
 
 pub returns-in-Word : goal.returns-in-Word
 returns-in-Word c = λ t follow.
@@ -82,8 +83,7 @@ returns-in-Operator c = λ t follow.
     c.take_operator.result c.take_operator.new.self c.take_operator.ensures
 
 pub returns-in-Some : goal.returns-in-Some
-returns-in-Some c = λ t follow.
-    rw (c.take_line_end.ensures.progress, c.take_line_end.ensures.passed)
+returns-in-Some c = λ t follow. rw (c.take_line_end.ensures.progress, c.take_line_end.ensures.passed)
     (line_end_comes c.args.self.now t c.args.bytes.now c.args.c follow c.requires.first c.requires.after c.in-Some.len c.in-Some.ensures)
 
 pub returns-in-None : goal.returns-in-None

@@ -1,5 +1,5 @@
 use Rattle.std.proofs.Common.{sym, ◌∙◌}
-use Rattle.py_lines.proofs.FieldScans.Quotes.{after_piece, after_prefix, first_quote, other_word, quotes_empty, quotes_open, quotes_wait, word_alone}
+use Rattle.py_lines.proofs.FieldScans.CodeItems.{after_piece, after_prefix, first_quote, other_word, quotes_empty, quotes_open, quotes_wait, word_alone}
 use Rattle.py_lines.proofs.scan.Scan.take_quotes.Goals as goal
 use Rattle.py_lines.proofs.scan.Scan.take_quotes.Goals.{in-Word, in_default-mode, in_default-mode-via-in-Word+else-is_prefix, in_default-mode-via-in_default-mode}
 
@@ -11,9 +11,7 @@ returns-then-quotes-eq2 c = λ t follow. rw c.pass.ensures (quotes_empty c.args.
 
 pub returns : goal.returns
 returns c = λ t follow.
-    let old = c.args.self.now in
-    let bytes = c.args.bytes.now in
-    let quote = first_quote bytes c.requires.quote in
+    let old = c.args.self.now in let bytes = c.args.bytes.now in let quote = first_quote bytes c.requires.quote in
     elim c.match-self.branch [
       | in-Word w ↦
           rw (c.of_string-self.ensures, w.start-is)

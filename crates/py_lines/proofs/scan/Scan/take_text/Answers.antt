@@ -26,22 +26,18 @@ returns-in-OpensField c = λ t follow.
     opens_comes c.args.self.now t c.in-OpensField.host c.in-OpensField.region c.args.bytes.now c.open_field.result c.open_field.new.self follow does c.open_field.ensures
 
 pub end_field-requires-clause-field : goal.end_field-requires-clause-field
-end_field-requires-clause-field c =
-    let does = rw c.in-EndsField.is at c.requires.does in
-    let mode : FieldMode = mode_from c.args.self.now.mode in
+end_field-requires-clause-field c = let does = rw c.in-EndsField.is at c.requires.does in let mode : FieldMode = mode_from c.args.self.now.mode in
     field_placed mode c.args.self.now.frames (subst (StaysText (text_place mode)) does.0 (text_stays mode 125 (text_mode c.args.self.now.mode c.requires.text))) c.requires.placed
 
 pub returns-in-EndsField : goal.returns-in-EndsField
 returns-in-EndsField c = λ t follow.
-    let does = rw c.in-EndsField.is at c.requires.does in
-    let (going, field, others, top, like, placed) = c.end_field.ensures in
+    let does = rw c.in-EndsField.is at c.requires.does in let (going, field, others, top, like, placed) = c.end_field.ensures in
     subst (λ (r : Progress). ComesTo t c.args.bytes.now c.args.self.now r c.end_field.new.self) (sym going)
     (ends_over c.args.self.now t field others c.args.bytes.now c.end_field.new.self follow c.requires.text does.0 does.1 top like (rw like at placed))
 
 pub returns-in-Waits : goal.returns-in-Waits
 returns-in-Waits c = λ t follow.
-    let does = rw c.in-Waits.is at c.requires.does in
-    waits_over c.args.self.now t follow c.requires.text c.args.bytes.now does
+    let does = rw c.in-Waits.is at c.requires.does in waits_over c.args.self.now t follow c.requires.text c.args.bytes.now does
 
 pub returns-in-BreaksString : goal.returns-in-BreaksString
 returns-in-BreaksString c = λ t follow.

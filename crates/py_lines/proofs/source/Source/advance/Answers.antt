@@ -1,6 +1,4 @@
-use Rattle.std.proofs.Common.{◌≡◌, ◌≢◌, true, ◌-◌, ◌<◌, ℕ, None, List, length, take, drop, ap, arith, length-drop, length-take, refl, subst, sym, ◌∙◌}
-use Rattle.std.specs.Prelude.{Ok, Err, Result}
-use Rattle.std.proofs.lemmas.List.{take_all}
+use Rattle.std.proofs.Common.{◌≡◌, ◌≢◌, true, ◌-◌, ◌<◌, ℕ, None, List, length, take, drop, ap, arith, length-drop, length-take, refl, subst, sym, ◌∙◌, Ok, Err, Result, take_all}
 use Rattle.std.specs.Borrow.{Bor}
 use Rattle.py_lines.specs.Private.Source.{Advances, EndsLine, FailsAfter, GivesTokens, HasScanned, LexError, LineFault, LineState, Source, Stop, line_of_source, reader_of}
 use Rattle.py_lines.specs.declared.scan.Stop.TheVariants as stops
@@ -42,8 +40,7 @@ reader_kept : (old new : Source) (stop : Stop) (result : Result ℕ LineFault) �
 reader_kept old new (stops.LineEnd len) result (is, same) = ap reader_of same
 reader_kept old new (stops.Wrong line_fault) result (is, same) = ap reader_of same
 reader_kept old new stops.TextEnd result (changes, ends) =
-    let text = ap (λ (b : Bor (List ℕ)). b.now) changes.bytes in
-    let state = changes.state in
+    let text = ap (λ (b : Bor (List ℕ)). b.now) changes.bytes in let state = changes.state in
     λ i. record { text = text i; place = (state i).place; line = (state i).line; fault = (state i).fault }
 
 -- the line has ended, and the reader stands where it stood

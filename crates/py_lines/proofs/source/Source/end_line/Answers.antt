@@ -1,6 +1,4 @@
-use Rattle.std.proofs.Common.{◌≡◌, ℕ, ◌+◌, ◌-◌, ◌≤◌, List, length, take, drop, sym, ap, subst, refl, arith, length-drop, length-take}
-use Rattle.std.specs.Prelude.{Result}
-use Rattle.std.proofs.lemmas.List.{take_all}
+use Rattle.std.proofs.Common.{◌≡◌, ℕ, ◌+◌, ◌-◌, ◌≤◌, List, length, take, drop, sym, ap, subst, refl, arith, length-drop, length-take, Result, take_all}
 use Rattle.py_lines.specs.Private.Scan.{EndsTextSo, HasPending}
 use Rattle.py_lines.specs.Private.Source.{ChangesScan, EndsLine, LineFault, HasScanned, Source, Stop}
 use Rattle.py_lines.specs.declared.scan.Stop.TheVariants as stops

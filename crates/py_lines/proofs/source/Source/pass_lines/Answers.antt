@@ -1,10 +1,9 @@
-use Rattle.std.proofs.Common.{◌≡◌, Bool, ℕ, ◌+◌, ◌-◌, ◌<◌, ◌≤◌, ◌∙◌, List, take, drop, ap, length, sym, subst, false, arith, is_some}
-use Rattle.std.specs.Prelude.{encode_utf8_all}
+use Rattle.std.proofs.Common.{◌≡◌, Bool, ℕ, ◌+◌, ◌-◌, ◌<◌, ◌≤◌, ◌∙◌, List, take, drop, ap, length, sym, subst, false, arith, is_some, encode_utf8_all}
 use Rattle.std.specs.Str.{IsCharBoundary}
 use Rattle.py_lines.specs.Private.Source.{LineState, Source, reader_of}
 use Rattle.py_lines.specs.LogicalLine.{line_ends}
 use Rattle.py_lines.specs.Lines.{PassesUpTo}
-use Rattle.py_lines.specs.Private.Outline.{BeginWithLines}
+use Rattle.py_lines.specs.Private.WholeLines.{BeginWithLines}
 use Rattle.py_lines.proofs.Feeds.ReadyLines.{none_is}
 use Rattle.py_lines.proofs.Readers.PassedLines.{boundary, further, passes_up_to, room}
 use Rattle.py_lines.proofs.source.Source.pass_lines.Goals as goal
@@ -26,9 +25,8 @@ lines_found s {faulty} {before} {characters} {len} {ends} fault is_none ordered 
 pub invariant_of-self : goal.invariant_of-self
 invariant_of-self c =
     let s = c.args.self.now in
-    let (place, boundary, passes) = lines_found s c.is_some.ensures c.if-is_some.false c.if-place-before.false c.if-before-self.false c.as_bytes.ensures.value c.simple_lines-lines.ensures.lines c.simple_lines-lines.ensures.count in
-    let moved = ap (λ (t : LineState). t.place) c.pass.ensures in
-    let row = ap (λ (t : LineState). t.line) c.pass.ensures in
+    let (place, boundary, passes) = lines_found s c.is_some.ensures c.if-is_some.false c.if-place-before.false c.if-before-self.false c.as_bytes.ensures.value c.pass_lines-lines.ensures.lines c.pass_lines-lines.ensures.count in
+    let moved = ap (λ (t : LineState). t.place) c.pass.ensures in let row = ap (λ (t : LineState). t.line) c.pass.ensures in
     record {
       text = s.text;
       prefix = s.prefix;
@@ -37,11 +35,11 @@ invariant_of-self c =
       within = omega (arith, moved, place, c.if-before-self.false);
       boundary = subst (IsCharBoundary s.characters.now) (sym moved) boundary;
       start_boundary = s.start_boundary;
-      few_lines = omega (arith, moved, row, c.simple_lines-lines.ensures.few, s.few_lines);
+      few_lines = omega (arith, moved, row, c.pass_lines-lines.ensures.few, s.few_lines);
     }
 
 pub returns : goal.returns
 returns c =
     let s = c.args.self.now in
-    let (place, boundary, passes) = lines_found s c.is_some.ensures c.if-is_some.false c.if-place-before.false c.if-before-self.false c.as_bytes.ensures.value c.simple_lines-lines.ensures.lines c.simple_lines-lines.ensures.count in
-    subst (λ (t : LineState). PassesUpTo (reader_of s) c.args.before c.simple_lines-lines.result.len (record { text = s.bytes.now; place = t.place; line = t.line; fault = t.fault })) (sym c.pass.ensures) passes
+    let (place, boundary, passes) = lines_found s c.is_some.ensures c.if-is_some.false c.if-place-before.false c.if-before-self.false c.as_bytes.ensures.value c.pass_lines-lines.ensures.lines c.pass_lines-lines.ensures.count in
+    subst (λ (t : LineState). PassesUpTo (reader_of s) c.args.before c.pass_lines-lines.result.len (record { text = s.bytes.now; place = t.place; line = t.line; fault = t.fault })) (sym c.pass.ensures) passes

@@ -8,5 +8,4 @@ unit-requires-clause-tokens c = subst (λ (t : List ℕ). EachLiesIn t c.args.se
 
 pub returns : goal.returns
 returns c =
-    let s = c.args.self.now in
-    c.unit.ensures.line ∙ ap (λ (t : List ℕ). read_line s.state t s.start s.line s.end_len) c.range-text.ensures.value
+    let s = c.args.self.now in c.unit.ensures.line ∙ ap (λ (t : List ℕ). read_line s.state t s.start s.line s.end_len) c.range-text.ensures.value

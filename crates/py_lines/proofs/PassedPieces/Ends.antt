@@ -1,0 +1,66 @@
+-- A piece that ends before the next byte is passed with the bytes before it.
+use Rattle.std.proofs.Common.{◌≡◌, ℕ, ◌+◌, ◌<◌, true, false, List, [], ◌∷◌, ◌++◌, length, drop, refl, sym, ap, ◌∙◌, subst, arith, append-nil}
+use Rattle.std.specs.Prelude.{encode_utf8_all}
+use Rattle.std.proofs.lemmas.Bool.{both_ways}
+use Rattle.std.proofs.Math.Seq.{drop-append_seam}
+use Rattle.py_lines.specs.FieldStrings.{literal}
+use Rattle.py_lines.specs.Piece.{spelled}
+use Rattle.py_lines.specs.Private.Mode as modes
+use Rattle.py_lines.specs.LogicalLine.{byte_len}
+use Rattle.py_lines.specs.declared.mode.Mode.TheVariants as opens
+use Rattle.py_lines.specs.declared.scan.Scan.{Scan}
+use Rattle.py_lines.specs.Private.FieldMachine.{FieldMode, FieldScanned, before, field_fresh, field_move, field_state, plain, text_place}
+use Rattle.py_lines.specs.Private.Scan.{ComesOver, Follows, HoldsCode, IsFirstByte, Rests, Takes, ends_before, is_ending, is_text, mode_from, passed}
+use Rattle.py_lines.proofs.FieldScans.LineEnds.{breaks_mode, code_place}
+use Rattle.py_lines.proofs.FieldScans.Taking.{follows_open, follows_free, free_at, rests_ended, stands_at}
+
+-- where no piece is open, none is passed
+pub passes_none : (old : Scan) (bytes : List ℕ) → old.mode ≡ opens.Free → Takes old bytes 0 (passed old 0)
+passes_none old bytes free t follow =
+    let mode : plain modes.Free ≡ t.mode = sym (ap mode_from free) ∙ follow.mode in
+    let held : [] ≡ t.held = sym (subst (λ (m : FieldMode). HoldsCode m t.held) (sym mode) follow.holds) in
+    let same : field_fresh t.outer t.done t.openers ≡ t = λ i. field_state t.outer t.done t.openers (mode i) (held i) in
+    let more : old.stop + 0 ≡ old.stop = omega arith in
+    let stop : old.stop + 0 ≡ byte_len (before literal t.outer ++ spelled t.done) = more ∙ (stands_at old t follow (sym (ap text_place mode))).ends
+    ∙ ap (λ x. byte_len (before literal t.outer ++ (spelled t.done ++ x))) (sym held) ∙ ap (λ x. byte_len (before literal t.outer ++ x)) (append-nil (spelled t.done)) in
+    let follows = follows_free (record old { stop = old.stop + 0 }) t.outer t.done t.openers follow.frames stop in
+    record { run = []; spell = refl; scalars = refl; size = refl; comes = subst (Follows (passed old 0)) same follows }
+
+-- what is open after these bytes may end, and ends before another
+pub record EndsBefore (scan : Scan) (b : ℕ) : Type 0 where
+  pub code : is_text scan.mode ≡ false
+  pub may : is_ending (mode_from scan.mode) ≡ true
+  pub ends : (c : ℕ) → IsFirstByte b c → ends_before scan.mode c ≡ true
+
+module _ (old mid : Scan) (b : ℕ) (rest : List ℕ) (e : EndsBefore mid b) where
+  rests_there : (u : FieldScanned) → Follows mid u → Rests (passed mid 0) u (b ∷ rest)
+  rests_there u follows =
+      let place : text_place u.mode ≡ _ = sym (ap text_place follows.mode) ∙ code_place mid.mode e.code in
+      let same : mid.stop ≡ mid.stop + 0 = omega arith in
+      subst (λ (n : ℕ). Rests (free_at mid.frames n) u (b ∷ rest)) same
+      (rests_ended u mid.frames mid.start mid.stop b rest (stands_at mid u follows place) (ap is_ending (sym follows.mode) ∙ e.may) follows.holds (follows_open mid u follows)
+      (λ c first. ap (λ (m : FieldMode). field_move m u.held c) (sym follows.mode) ∙ breaks_mode mid.mode u.held c (e.ends c first) (λ s is. absurd (both_ways _ refl (sym (ap (λ n. is_ending (mode_from n)) is) ∙ e.may)))))
+
+  -- the machine is where the scan keeps count
+  rests_exactly : (u : FieldScanned) (left : List ℕ) → left ≡ [] → Rests mid u left → Rests (passed mid 0) u (b ∷ rest)
+  rests_exactly u [] none rests = rests_there u (subst (Follows mid) (sym rests.stands) rests.follows)
+  rests_exactly u (c ∷ cs) none rests = absurd (cc)
+
+  pub takes_ended : (run : List ℕ) → 0 < length run → Takes old (run ++ []) (length run) mid → Takes old (run ++ b ∷ rest) (length run) (passed mid 0)
+  takes_ended run some takes t follow =
+      let from = takes t follow in
+      let whole : encode_utf8_all from.run ≡ run =
+      sym (append-nil (encode_utf8_all from.run)) ∙ ap (λ x. encode_utf8_all from.run ++ x) (sym (drop-append_seam run [])) ∙ from.spell ∙ append-nil run in
+      record {
+        run = from.run;
+        spell = ap (λ x. encode_utf8_all from.run ++ x) (drop-append_seam run (b ∷ rest)) ∙ ap (λ x. x ++ b ∷ rest) whole;
+        scalars = from.scalars;
+        size = from.size;
+        comes = by from.run from.size from.comes;
+      }
+    where
+      by : (cs : List ℕ) → byte_len cs ≡ length run → ComesOver t cs mid (drop (length run) (run ++ []))
+          → ComesOver t cs (passed mid 0) (drop (length run) (run ++ b ∷ rest))
+      by [] size comes = absurd (omega (arith, some, size))
+      by (c ∷ cs) size (u, goes, rests) =
+          (u, goes, subst (Rests (passed mid 0) u) (sym (drop-append_seam run (b ∷ rest))) (rests_exactly u (drop (length run) (run ++ [])) (drop-append_seam run []) rests))

@@ -1,0 +1,263 @@
+-- What a byte that isn't plain begins, after plain bytes, as the scan would take it: a bracket, a line end, a short string of ASCII, or a
+-- comment.
+use Rattle.std.proofs.Common.{◌≡◌, ℕ, ◌+◌, ◌<◌, ◌==◌, ◌&&◌, not, nat_lt, Bool, true, false, Option, None, Some, List, [], ◌∷◌, ◌++◌, length, slice_index, refl, sym, ap, ◌∙◌, subst, arith, append_assoc, length-append}
+use Rattle.std.specs.Prelude.{codes}
+use Rattle.std.specs.Char.{len_utf8}
+use Rattle.std.specs.List.{list_all}
+use Rattle.std.proofs.lemmas.Bool.{and_parts, both_ways, ltb-true, ne_eqb, not-true}
+use Rattle.std.proofs.lemmas.Str.{len_utf8_ascii}
+use Rattle.std.proofs.Math.Path.{transport}
+use Rattle.std.proofs.Math.Seq.{drop-append_seam}
+use Rattle.py_lines.specs.Balance.{is_closing, is_opening}
+use Rattle.py_lines.specs.Character.{is_backslash, is_break, is_hash, is_operator, is_quote}
+use Rattle.py_lines.specs.declared.frames.Frame.{Frame}
+use Rattle.py_lines.specs.declared.mode.Mode.{Mode as OpenMode}
+use Rattle.py_lines.specs.declared.mode.Mode.TheVariants as opens
+use Rattle.py_lines.specs.declared.mode.Spelling.{Spelling}
+use Rattle.py_lines.specs.declared.mode.Spelling.TheVariants as spellings
+use Rattle.py_lines.specs.declared.scan.Progress.TheVariants as progress
+use Rattle.py_lines.specs.declared.scan.Scan.{Scan}
+use Rattle.py_lines.specs.Private.Frames.{ClosesBracket, OpensBracket}
+use Rattle.py_lines.specs.Private.FieldMachine.{FieldScanned, closes, field_move, plain}
+use Rattle.py_lines.specs.Private.LineEnds.{BeginsOuterEnd}
+use Rattle.py_lines.specs.Private.Machine.{begins_string, is_field_spelling, move_of, short_move}
+use Rattle.py_lines.specs.Private.Mode as modes
+use Rattle.py_lines.specs.Private.Passing.{EndsAfter, tail_of, with_frames}
+use Rattle.py_lines.specs.Private.Run.{is_body_byte, is_text_byte}
+use Rattle.py_lines.specs.Private.Scan.{ComesTo, Follows, GoesOver, GrowsInText, QuotesInText, Steps, Takes, TakesOperator, TextGoes, begun_at, ends_before, grown, is_text, line_end_progress, mode_from, passed, quotes_in, string_mode, with_bytes}
+use Rattle.py_lines.specs.Private.Marks.{is_plain}
+use Rattle.py_lines.proofs.Machine.LiveTexts.{closing-operator}
+use Rattle.py_lines.proofs.Machine.Starts.{opening_operator, start-hash}
+use Rattle.py_lines.proofs.FieldScans.CodeItems.{comment_begins, line_end_comes, operator_comes, piece_grows, StringBegun, after_piece, after_prefix, other_word, quotes_open}
+use Rattle.py_lines.proofs.FieldScans.PlainCode.{over_code}
+use Rattle.py_lines.proofs.FieldScans.Operators.{bracket_opens, closes_bracket}
+use Rattle.py_lines.proofs.FieldScans.StringBytes.{closes_short, grows_low, grows_other}
+use Rattle.py_lines.proofs.FieldScans.StringTexts.{text_as-self}
+use Rattle.py_lines.proofs.FieldScans.Takes.{takes_none, takes_on, takes_step}
+use Rattle.py_lines.proofs.FieldScans.Taking.{free_at}
+use Rattle.py_lines.proofs.FieldScans.TextItems.{closes_over, grows_over}
+use Rattle.py_lines.proofs.LineScan.AsciiRuns.{break_low, is_low_from, quote_ascii}
+use Rattle.py_lines.proofs.LineScan.Runs.{body_parts}
+use Rattle.py_lines.proofs.LogicalLines.Cuts.{break-return}
+use Rattle.py_lines.proofs.PassedPieces.Ends.{EndsBefore, takes_ended}
+use Rattle.py_lines.proofs.PassedPieces.PlainBytes.{IsTail, PlainTo, low_first, tail_ends}
+use Rattle.py_lines.proofs.Text.CharacterTests.{each_of, operator_ascii}
+use Rattle.py_lines.proofs.Text.FirstBytes.{first_low}
+
+-- where this mode is open, these bytes leave it so, whatever follows them
+abbrev pub Stays : OpenMode → List ℕ → Type 0
+Stays m text = (scan : Scan) → scan.mode ≡ m → (rest : List ℕ) → Takes scan (text ++ rest) (length text) (with_bytes scan (length text))
+
+stays_none : (m : OpenMode) → Stays m []
+stays_none m scan mode rest = subst (Takes scan rest 0) still (takes_none scan rest)
+  where
+    still : scan ≡ with_bytes scan 0
+    still = let same : scan.stop ≡ scan.stop + 0 = omega arith in ap (λ (n : ℕ). record scan { stop = n }) same
+
+pub stays_on : (m : OpenMode) (xs ys : List ℕ) → Stays m xs → Stays m ys → Stays m (xs ++ ys)
+stays_on m xs ys first second scan mode rest =
+    let a : ℕ = length xs in
+    let b : ℕ = length ys in
+    let size : a + b ≡ length (xs ++ ys) = sym (length-append xs ys) in
+    let far : scan.stop + a + b ≡ scan.stop + length (xs ++ ys) = omega (arith, size) in
+    let more = subst (λ (t : List ℕ). Takes (with_bytes scan a) t b (with_bytes (with_bytes scan a) b)) (sym (drop-append_seam xs (ys ++ rest))) (second (with_bytes scan a) mode rest) in
+    transport (λ i. Takes scan (sym (append_assoc xs ys rest) i) (size i) (record scan { stop = far i }))
+    (takes_on scan (with_bytes scan a) (with_bytes (with_bytes scan a) b) (xs ++ (ys ++ rest)) a b (first scan mode (ys ++ rest)) more)
+
+pub stays_run : (m : OpenMode) (passes : ℕ → Bool) → ((c : ℕ) → passes c ≡ true → Stays m (c ∷ [])) → (text : List ℕ) → list_all passes text ≡ true
+    → Stays m text
+stays_run m passes each [] all = stays_none m
+stays_run m passes each (c ∷ cs) all =
+    let parts = and_parts (passes c) (list_all passes cs) all in
+    stays_on m (c ∷ []) cs (each c parts.0) (stays_run m passes each cs parts.1)
+
+-- what may stand in a comment of ASCII
+abbrev pub is_remark : ℕ → Bool
+is_remark c = nat_lt c 128 && not (is_break c)
+
+pub remark_byte : (c : ℕ) → is_remark c ≡ true → Stays opens.Comment (c ∷ [])
+remark_byte c remark old mode rest =
+    let parts = and_parts (nat_lt c 128) (not (is_break c)) remark in
+    let low = ltb-true c 128 parts.0 in
+    takes_step old (with_bytes old 1) (c ∷ rest) 1 (λ t follow.
+    subst (λ m. GoesOver t (c ∷ rest) 1 (record old { mode = m; stop = old.stop + 1 })) (sym mode)
+    (piece_grows old t (c ∷ rest) c follow (low_first c rest low) opens.Comment (grown old.mode c) refl (ap (λ m. grown m c) mode ∙ rw (not-true _ parts.1) refl) 1 (sym (len_utf8_ascii c low))))
+
+pub slash-not-quote : is_quote 92 ≡ false
+unfolding is_quote
+slash-not-quote = refl
+
+pub text_parts : (q c : ℕ) → is_text_byte q c ≡ true → (c == q ≡ false) × (is_backslash c ≡ false) × (is_break c ≡ false) × (c < 128)
+text_parts q c text =
+    let both = and_parts (is_body_byte q c) (nat_lt c 128) text in
+    let is = body_parts q c both.0 in
+    (is.0, is.1, is.2, ltb-true c 128 both.1)
+
+-- The text of a short string of ASCII. Each of its bytes stays in it, and its quote ends it.
+module _ (q : ℕ) (quote : is_quote q ≡ true) where
+  pub text_byte : (c : ℕ) → is_text_byte q c ≡ true → Stays (opens.Short q) (c ∷ [])
+  text_byte c text old mode rest =
+      let is = text_parts q c text in
+      let first = low_first c rest is.3 in
+      takes_step old (with_bytes old 1) (c ∷ rest) 1 (λ t follow.
+      grows_over old t follow (ap is_text mode) (c ∷ rest) (opens.Short q) 1 (with_bytes old 1)
+      (subst (λ n. GrowsInText t.mode (c ∷ rest) (opens.Short q) n) (len_utf8_ascii c is.3)
+      (subst (λ m. GrowsInText m (c ∷ rest) (opens.Short q) (len_utf8 c)) (sym (ap mode_from mode) ∙ follow.mode)
+      (grows_other (opens.Short q) q false c (c ∷ rest) quote first is.0 is.1 (rw is.2 refl) (refl, refl))))
+      (ap (λ m. record old { mode = m; stop = old.stop + 1 }) mode))
+
+  slash_goes : (c : ℕ) → is_break c ≡ false → TextGoes (plain (modes.Inside q)) (92 ∷ c ∷ []) (plain (modes.Inside q))
+  unfolding field_move move_of short_move is_backslash
+  slash_goes c none =
+      let other : 92 == q ≡ false = ne_eqb 92 q (λ same. both_ways _ slash-not-quote (ap is_quote same ∙ quote)) in
+      (plain (modes.Escape q), rw other refl, (plain (modes.Inside q), rw (break-return c none) refl, refl))
+
+  pub escape_stays : (c : ℕ) → c < 128 → is_break c ≡ false → Stays (opens.Short q) (92 ∷ c ∷ [])
+  escape_stays c low none old mode rest =
+      takes_step old (with_bytes old 2) (92 ∷ c ∷ rest) 2 (λ t follow.
+      grows_over old t follow (ap is_text mode) (92 ∷ c ∷ rest) (opens.Short q) 2 (with_bytes old 2)
+      (subst (λ m. GrowsInText m (92 ∷ c ∷ rest) (opens.Short q) 2) (sym (ap mode_from mode) ∙ follow.mode)
+      (grows_low (plain (modes.Inside q)) (plain (modes.Inside q)) (opens.Short q) (92 ∷ c ∷ []) rest (refl, quote) (rw (is_low_from c low) refl) (omega arith) (slash_goes c none)
+      (text_as-self rest (plain (modes.Inside q)))))
+      (ap (λ m. record old { mode = m; stop = old.stop + 2 }) mode))
+
+  quote_closes : (old : Scan) (rest : List ℕ) → old.mode ≡ opens.Short q → Takes old (q ∷ rest) 1 (passed old 1)
+  quote_closes old rest mode =
+      let first = low_first q rest (quote_ascii q quote) in
+      takes_step old (passed old 1) (q ∷ rest) 1 (λ t follow.
+      closes_over old t follow (ap is_text mode) (q ∷ rest) 1 (passed old 1)
+      (subst (λ m. QuotesInText m (q ∷ rest) 1 closes) (sym (ap mode_from mode) ∙ follow.mode)
+      (closes_short (plain (modes.Inside q)) q q (q ∷ rest) quote first refl (refl, refl))) refl)
+
+-- no word ends there, or the prefix of a string without fields
+abbrev pub PlainBefore : Option Spelling → Type 0
+PlainBefore None = Unit {0}
+PlainBefore (Some s) = (begins_string s ≡ true) × (is_field_spelling s ≡ false)
+
+-- what a byte that isn't plain begins, after plain bytes
+module _ {scan : Scan} {run : List ℕ} (p : PlainTo scan run) (c : ℕ) (rest : List ℕ) (special : is_plain c ≡ false) where
+  -- what the scan would be before it
+  abbrev mid : Scan
+  mid = over_code scan run
+
+  ends_it : c < 128 → ends_before mid.mode c ≡ true
+  ends_it low = tail_ends (tail_of run) mid.mode c p.tail low special
+
+  -- so many bytes more are taken, after which these frames are open
+  abbrev pub Over : ℕ → List Frame → Type 0
+  Over k fs = Takes scan (run ++ c ∷ rest) (length run + k) (passed (with_frames scan fs) (length run + k))
+
+  passed_as : (k : ℕ) (fs : List Frame) → passed (with_frames mid fs) k ≡ passed (with_frames scan fs) (length run + k)
+  passed_as k fs = let same : mid.stop + k ≡ scan.stop + (length run + k) = omega (arith, p.stop) in ap (λ (n : ℕ). free_at fs n) same
+
+  over : (k : ℕ) (fs : List Frame) → Takes mid (c ∷ rest) k (passed (with_frames mid fs) k) → Over k fs
+  over k fs takes =
+      takes_on scan mid (passed (with_frames scan fs) (length run + k)) (run ++ c ∷ rest) (length run) k (p.takes (c ∷ rest))
+      (transport (λ i. Takes mid (sym (drop-append_seam run (c ∷ rest)) i) k (passed_as k fs i)) takes)
+
+  -- a bracket
+  bracket_over : (more : List Frame) → is_operator c ≡ true → TakesOperator mid c (progress.Going 1) (passed (with_frames mid more) 1) → Over 1 more
+  bracket_over more stands takes =
+      let low = operator_ascii c stands in
+      over 1 more (takes_step mid (passed (with_frames mid more) 1) (c ∷ rest) 1 (λ t follow.
+      operator_comes mid t (c ∷ rest) c follow (low_first c rest low) (ends_it low) stands (progress.Going 1) (passed (with_frames mid more) 1) takes))
+
+  pub opening_over : (more : List Frame) → is_opening c ≡ true → OpensBracket mid.frames c mid.stop true more → Over 1 more
+  opening_over more opens met =
+      let stands = opening_operator c opens in
+      bracket_over more stands (λ u follows ends. bracket_opens mid c u follows ends stands opens true refl more met (with_frames mid more) _ refl refl)
+
+  pub closing_over : (more : List Frame) → is_closing c ≡ true → ClosesBracket mid.frames c true more → Over 1 more
+  closing_over more shuts met =
+      let stands = closing-operator c shuts in
+      bracket_over more stands (λ u follows ends. closes_bracket mid c u follows ends stands shuts true refl more met (with_frames mid more) _ refl refl)
+
+  -- a line end goes on with the line, or ends it
+  module _ (len : ℕ) (ends : is_break c ≡ true) (begins : BeginsOuterEnd (c ∷ rest) len) where
+    break_comes : (none : Bool) → length mid.frames == 0 ≡ none → Steps mid (c ∷ rest) (line_end_progress none len) (passed mid len)
+    break_comes none is t follow =
+        let low = break_low c ends in
+        subst (λ b. ComesTo t (c ∷ rest) mid (line_end_progress b len) (passed mid len)) is (line_end_comes mid t (c ∷ rest) c follow (low_first c rest low) (ends_it low) len begins)
+
+    pub break_over : length mid.frames == 0 ≡ false → Over len mid.frames
+    break_over some = over len mid.frames (takes_step mid (passed mid len) (c ∷ rest) len (break_comes false some))
+
+    pub break_ends : length mid.frames == 0 ≡ true
+        → EndsAfter scan (run ++ c ∷ rest) (length run) len (passed (with_frames scan mid.frames) (length run + len))
+    break_ends none = record {
+      mid = mid;
+      takes = p.takes (c ∷ rest);
+      ends = transport (λ i. Steps mid (sym (drop-append_seam run (c ∷ rest)) i) (progress.LineEnded len) (passed_as len mid.frames i)) (break_comes true none);
+    }
+
+-- a short string, before whose quote no word stands, or the prefix of one without fields
+module _ {scan : Scan} {run : List ℕ} (p : PlainTo scan run) (q : ℕ) (special : is_plain q ≡ false) (quote : is_quote q ≡ true) where
+  abbrev before_it : Scan
+  before_it = over_code scan run
+
+  abbrev Opened : ℕ → Scan
+  Opened start = record before_it { mode = opens.Short q; start = start; stop = before_it.stop + 1 }
+
+  first_quote : (d : ℕ) (rest : List ℕ) → (d ≡ q → ⊥) → PlainBefore (tail_of run) → (start : ℕ) × Takes before_it (q ∷ d ∷ rest) 1 (Opened start)
+  first_quote d rest other = go (tail_of run) p.tail
+    where
+      bytes : List ℕ
+      bytes = q ∷ d ∷ rest
+
+      after : ends_before before_it.mode q ≡ true
+      after = tail_ends (tail_of run) before_it.mode q p.tail (quote_ascii q quote) special
+
+      alone : (more : List ℕ) → Some 1 ≡ quotes_in (q ∷ d ∷ more)
+      alone [] = rw (ne_eqb d q other) refl
+      alone (e ∷ es) = rw (ne_eqb d q other) refl
+
+      by : (s : Spelling) (start : ℕ) → is_field_spelling s ≡ false → ((t : FieldScanned) → Follows before_it t → StringBegun before_it t q s start)
+          → (start : ℕ) × Takes before_it bytes 1 (Opened start)
+      by s start simple begun = (
+        start,
+        takes_step before_it (Opened start) bytes 1 (λ t follow.
+            let mode : string_mode s q (1 == 3) ≡ opens.Short q = rw simple refl in
+            subst (λ (m : OpenMode). GoesOver t bytes 1 (record before_it { mode = m; start = start; stop = before_it.stop + 1 })) mode
+            (quotes_open before_it t bytes follow quote after 1 s start (begun t follow) (alone rest) (λ two. omega (arith, two)))),
+      )
+
+      go : (o : Option Spelling) → IsTail o before_it.mode → PlainBefore o → (start : ℕ) × Takes before_it bytes 1 (Opened start)
+      go (Some s) is (begins, simple) = by s before_it.start simple (λ t follow. after_prefix before_it t q follow quote after s is begins)
+      go None is none = by spellings.Name before_it.stop refl (λ t follow. after_piece before_it t q follow quote after (other_word before_it (λ s same. subst (IsTail None) same is)))
+
+  pub string_over : (text rest : List ℕ) → 0 < length text → (slice_index text 0 ≡ q → ⊥) → Stays (opens.Short q) text → PlainBefore (tail_of run)
+      → Over p q (text ++ q ∷ rest) special (1 + (length text + 1)) before_it.frames
+  string_over [] rest some other inside before = absurd (omega (arith, some))
+  string_over (d ∷ ds) rest some other inside before =
+      let n : ℕ = length (d ∷ ds) in
+      let text : List ℕ = d ∷ (ds ++ q ∷ rest) in
+      let (start, opened) = first_quote d (ds ++ q ∷ rest) other before in
+      let begun : Scan = Opened start in
+      let last : Scan = with_bytes begun n in
+      let closed = takes_on begun last (passed last 1) text n 1 (inside begun refl (q ∷ rest))
+      (subst (λ bytes. Takes last bytes 1 (passed last 1)) (sym (drop-append_seam (d ∷ ds) (q ∷ rest))) (quote_closes q quote last rest refl)) in
+      let far : before_it.stop + 1 + n + 1 ≡ before_it.stop + (1 + (n + 1)) = omega arith in
+      over p q text special (1 + (n + 1)) before_it.frames
+      (subst (Takes before_it (q ∷ text) (1 + (n + 1))) (ap (λ (k : ℕ). free_at before_it.frames k) far) (takes_on before_it begun (passed last 1) (q ∷ text) 1 (n + 1) opened closed))
+
+-- a comment of ASCII, before a line end
+hash_low : (c : ℕ) → is_hash c ≡ true → c < 128
+unfolding is_hash
+hash_low c h = each_of (λ x. x < 128) (codes "#") c (omega arith, tt) h
+
+pub comment_over : {scan : Scan} {run : List ℕ} (p : PlainTo scan run) (c : ℕ) (special : is_plain c ≡ false) (text : List ℕ) (b : ℕ) (rest : List ℕ) → is_hash c ≡ true → Stays opens.Comment text → is_break b ≡ true
+    → Over p c (text ++ b ∷ rest) special (length (c ∷ text)) (over_code scan run).frames
+comment_over {scan} {run} p c special text b rest hash inside ends =
+    let mid : Scan = over_code scan run in
+    let low = hash_low c hash in
+    let begun : Scan = begun_at mid opens.Comment 1 in
+    let last : Scan = with_bytes begun (length text) in
+    let first = takes_step mid begun (c ∷ (text ++ [])) 1 (λ t follow.
+    subst (λ n. GoesOver t (c ∷ (text ++ [])) n (begun_at mid opens.Comment n)) (len_utf8_ascii c low)
+    (comment_begins mid t (c ∷ (text ++ [])) c follow (low_first c (text ++ []) low) (tail_ends (tail_of run) mid.mode c p.tail low special) (start-hash c hash))) in
+    let size : 1 + length text ≡ length (c ∷ text) = omega arith in
+    let whole = subst (λ n. Takes mid (c ∷ (text ++ [])) n last) size (takes_on mid begun last (c ∷ (text ++ [])) 1 (length text) first (inside begun refl [])) in
+    let ending : EndsBefore last b = record { code = refl; may = refl; ends = λ d starts. ap is_break (first_low b d (break_low b ends) starts) ∙ ends } in
+    let far : mid.stop + 1 + length text + 0 ≡ mid.stop + length (c ∷ text) = omega arith in
+    over p c (text ++ b ∷ rest) special (length (c ∷ text)) mid.frames
+    (subst (Takes mid (c ∷ (text ++ b ∷ rest)) (length (c ∷ text))) (ap (λ (n : ℕ). free_at mid.frames n) far) (takes_ended mid last b rest ending (c ∷ text) (omega arith) whole))

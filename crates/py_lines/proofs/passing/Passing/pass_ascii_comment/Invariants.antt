@@ -1,9 +1,0 @@
-use Rattle.std.proofs.Common.{◌-◌, length}
-use Rattle.py_lines.proofs.SimpleLines.MarkedPieces.{ReadsComment}
-use Rattle.py_lines.proofs.passing.Passing.pass_ascii_comment.Given as goal
-
-abbrev pub invariant-specials : goal.invariant-specials
-invariant-specials l = ReadsComment l.bytes l.at l.end l.marks
-
-abbrev pub decreases-specials : goal.decreases-specials
-decreases-specials l = length l.bytes - l.end

@@ -1,0 +1,9 @@
+use Rattle.std.proofs.Common.{◌-◌, length, slice_index}
+use Rattle.py_lines.proofs.PassedPieces.Reads.{ReadsText}
+use Rattle.py_lines.proofs.passing.Passing.pass_string.Given as goal
+
+abbrev pub invariant-specials : goal.invariant-specials
+invariant-specials l = ReadsText (slice_index l.bytes l.at) l.bytes l.at l.end l.marks
+
+abbrev pub decreases-specials : goal.decreases-specials
+decreases-specials l = length l.bytes - l.end
