@@ -7,4 +7,5 @@ pub mod Items
 pub mod Passed
 pub mod CountedEnds
 pub mod Reads
+pub mod FieldStrings
 pub mod Pieces

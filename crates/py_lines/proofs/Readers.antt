@@ -1,4 +1,5 @@
 -- What the reader of logical lines answers, from one state to the next.
 pub mod LineFaults
 pub mod LineAnswers
+pub mod NextLines
 pub mod PassedLines

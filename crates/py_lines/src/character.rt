@@ -1,20 +1,12 @@
 //! Which characters the pieces of a text are made of (Python Language Reference, 2.1 to 2.6).
 
 ghost use Rattle.std.specs.Prelude.{◌≡◌};
-ghost use Rattle.py_lines.specs.Character.{is_mark, is_space, is_word_character, is_quote};
+ghost use Rattle.py_lines.specs.Character.{is_space, is_word_character, is_quote};
 ghost use Rattle.py_lines.specs.Character.{is_break};
 ghost use Rattle.py_lines.specs.Character.{is_brace};
 ghost use Rattle.py_lines.specs.Balance.{is_opening, is_closing};
 
 use crate::run::is_ascii_word;
-
-/// U+FEFF, the byte order mark.
-#[tactic(auto, unfolding(crate::specs::Character::is_mark))]
-pub fn is_mark(c: char) -> bool
-    ensures { result ≡ is_mark c }
-{
-    c == '\u{feff}'
-}
 
 /// Space, tab and form feed.
 #[tactic(auto, unfolding(crate::specs::Character::is_space))]

@@ -46,7 +46,7 @@ pub struct OpenField {
 #[derive(Drop)]
 pub struct Frames {
     /// They, the innermost last. What stands after them counts for nothing.
-    frames: [Frame; 200],
+    frames: [Frame; MAX_DEPTH],
     /// How many they are.
     depth: u8,
     /// How many of them are fields.
@@ -57,20 +57,19 @@ pub struct Frames {
 impl Model for Frames {
     ghost use Rattle.std.specs.Prelude.{◌≡◌, ◌≤◌, List, length, reverse, take};
     ghost use Rattle.py_lines.specs.declared.frames.Frame.{Frame};
-    ghost use Rattle.py_lines.specs.Private.Frames.{AreNested, fields_of};
+    ghost use Rattle.py_lines.specs.Private.Frames.{fields_of};
 
     ghost Value = { List Frame };
 
     ghost view = { λ f. reverse (take f.depth f.frames) };
 
     ghost invariant = { λ f. (length f.frames ≡ 200) × (f.depth ≤ 200)
-        × AreNested (reverse (take f.depth f.frames))
         × (f.fields ≡ fields_of (reverse (take f.depth f.frames))) };
 }
 
 impl Frames {
-    ghost use Rattle.std.specs.Prelude.{◌≡◌, ◌==◌, ◌<◌, ◌≤◌, List, [], ◌∷◌, drop, length};
-    ghost use Rattle.py_lines.specs.Private.Frames.{ClosesBracket, IsInnermostFrame, OpensBracket, OpensIn};
+    ghost use Rattle.std.specs.Prelude.{◌≡◌, ◌==◌, ◌≤◌, List, [], ◌∷◌, length};
+    ghost use Rattle.py_lines.specs.Private.Frames.{ClosesBracket, IsInnermostFrame, OpensFrame, TakesFrame};
     ghost use Rattle.py_lines.specs.Private.Frames.{has_field, place_of};
     ghost use Rattle.py_lines.specs.declared.frames.Frame.{Frame};
 
@@ -80,7 +79,7 @@ impl Frames {
     {
         // All is zero, so the compiler fills the array without a loop.
         Frames {
-            frames: [Frame::Bracket('\0', 0); 200],
+            frames: [Frame::Bracket('\0', 0); MAX_DEPTH],
             depth: 0,
             fields: 0,
         }
@@ -113,6 +112,7 @@ impl Frames {
 
     /// Whether a field is open.
     #[inline(always)]
+    #[tactic(auto, using(crate::proofs::FieldScans::FrameArrays::fields_some))]
     pub fn has_field(&self) -> bool
         ensures { result ≡ has_field self.now }
     {
@@ -120,6 +120,7 @@ impl Frames {
     }
 
     /// What was opened last and is still open.
+    #[tactic(auto, using(crate::proofs::FieldScans::FrameArrays::first_frames_last))]
     pub fn innermost(&self) -> Option<Frame>
         ensures { IsInnermostFrame result self.now }
     {
@@ -140,47 +141,35 @@ impl Frames {
         }
     }
 
-    /// Opens a bracket or a field.
+    /// Opens a bracket or a field, if there is room for it.
     #[inline(always)]
-    pub fn push(&mut self, frame: Frame)
-        requires room { length self.old < 200 }
-        requires opens { OpensIn frame self.old }
-        ensures { self.new ≡ frame ∷ self.old }
+    #[tactic(auto, using(crate::proofs::FieldScans::FrameArrays::fields_few))]
+    pub fn open(&mut self, frame: Frame) -> bool
+        ensures { OpensFrame self.old frame result self.new }
     {
+        if self.len() == MAX_DEPTH {
+            return false;
+        }
         self.frames[self.depth as usize] = frame;
         self.depth += 1;
         if let Frame::Field(_) = frame {
             self.fields += 1;
         }
-    }
-
-    /// Closes the innermost, if something is open.
-    #[inline(always)]
-    pub fn pop(&mut self)
-        ensures rest { self.new ≡ drop 1 self.old }
-        ensures nested { (frame : Frame) (others : List Frame)
-            → self.old ≡ frame ∷ others → OpensIn frame others }
-    {
-        let Some(frame) = self.innermost() else {
-            return;
-        };
-        self.depth = self.depth.saturating_sub(1);
-        match frame {
-            Frame::Bracket(_, _) => {}
-            Frame::Field(_) => self.fields = self.fields.saturating_sub(1),
-        }
-    }
-
-    /// Opens a bracket at this byte, if there is room for it.
-    #[inline(always)]
-    pub fn open(&mut self, opener: char, place: usize) -> bool
-        ensures { OpensBracket self.old opener place result self.new }
-    {
-        if self.len() >= MAX_DEPTH {
-            return false;
-        }
-        self.push(Frame::Bracket(opener, place));
         true
+    }
+
+    /// Takes away what was opened last, if something is open.
+    #[inline(always)]
+    #[tactic(auto, using(crate::proofs::FieldScans::FrameArrays::first_frames_last))]
+    pub fn pop(&mut self) -> Option<Frame>
+        ensures { TakesFrame self.old result self.new }
+    {
+        let frame = self.innermost()?;
+        self.depth -= 1;
+        if let Frame::Field(_) = frame {
+            self.fields -= 1;
+        }
+        Some(frame)
     }
 
     /// Closes the bracket that is innermost, if this closes it.
@@ -188,13 +177,12 @@ impl Frames {
     pub fn close(&mut self, closer: char) -> bool
         ensures { ClosesBracket self.old closer result self.new }
     {
-        let Some(Frame::Bracket(opener, _)) = self.innermost() else {
-            return false;
-        };
-        if closer != closing_of(opener) {
-            return false;
+        match self.innermost() {
+            Some(Frame::Bracket(opener, _)) if closer == closing_of(opener) => {
+                self.pop();
+                true
+            }
+            _ => false,
         }
-        self.pop();
-        true
     }
 }

@@ -5,10 +5,8 @@ ghost use Rattle.py_lines.specs.LogicalLine.{byte_len, line_ends};
 ghost use Rattle.py_lines.specs.Piece.{Piece, string};
 ghost use Rattle.py_lines.specs.Private.LineTokens.{BeginWithPiece, BeginWithString};
 ghost use Rattle.py_lines.specs.Private.LineScan.{Reached, ReachedInSomeLine, ScansIn, WhereverReached};
-ghost use Rattle.py_lines.specs.Private.Marks.{HasMarks};
-ghost use Rattle.py_lines.specs.Private.Passing.{CountsOn};
 ghost use Rattle.py_lines.specs.Private.Scan.{is_in_code, opened_at};
-ghost use Rattle.py_lines.specs.Private.TakenPieces.{IsOperatorEnd, IsWordStart, StopsSo, TakesItems, TakesPieces};
+ghost use Rattle.py_lines.specs.Private.TakenPieces.{IsOperatorEnd, IsWordStart, TakesItems, TakesPieces};
 ghost use Rattle.py_lines.specs.Private.WholeLines.{BeginWithLines};
 ghost use Rattle.py_lines.specs.declared.mode.Mode.TheVariants.{Free};
 
@@ -33,44 +31,39 @@ pub struct PassedLines {
 pub fn last_operator_end(plain: &[u8]) -> usize
     ensures { IsOperatorEnd plain.now result }
 {
-    let mut len = plain.len();
-    while len > 0 && !matches!(Class::of(plain[len - 1]), Class::Operator) {
-        len -= 1;
-    }
-    len
+    plain
+        .iter()
+        .rposition(|&b| matches!(Class::of(b), Class::Operator))
+        .map_or(0, |at| at + 1)
 }
 
 /// Where the word begins that the bytes end with; their end, if they end with none.
 #[inline(always)]
-fn word_start(plain: &[u8]) -> usize
+pub fn word_start(plain: &[u8]) -> usize
     ensures { IsWordStart plain.now result }
 {
-    let mut len = plain.len();
-    while len > 0 && is_ascii_word(plain[len - 1]) {
-        len -= 1;
-    }
-    len
+    plain
+        .iter()
+        .rposition(|&b| !is_ascii_word(b))
+        .map_or(0, |at| at + 1)
 }
 
 impl Scan {
     /// Takes pieces of code that the bytes hold whole, as long as they follow one another: how many bytes the line end has, if they end
     /// the line.
     #[inline(always)]
-    fn take_pieces(&mut self, passing: &mut Passing, bytes: &[u8]) -> Option<usize>
+    fn take_pieces(&mut self, bytes: &[u8]) -> Option<usize>
         requires code { is_in_code self.old ≡ true }
-        requires marked { HasMarks bytes.now passing.old.all passing.old.marks }
-        requires bytes { self.old.stop + (length bytes.now - passing.old.all) < 2 ^ 64 }
-        requires few { passing.old.feeds ≤ passing.old.all }
-        ensures takes { TakesPieces bytes.now self.old passing.old result self.new passing.new }
-        ensures counts { CountsOn bytes.now passing.old passing.new }
+        requires bytes { self.old.stop + length bytes.now < 2 ^ 64 }
+        ensures { TakesPieces bytes.now self.old result self.new }
     {
-        let from = passing.all;
+        let mut passing = Passing::new(bytes);
         let mut at = passing.marks.next(bytes);
         'specials: while at < bytes.len() {
-            match passing.pass(&mut self.frames, bytes, at, self.stop + (at - from)) {
+            match passing.pass(&mut self.frames, bytes, at, self.stop + at) {
                 Special::Passed => at = passing.marks.next(bytes),
                 Special::LineEnd(len) => {
-                    self.pass(passing.all - from);
+                    self.pass(passing.all);
                     return Some(len);
                 }
                 Special::Unpassed => break,
@@ -78,66 +71,35 @@ impl Scan {
         }
         // Before a byte that isn't plain, all but a word is finished.
         let plain = &bytes[passing.all..at];
-        passing.all += if at < bytes.len() {
+        let finished = if at < bytes.len() {
             word_start(plain)
         } else {
             last_operator_end(plain)
         };
-        self.pass(passing.all - from);
+        self.pass(passing.all + finished);
         None
     }
 
-    /// Takes items, up to where code goes on outside fields, or to where the scan stops. It is apart from the loop over pieces, so that this
-    /// one stays small.
+    /// Takes items, up to where code goes on outside fields, or to where the scan stops.
     #[inline(never)]
-    fn take_items(&mut self, passing: &mut Passing, bytes: &[u8]) -> Option<Stop>
-        requires within { passing.old.all ≤ length bytes.now }
-        requires way { ReachedInSomeLine self.old (drop passing.old.all bytes.now) }
-        requires bytes { self.old.stop + (length bytes.now - passing.old.all) < 2 ^ 64 }
-        requires few { passing.old.feeds ≤ passing.old.all }
-        ensures takes { TakesItems bytes.now self.old passing.old result self.new passing.new }
-        ensures counts { CountsOn bytes.now passing.old passing.new }
+    fn take_items(&mut self, bytes: &[u8]) -> Option<Stop>
+        requires way { ReachedInSomeLine self.old bytes.now }
+        requires bytes { self.old.stop + length bytes.now < 2 ^ 64 }
+        ensures { TakesItems bytes.now self.old result self.new }
     {
-        let mut rest = &bytes[passing.all..];
+        let mut rest = bytes;
         'items: while !rest.is_empty() {
             match self.step(rest) {
                 Progress::Going(len) => rest = self.hold(&rest[len..]),
-                Progress::LineEnded(len) => {
-                    passing.pass_to(bytes, bytes.len() - rest.len() + len);
-                    return Some(Stop::LineEnd(len));
-                }
+                Progress::LineEnded(len) => return Some(Stop::LineEnd(len)),
                 Progress::Waits => return Some(Stop::TextEnd),
                 Progress::Wrong(line_fault) => return Some(Stop::Wrong(line_fault)),
             }
             if self.is_in_code() {
-                passing.pass_to(bytes, bytes.len() - rest.len());
                 return None;
             }
         }
         Some(Stop::TextEnd)
-    }
-
-    /// Takes what goes on in the line after the bytes that were passed, up to its end, to bytes that don't tell what they are, or to what is
-    /// wrong. After the line's end the bytes up to there are passed.
-    #[inline(always)]
-    fn take_line(&mut self, passing: &mut Passing, bytes: &[u8]) -> Stop
-        requires marked { HasMarks bytes.now passing.old.all passing.old.marks }
-        requires way { ReachedInSomeLine self.old (drop passing.old.all bytes.now) }
-        requires bytes { self.old.stop + (length bytes.now - passing.old.all) < 2 ^ 64 }
-        requires few { passing.old.feeds ≤ passing.old.all }
-        ensures stops { StopsSo bytes.now self.old passing.old result self.new passing.new }
-        ensures counts { CountsOn bytes.now passing.old passing.new }
-    {
-        'pieces: loop {
-            if self.is_in_code() {
-                if let Some(len) = self.take_pieces(passing, bytes) {
-                    return Stop::LineEnd(len);
-                }
-            }
-            if let Some(stop) = self.take_items(passing, bytes) {
-                return stop;
-            }
-        }
     }
 
     /// Takes what goes on in the line, up to its end, to bytes that don't tell what they are, or to what is wrong.
@@ -147,8 +109,17 @@ impl Scan {
         ensures stops { WhereverReached self.old bytes.now
             (λ m whole. ScansIn m whole self.new result) }
     {
-        let mut passing = Passing::new(bytes);
-        self.take_line(&mut passing, bytes)
+        let start = self.stop;
+        'pieces: loop {
+            if self.is_in_code() {
+                if let Some(len) = self.take_pieces(&bytes[self.stop - start..]) {
+                    return Stop::LineEnd(len);
+                }
+            }
+            if let Some(stop) = self.take_items(&bytes[self.stop - start..]) {
+                return stop;
+            }
+        }
     }
 
     /// The logical lines that the bytes begin with, as far as they are whole and nothing is wrong in them. No line is open before the bytes.
@@ -164,15 +135,34 @@ impl Scan {
             len: 0,
             line_ends: 0,
         };
-        let mut returned = false;
         self.restart(Mode::Free);
-        'lines: while let Stop::LineEnd(_) = self.take_line(&mut passing, bytes) {
-            lines.len = passing.all;
-            lines.line_ends = passing.feeds;
-            returned = passing.returned;
-            self.restart(Mode::Free);
+        let mut at = passing.marks.next(bytes);
+        'specials: while at < bytes.len() {
+            match passing.pass(&mut self.frames, bytes, at, at - lines.len) {
+                Special::Passed => {}
+                Special::LineEnd(_) => {
+                    lines.len = passing.all;
+                    lines.line_ends = passing.feeds;
+                }
+                Special::Unpassed => {
+                    let from = passing.all + word_start(&bytes[passing.all..at]);
+                    self.stop = 0;
+                    self.pass(from - lines.len);
+                    match self.take_items(&bytes[from..]) {
+                        None => passing.pass_to(bytes, lines.len + self.stop),
+                        Some(Stop::LineEnd(_)) => {
+                            passing.pass_to(bytes, lines.len + self.stop);
+                            lines.len = passing.all;
+                            lines.line_ends = passing.feeds;
+                            self.frames.clear();
+                        }
+                        Some(_) => break,
+                    }
+                }
+            }
+            at = passing.marks.next(bytes);
         }
-        if returned {
+        if passing.returned {
             lines.line_ends = line_ends(&bytes[..lines.len]);
         }
         lines
@@ -194,7 +184,7 @@ impl Scan {
                 return;
             };
             // After the string no piece is open.
-            if self.is_settled() {
+            if self.is_in_code() {
                 return;
             }
             rest = self.hold(&rest[len..]);

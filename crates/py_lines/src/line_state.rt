@@ -2,13 +2,13 @@
 
 ghost use Rattle.py_lines.specs.Private.LineScan.{first_open};
 ghost use Rattle.py_lines.specs.Private.LineState.{first_mode};
-ghost use Rattle.std.specs.Prelude.{◌≡◌, ℕ, ◌+◌, ◌<◌, ◌^◌, length, IfOk, OnOk};
+ghost use Rattle.std.specs.Prelude.{◌≡◌, ℕ, ◌+◌, ◌<◌, ◌^◌, length, IfOk, IsUtf8, OnOk};
 
 use crate::fault::{Fault, FaultKind, LexError};
 use crate::line_ends::line_ends;
 use crate::line_tokens::LineTokens;
 use crate::mode::Mode;
-use crate::scan::Scan;
+use crate::scan::{LineFault, Scan, Stop};
 use crate::unit::Unit;
 use std::alloc::{AllocError, Global};
 
@@ -37,8 +37,8 @@ pub struct LineState {
 impl LineState {
     ghost use Rattle.py_lines.specs.Token.{EachLiesIn};
     ghost use Rattle.py_lines.specs.UnitLine.{line_in};
-    ghost use Rattle.py_lines.specs.Private.LineState.{BeginsAnew, BeginsAt, KeepsFault};
-    ghost use Rattle.py_lines.specs.Private.LineState.{first_mode, passed, read_line, with_tokens};
+    ghost use Rattle.py_lines.specs.Private.LineState.{BeginsAnew, BeginsAt, KeepsFault, ScansLine};
+    ghost use Rattle.py_lines.specs.Private.LineState.{first_mode, passed, read_line, rescanned, with_tokens};
     ghost use Rattle.py_lines.specs.Private.LineTokens.{HoldsTokens, IsLineAfter, IsLineText};
 
     /// At this byte of a text, which is on this line. Nothing of the next line is read.
@@ -71,6 +71,23 @@ impl LineState {
         self.scan.restart(first_mode(self.place));
     }
 
+    /// Scans the line with which the last bytes of a text begin, up to its end or the text's: how many bytes its line end has, or what is wrong.
+    pub fn scan_line(&mut self, bytes: &[u8]) -> Result<usize, LineFault>
+        requires { 0 < length bytes.now }
+        ensures same { self.new ≡ rescanned self.old self.new }
+        ensures scans { ScansLine self.old bytes.now result self.new.scan.stop }
+    {
+        self.scan.restart(first_mode(self.place));
+        match self.scan.extend(bytes) {
+            Stop::LineEnd(len) => Ok(len),
+            Stop::TextEnd => {
+                let scanned = self.scan.stop;
+                self.scan.end(&bytes[scanned..])
+            }
+            Stop::Wrong(line_fault) => Err(line_fault),
+        }
+    }
+
     /// Reads the tokens of the next line, which is this text, and answers the line after it. The scan is lent for its strings: where it
     /// stopped is as it was.
     pub fn read_tokens(&mut self, text: &[u8]) -> Result<u64, AllocError>
@@ -86,16 +103,16 @@ impl LineState {
         read
     }
 
-    /// The text has this fault, from now on. It stands after these characters, with which the next line begins.
-    pub fn fail(&mut self, kind: FaultKind, prefix: &str) -> LexError
-        requires bytes { self.old.place + length prefix.now < 2 ^ 64 }
-        requires lines { self.old.line + length prefix.now + 1 < 2 ^ 64 }
-        ensures { KeepsFault self.old kind (length prefix.now) prefix.now result self.new }
+    /// The text has this fault, from now on. It stands after these bytes, with which the next line begins.
+    pub fn fail(&mut self, kind: FaultKind, before: &[u8]) -> LexError
+        requires bytes { self.old.place + length before.now < 2 ^ 64 }
+        requires lines { self.old.line + length before.now + 1 < 2 ^ 64 }
+        ensures { KeepsFault self.old kind (length before.now) before.now result self.new }
     {
         let fault = Fault {
             kind,
-            offset: self.place + prefix.len() as u64,
-            line: self.line + line_ends(prefix.as_bytes()),
+            offset: self.place + before.len() as u64,
+            line: self.line + line_ends(before),
         };
         self.fault = Some(fault);
         LexError::Fault(fault)
@@ -103,15 +120,17 @@ impl LineState {
 
     /// The line whose tokens were read: this text at this byte and on this line, with so many bytes of line end.
     #[inline(always)]
-    pub fn unit<'s>(&'s self, text: &'s str, offset: u64, line: u64, end_len: usize) -> Unit<'s>
+    pub fn unit<'s>(&'s self, text: &'s [u8], offset: u64, line: u64, end_len: usize) -> Unit<'s>
         requires tokens { EachLiesIn text.now self.now.tokens.tokens.items }
+        requires utf8 { IsUtf8 text.now }
         requires fits { offset + length text.now < 2 ^ 64 }
         ensures line { line_in result ≡ read_line self.now text.now offset line end_len }
         ensures text { result.text.now ≡ text.now }
     {
         Unit {
             kind: self.tokens.kind,
-            text,
+            // The scan read it as characters.
+            text: unsafe { std::str::from_utf8_unchecked(text) },
             tokens: self.tokens.tokens.as_slice(),
             offset,
             line,

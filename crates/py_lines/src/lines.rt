@@ -5,6 +5,7 @@ ghost use Rattle.py_lines.specs.Reader.{Reader, GoesOnAt, HasGiven, at_start};
 ghost use Rattle.py_lines.specs.Reader.View.{reader_of};
 
 use crate::fault::LexError;
+use crate::line_state::LineState;
 use crate::source::Source;
 use crate::unit::Unit;
 use std::alloc::Global;
@@ -28,15 +29,12 @@ impl<'t> Lines<'t> {
     ghost use Rattle.py_lines.specs.Lines.{LeavesNext, PassesUpTo};
 
     /// A reader at the start of a text, which is any bytes. The only error is `Memory`, and then there is no reader.
-    #[tactic(auto, using(crate::proofs::Readers::LineAnswers::start_given))]
     pub fn new(alloc: Global, text: &'t [u8]) -> Result<Lines<'t>, LexError>
         ensures start { IfOk result (λ l. l ≡ at_start text.now) }
         ensures given { IfOk result (λ l. HasGiven l []) }
         ensures memory { IfErr result (λ e. e ≡ LexError.Memory) }
     {
-        Ok(Lines {
-            source: Source::new(alloc, text),
-        })
+        Lines::at(alloc, text, 0, 1)
     }
 
     /// A reader that goes on in a text where an earlier one stopped: at byte `offset` from the text's start, which is on
@@ -54,8 +52,13 @@ impl<'t> Lines<'t> {
         ensures text { IfOk result (λ l. l.text ≡ text.now) }
         ensures memory { IfErr result (λ e. e ≡ LexError.Memory) }
     {
+        // So many lines stand before it at most.
+        let place = offset.min(text.len()) as u64;
         Ok(Lines {
-            source: Source::at(alloc, text, offset, line),
+            source: Source {
+                bytes: text,
+                state: LineState::at(alloc, place, line.min(place + 1)),
+            },
         })
     }
 
@@ -80,11 +83,13 @@ impl<'t> Lines<'t> {
     pub fn next_unit(&mut self) -> Result<Option<Unit<'_>>, LexError>
         ensures* next { sem 𝓛 (LeavesNext self.entry result) }
     {
-        if self.source.advance()? {
-            Ok(Some(self.source.unit()))
-        } else {
-            Ok(None)
-        }
+        let (start, line) = (self.source.state.place, self.source.state.line);
+        let Some(end_len) = self.source.advance()? else {
+            return Ok(None);
+        };
+        let source = &self.source;
+        let text = &source.bytes[start as usize..source.state.place as usize];
+        Ok(Some(source.state.unit(text, start, line, end_len)))
     }
 
     /// Passes over the next logical lines (2.1.1) without their tokens, one after another, and answers how many bytes they have; 0
@@ -95,6 +100,14 @@ impl<'t> Lines<'t> {
     pub fn pass_lines(&mut self, before: usize) -> usize
         ensures passes { PassesUpTo self.old before result self.new }
     {
-        self.source.pass_lines(before)
+        let source = &mut self.source;
+        let place = source.state.place as usize;
+        if place >= before || before > source.bytes.len() || source.state.fault.is_some() {
+            return 0;
+        }
+        let lines = source.state.scan.pass_lines(&source.bytes[place..before]);
+        let line = source.state.line + lines.line_ends;
+        source.state.pass(lines.len, line);
+        lines.len
     }
 }

@@ -3,7 +3,7 @@
 ghost use Rattle.std.specs.Prelude.{◌≡◌, ◌<◌, length};
 ghost use Rattle.py_lines.specs.Private.Machine.{begins_string, first_spelling, is_field_spelling, is_raw_spelling, spelling_with};
 ghost use Rattle.py_lines.specs.Private.Run.{word_spelling};
-ghost use Rattle.py_lines.specs.Private.Scan.{grown, is_free_mode, is_text, string_mode};
+ghost use Rattle.py_lines.specs.Private.Scan.{grown, is_text, string_mode};
 
 use crate::character::{is_break, is_space, is_word_character};
 use crate::host::{Region, StringWithFields};
@@ -11,8 +11,6 @@ use crate::host::{Region, StringWithFields};
 /// Whether a word may be the prefix of a string, as far as it goes.
 #[derive(Clone, Copy)]
 pub enum Spelling {
-    /// A digit came first.
-    Number,
     /// `r`: a prefix, and with `b`, `f` or `t` after it one of two letters.
     R,
     /// `b`: a prefix, and with `r` after it one of two letters.
@@ -51,12 +49,11 @@ pub enum Mode {
 
 impl Spelling {
     /// The spelling of a word that begins with `c`.
-    #[tactic(auto, unfolding(crate::specs::Private::Machine::first_spelling, crate::specs::Character::is_digit, crate::specs::Character::is_r, crate::specs::Character::is_b, crate::specs::Character::is_f, crate::specs::Character::is_t, crate::specs::Character::is_u))]
+    #[tactic(auto, unfolding(crate::specs::Private::Machine::first_spelling, crate::specs::Character::is_r, crate::specs::Character::is_b, crate::specs::Character::is_f, crate::specs::Character::is_t, crate::specs::Character::is_u))]
     pub fn of(c: char) -> Spelling
         ensures { result ≡ first_spelling c }
     {
         match c {
-            '0'..='9' => Spelling::Number,
             'r' | 'R' => Spelling::R,
             'b' | 'B' => Spelling::B,
             'f' | 'F' => Spelling::F,
@@ -71,14 +68,10 @@ impl Spelling {
     fn with(self, c: char) -> Spelling
         ensures { result ≡ spelling_with self c }
     {
-        match self {
-            Spelling::Number => Spelling::Number,
-            Spelling::R if matches!(c, 'b' | 'B') => Spelling::Prefix,
-            Spelling::R if matches!(c, 'f' | 'F') => Spelling::Fr,
-            Spelling::R if matches!(c, 't' | 'T') => Spelling::Tr,
-            Spelling::B if matches!(c, 'r' | 'R') => Spelling::Prefix,
-            Spelling::F if matches!(c, 'r' | 'R') => Spelling::Fr,
-            Spelling::T if matches!(c, 'r' | 'R') => Spelling::Tr,
+        match (self, c) {
+            (Spelling::R, 'b' | 'B') | (Spelling::B, 'r' | 'R') => Spelling::Prefix,
+            (Spelling::R, 'f' | 'F') | (Spelling::F, 'r' | 'R') => Spelling::Fr,
+            (Spelling::R, 't' | 'T') | (Spelling::T, 'r' | 'R') => Spelling::Tr,
             _ => Spelling::Name,
         }
     }
@@ -88,18 +81,15 @@ impl Spelling {
         requires { 0 < length bytes.now }
         ensures { result ≡ word_spelling bytes.now }
     {
-        let mut spelling = Spelling::of(bytes[0] as char);
-        for i in 1..bytes.len() {
-            spelling = spelling.with(bytes[i] as char);
-        }
-        spelling
+        let first = Spelling::of(bytes[0] as char);
+        bytes[1..].iter().fold(first, |s, &b| s.with(b as char))
     }
 
     /// Whether the word spells the prefix of a string.
     pub fn is_prefix(self) -> bool
         ensures { result ≡ begins_string self }
     {
-        !matches!(self, Spelling::Number | Spelling::Name)
+        !matches!(self, Spelling::Name)
     }
 
     /// Whether the word spells the prefix of a string with fields.
@@ -121,14 +111,6 @@ impl Spelling {
 }
 
 impl Mode {
-    /// Whether no piece is open, after the text's start.
-    #[inline(always)]
-    pub fn is_free(self) -> bool
-        ensures { result ≡ is_free_mode self }
-    {
-        matches!(self, Mode::Free)
-    }
-
     /// Whether a string's text is open.
     pub fn is_text(self) -> bool
         ensures { result ≡ is_text self }

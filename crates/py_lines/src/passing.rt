@@ -1,19 +1,21 @@
 //! Bytes of a line that are passed over at once, from one that isn't plain to the next.
 
-ghost use Rattle.std.specs.Prelude.{◌≡◌, ℕ, ◌+◌, ◌-◌, ◌<◌, ◌≤◌, ◌^◌, ◌==◌, true, false, IsTrue, length, take, slice_index};
-ghost use Rattle.py_lines.specs.Character.{is_hash, is_quote, is_return};
+ghost use Rattle.std.specs.Prelude.{◌≡◌, ℕ, ◌+◌, ◌<◌, ◌≤◌, ◌^◌, ◌==◌, true, false, IsTrue, length, slice_index};
+ghost use Rattle.py_lines.specs.Character.{is_backslash, is_hash, is_quote, is_return};
 ghost use Rattle.py_lines.specs.Private.Marks.{FindsNext, HasMarks};
-ghost use Rattle.py_lines.specs.Private.Passing.{IsWordBefore, PassesPiece, PassesSpecial};
-ghost use Rattle.py_lines.specs.Private.Passing.{CountsOn, begins_escape, line_end_special, nothing_passed, passed_line_end, tail_of};
-ghost use Rattle.py_lines.specs.Private.Run.{is_text_byte};
+ghost use Rattle.py_lines.specs.Private.Passing.{PassesPiece, PassesSo, PassesSpecial};
+ghost use Rattle.py_lines.specs.Private.Passing.{CountsOn, line_end_special, nothing_passed, passed_line_end};
+ghost use Rattle.py_lines.specs.Private.Run.{is_line_byte};
 
 use crate::character::is_break;
 use crate::class::Class;
-use crate::frames::Frames;
-use crate::line_ends::line_feeds;
+use crate::frames::{Frame, Frames};
+use crate::line_ends::{line_feeds, outer_end_len};
+use crate::line_scan::word_start;
 use crate::marks::Marks;
 use crate::mode::Spelling;
-use crate::run::is_ascii_word;
+use crate::string_text::quotes_len;
+use crate::whole_strings::text_len;
 
 /// What a byte that isn't plain came to.
 #[derive(Clone, Copy)]
@@ -26,43 +28,12 @@ pub enum Special {
     Unpassed,
 }
 
-/// Whether the byte stands for itself in a short string of this quote, and is ASCII.
+/// Whether the byte is ASCII that ends no line.
 #[inline(always)]
-fn is_text_byte(quote: u8, b: u8) -> bool
-    ensures { result ≡ is_text_byte quote b }
+fn is_line_byte(b: u8) -> bool
+    ensures { result ≡ is_line_byte b }
 {
-    b < 128 && b != quote && b != b'\\' && !is_break(b as char)
-}
-
-/// Whether a backslash stands at this byte, and after it ASCII that is no line end.
-#[inline(always)]
-fn begins_escape(bytes: &[u8], at: usize) -> bool
-    requires { at < length bytes.now }
-    ensures { result ≡ begins_escape bytes.now at }
-{
-    bytes[at] == b'\\'
-        && at + 1 < bytes.len()
-        && bytes[at + 1] < 128
-        && !is_break(bytes[at + 1] as char)
-}
-
-/// How the word of ASCII is spelled that ends at this byte, if one does. Mostly none does. A word of three bytes and more is no prefix
-/// (Python Language Reference, 2.4.1).
-#[inline(always)]
-fn word_before(bytes: &[u8], at: usize) -> Option<Spelling>
-    requires { at ≤ length bytes.now }
-    ensures { IsWordBefore result (tail_of (take at bytes.now)) }
-{
-    if at == 0 || !is_ascii_word(bytes[at - 1]) {
-        return None;
-    }
-    if at == 1 || !is_ascii_word(bytes[at - 2]) {
-        return Some(Spelling::of_word(&bytes[at - 1..at]));
-    }
-    if at == 2 || !is_ascii_word(bytes[at - 3]) {
-        return Some(Spelling::of_word(&bytes[at - 2..at]));
-    }
-    Some(Spelling::Name)
+    b < 128 && !is_break(b as char)
 }
 
 /// How far bytes were passed.
@@ -94,6 +65,7 @@ impl Passing {
     }
 
     /// Passes the bytes up to this one.
+    #[inline(always)]
     pub fn pass_to(&mut self, bytes: &[u8], to: usize)
         requires further { self.old.all ≤ to }
         requires within { to ≤ length bytes.now }
@@ -126,57 +98,58 @@ impl Passing {
         }
     }
 
-    /// Passes the CR at this byte, and LF after it, if a byte follows.
+    /// Passes the string that the quote at this byte begins, if it is empty, or short and ASCII on one line, or one with fields that is short
+    /// and simple, where few brackets are open: whether it is so. Most strings are.
     #[inline(always)]
-    fn pass_return(&mut self, frames: &Frames, bytes: &[u8], at: usize) -> Special
-        requires next { FindsNext bytes.now self.old.all at self.old.marks }
-        requires within { at < length bytes.now }
-        requires returns { is_return (slice_index bytes.now at) ≡ true }
-        requires few { self.old.feeds ≤ self.old.all }
-        ensures passes { (place : ℕ)
-            → PassesSpecial bytes.now at place self.old frames.now result self.new frames.now }
-        ensures counts { CountsOn bytes.now self.old self.new }
-    {
-        if at + 1 == bytes.len() {
-            return Special::Unpassed;
-        }
-        self.returned = true;
-        if bytes[at + 1] != b'\n' {
-            return self.pass_line_end(frames, at, 1);
-        }
-        self.marks.pass(bytes, at + 2);
-        self.pass_line_end(frames, at, 2)
-    }
-
-    /// Passes the string that the quote at this byte begins, if it is short, holds something, and is ASCII on one line with no field: whether
-    /// it is so. Most strings are.
-    #[inline(always)]
-    fn pass_string(&mut self, bytes: &[u8], at: usize) -> bool
+    fn pass_string(&mut self, frames: &Frames, bytes: &[u8], at: usize) -> bool
         requires next { FindsNext bytes.now self.old.all at self.old.marks }
         requires within { at < length bytes.now }
         requires quote { is_quote (slice_index bytes.now at) ≡ true }
-        ensures passed { IsTrue result → PassesPiece bytes.now at self.old self.new }
+        ensures passed { IsTrue result
+            → (place : ℕ) → PassesSo bytes.now at place self.old frames.now self.new frames.now }
         ensures same { result ≡ false → self.new ≡ self.old }
         ensures counts { CountsOn bytes.now self.old self.new }
     {
-        let quote = bytes[at];
-        let mut marks = self.marks;
-        let mut end = marks.next(bytes);
-        'specials: while end < bytes.len() {
-            if begins_escape(bytes, end) {
-                marks.pass(bytes, end + 2);
-            } else if !is_text_byte(quote, bytes[end]) {
-                break;
+        match quotes_len(&bytes[at..]) {
+            Some(1) => {}
+            // An empty string.
+            Some(2) => {
+                self.all = at + 2;
+                self.marks.pass(bytes, at + 2);
+                return true;
             }
-            end = marks.next(bytes);
+            _ => return false,
         }
-        if end >= bytes.len() || bytes[end] != quote || end == at + 1 {
-            return false;
-        }
-        if let Some(spelling) = word_before(&bytes[self.all..], at - self.all) {
-            if spelling.has_fields() || !spelling.is_prefix() {
+        let quote = bytes[at];
+        let before = &bytes[self.all..at];
+        let start = word_start(before);
+        // Mostly no word stands before it.
+        if start < before.len() {
+            let spelling = Spelling::of_word(&before[start..]);
+            if spelling.has_fields() {
+                let text = &bytes[at + 1..];
+                let len = text_len(quote, text);
+                if frames.len() > 10 || len == text.len() || text[len] != quote {
+                    return false;
+                }
+                self.all = at + len + 2;
+                self.marks.pass(bytes, self.all);
+                return true;
+            }
+            if !spelling.is_prefix() {
                 return false;
             }
+        }
+        let mut marks = self.marks;
+        let mut end = marks.next(bytes);
+        'specials: loop {
+            match &bytes[end..] {
+                [b, ..] if *b == quote => break,
+                [b'\\', b, ..] if is_line_byte(*b) => marks.pass(bytes, end + 2),
+                [b, ..] if *b != b'\\' && is_line_byte(*b) => {}
+                _ => return false,
+            }
+            end = marks.next(bytes);
         }
         self.all = end + 1;
         self.marks = marks;
@@ -195,10 +168,10 @@ impl Passing {
     {
         let mut marks = self.marks;
         let mut end = marks.next(bytes);
-        'specials: while end < bytes.len() && bytes[end] < 128 && !is_break(bytes[end] as char) {
+        'specials: while end < bytes.len() && is_line_byte(bytes[end]) {
             end = marks.next(bytes);
         }
-        if end >= bytes.len() || bytes[end] >= 128 {
+        if end >= bytes.len() || !is_break(bytes[end] as char) {
             return false;
         }
         marks.keep(end);
@@ -220,10 +193,28 @@ impl Passing {
     {
         let passed = match Class::of(bytes[at]) {
             Class::LineFeed => return self.pass_line_end(frames, at, 1),
-            Class::Return => return self.pass_return(frames, bytes, at),
-            Class::Quote => self.pass_string(bytes, at),
+            Class::Return => {
+                let Some(len) = outer_end_len(&bytes[at..]) else {
+                    return Special::Unpassed;
+                };
+                self.returned = true;
+                self.marks.pass(bytes, at + len);
+                return self.pass_line_end(frames, at, len);
+            }
+            Class::Quote => self.pass_string(frames, bytes, at),
+            // A join of two lines, if its line end is known (2.1.5).
+            Class::Backslash => {
+                let Some(len) = outer_end_len(&bytes[at + 1..]) else {
+                    return Special::Unpassed;
+                };
+                self.all = at + 1 + len;
+                self.feeds += 1;
+                self.returned |= bytes[at + 1] == b'\r';
+                self.marks.pass(bytes, self.all);
+                true
+            }
             Class::Hash => self.pass_comment(bytes, at),
-            Class::Opening if frames.open(bytes[at] as char, place) => {
+            Class::Opening if frames.open(Frame::Bracket(bytes[at] as char, place)) => {
                 self.all = at + 1;
                 true
             }

@@ -5,7 +5,7 @@ ghost use Rattle.std.specs.Prelude.{◌≡◌, ◌==◌, ◌+◌, ◌<◌, ◌�
 ghost use Rattle.py_lines.specs.Character.{is_backslash, is_operator, is_quote};
 ghost use Rattle.py_lines.specs.Piece.{begins};
 
-use crate::character::{is_closing, is_mark, is_opening, is_quote};
+use crate::character::{is_closing, is_opening, is_quote};
 use crate::class::Class;
 use crate::fault::FaultKind;
 use crate::frames::{Frame, Frames, MAX_DEPTH, OpenField};
@@ -65,18 +65,11 @@ pub struct Scan {
 }
 
 impl Scan {
-    ghost use Rattle.std.specs.Prelude.{drop};
     ghost use Rattle.std.specs.Char.{len_utf8};
-    ghost use Rattle.py_lines.specs.Balance.{is_opening};
-    ghost use Rattle.py_lines.specs.Private.Frames.{InField, IsInnermostFrame, StandsIn, has_field};
     ghost use Rattle.py_lines.specs.Private.Run.{BeginsWith};
     ghost use Rattle.py_lines.specs.Private.Scan.{DoesText, EndsField, EndsOpen, EndsTextSo, HasPending, HasQuote};
-    ghost use Rattle.py_lines.specs.Private.Scan.{HoldsRun, IsInPlace, IsPending, OpensField, Steps, TakesOperator};
-    ghost use Rattle.py_lines.specs.Private.Scan.{begun_at, ended_in, ends_before, is_in_code, is_settled, is_text};
-    ghost use Rattle.py_lines.specs.Private.Scan.{line_end_progress, mode_from, opened_at, passed, wrong_here};
-    ghost use Rattle.py_lines.specs.declared.mode.Mode.TheVariants.{Free};
-    ghost use Rattle.py_lines.specs.declared.frames.Frame.{Frame};
-    ghost use Rattle.py_lines.specs.declared.scan.Progress.TheVariants.{Going};
+    ghost use Rattle.py_lines.specs.Private.Scan.{HoldsRun, IsPending, Steps, TakesOperator};
+    ghost use Rattle.py_lines.specs.Private.Scan.{ends_before, is_in_code, is_text, mode_from, opened_at, passed, string_start, wrong_here};
 
     /// At the start of a line.
     pub fn new(mode: Mode) -> Scan
@@ -100,27 +93,12 @@ impl Scan {
         self.stop = 0;
     }
 
-    /// Whether no piece is open, no bracket and no field, after the text's start.
-    pub fn is_settled(&self) -> bool
-        ensures { result ≡ is_settled self.now }
-    {
-        self.mode.is_free() && self.frames.is_empty()
-    }
-
     /// Whether no piece is open and no field, so that code of the line goes on.
     #[inline(always)]
     pub fn is_in_code(&self) -> bool
         ensures { result ≡ is_in_code self.now }
     {
-        self.mode.is_free() && !self.frames.has_field()
-    }
-
-    /// Whether so many more brackets and fields may open.
-    fn has_room(&self, more: usize) -> bool
-        ensures is { result ≡ nat_lt (length self.now.frames + more) 201 }
-        ensures few { length self.now.frames ≤ 200 }
-    {
-        self.frames.len().saturating_add(more) <= MAX_DEPTH
+        matches!(self.mode, Mode::Free) && !self.frames.has_field()
     }
 
     /// Takes so many bytes of code, after which no piece is open.
@@ -144,72 +122,55 @@ impl Scan {
         })
     }
 
-    /// Takes a line end of so many bytes: in brackets and fields the line goes on.
-    fn take_line_end(&mut self, len: usize) -> Progress
-        requires { self.old.stop + len < 2 ^ 64 }
-        ensures progress { result ≡ line_end_progress (length self.old.frames == 0) len }
-        ensures passed { self.new ≡ passed self.old len }
+    /// Ends the innermost field with a `}`: back in the string round it.
+    fn end_field(&mut self) -> Progress
+        requires { self.old.stop + 1 < 2 ^ 64 }
+        ensures { EndsField self.old result self.new }
     {
-        self.pass(len);
-        if self.frames.is_empty() {
-            Progress::LineEnded(len)
-        } else {
-            Progress::Going(len)
-        }
-    }
-
-    /// Ends the innermost field, which is this one, with a `}`: back in the string round it.
-    fn leave(&mut self, field: OpenField)
-        requires bytes { self.old.stop + 1 < 2 ^ 64 }
-        requires innermost { IsInnermostFrame (Some (Frame.Field field)) self.old.frames }
-        ensures back { self.new ≡ ended_in self.old field (drop 1 self.old.frames) }
-        ensures placed { IsInPlace self.new }
-    {
-        self.frames.pop();
-        self.mode = Mode::Fields(field.host, field.region, false);
-        self.start = field.start;
-        self.stop += 1;
-    }
-
-    /// Takes an operator that opens no bracket, outside brackets of a field's code: `}` ends the field, and `:` begins its specification.
-    fn take_in_field(&mut self, c: char, field: OpenField) -> Progress
-        requires bytes { self.old.stop + 1 < 2 ^ 64 }
-        requires operator { is_operator c ≡ true }
-        requires other { is_opening c ≡ false }
-        requires innermost { IsInnermostFrame (Some (Frame.Field field)) self.old.frames }
-        ensures { TakesOperator self.old c result self.new }
-    {
-        if c == '}' {
-            self.leave(field);
-        } else if c == ':' {
-            self.mode = Mode::Fields(field.host, Region::Specification, false);
+        if let Some(Frame::Field(field)) = self.frames.pop() {
+            self.mode = Mode::Fields(field.host, field.region, false);
             self.start = field.start;
-            self.stop += 1;
-        } else if is_closing(c) {
-            return self.wrong(FaultKind::WrongClose);
-        } else {
-            self.pass(1);
         }
+        self.stop += 1;
         Progress::Going(1)
     }
 
-    /// Takes an operator after the open piece.
+    /// Takes an operator after the open piece. In a field's code, outside brackets, `}` ends the field, and `:` begins its specification.
     fn take_operator(&mut self, c: char) -> Progress
         requires bytes { self.old.stop + 1 < 2 ^ 64 }
         requires operator { is_operator c ≡ true }
         ensures { TakesOperator self.old c result self.new }
     {
+        if let Some(Frame::Field(field)) = self.frames.innermost() {
+            if c == '}' {
+                return self.end_field();
+            }
+            if c == ':' {
+                self.mode = Mode::Fields(field.host, Region::Specification, false);
+                self.start = field.start;
+                self.stop += 1;
+                return Progress::Going(1);
+            }
+        }
         if is_opening(c) {
-            if !self.frames.open(c, self.stop) {
+            if !self.frames.open(Frame::Bracket(c, self.stop)) {
                 return self.wrong(FaultKind::TooDeep);
             }
-        } else if let Some(Frame::Field(field)) = self.frames.innermost() {
-            return self.take_in_field(c, field);
         } else if is_closing(c) && !self.frames.close(c) {
             return self.wrong(FaultKind::WrongClose);
         }
         self.pass(1);
         Progress::Going(1)
+    }
+
+    /// Where a string begins whose quote comes next, and how its prefix is spelled: the word that is open, if it is a prefix.
+    fn string_start(&self) -> (usize, Spelling)
+        ensures { result ≡ string_start self.now }
+    {
+        match self.mode {
+            Mode::Word(spelling) if spelling.is_prefix() => (self.start, spelling),
+            _ => (self.stop, Spelling::Name),
+        }
     }
 
     /// Takes the quotes with which the bytes begin, after the open piece or with it as their prefix: they begin a string, or are an empty
@@ -227,10 +188,7 @@ impl Scan {
             self.pass(2);
             return Progress::Going(2);
         }
-        let (start, spelling) = match self.mode {
-            Mode::Word(spelling) if spelling.is_prefix() => (self.start, spelling),
-            _ => (self.stop, Spelling::Name),
-        };
+        let (start, spelling) = self.string_start();
         self.mode = Mode::of_string(spelling, bytes[0] as char, quotes == 3);
         self.start = start;
         self.stop += quotes;
@@ -254,44 +212,44 @@ impl Scan {
         }
     }
 
-    /// Takes the first character of a word, of space or of a comment, which is open then.
-    fn begin_piece(&mut self, mode: Mode, c: char) -> Progress
-        requires bytes { self.old.stop + len_utf8 c < 2 ^ 64 }
-        ensures progress { result ≡ Going (len_utf8 c) }
-        ensures begun { self.new ≡ begun_at self.old mode (len_utf8 c) }
-    {
-        self.mode = mode;
-        self.start = self.stop;
-        self.stop += c.len_utf8();
-        Progress::Going(c.len_utf8())
-    }
-
     /// Takes what the bytes begin with, after the open piece: this character is the first of it.
+    #[tactic(auto, using(crate::proofs::FieldScans::CodeItems::some_first))]
     fn take_piece(&mut self, c: char, bytes: &[u8]) -> Progress
         requires bytes { self.old.stop + length bytes.now < 2 ^ 64 }
         requires first { BeginsWith bytes.now c }
         requires after { ends_before self.old.mode c ≡ true }
         ensures { Steps self.old bytes.now result self.new }
     {
-        match Class::of(bytes[0]) {
-            Class::Word => self.begin_piece(Mode::Word(Spelling::of(c)), c),
-            Class::Wide if unicode_ident::is_xid_start(c) => {
-                self.begin_piece(Mode::Word(Spelling::Name), c)
+        let mode = match Class::of(bytes[0]) {
+            Class::Word => Mode::Word(Spelling::of(c)),
+            Class::Wide if unicode_ident::is_xid_start(c) => Mode::Word(Spelling::Name),
+            Class::Space => Mode::Space,
+            Class::Hash => Mode::Comment,
+            Class::Operator | Class::Opening | Class::Closing => return self.take_operator(c),
+            // In brackets and fields the line goes on.
+            Class::LineFeed | Class::Return => {
+                let Some(len) = outer_end_len(bytes) else {
+                    return Progress::Waits;
+                };
+                self.pass(len);
+                if self.frames.is_empty() {
+                    return Progress::LineEnded(len);
+                }
+                return Progress::Going(len);
             }
-            Class::Space => self.begin_piece(Mode::Space, c),
-            Class::Hash => self.begin_piece(Mode::Comment, c),
-            Class::Operator | Class::Opening | Class::Closing => self.take_operator(c),
-            Class::LineFeed | Class::Return => match outer_end_len(bytes) {
-                Some(len) => self.take_line_end(len),
-                None => Progress::Waits,
-            },
-            Class::Quote => self.take_quotes(bytes),
-            Class::Backslash => self.take_join(bytes),
-            Class::Wide | Class::Other => self.wrong(FaultKind::BadChar),
-        }
+            Class::Quote => return self.take_quotes(bytes),
+            Class::Backslash => return self.take_join(bytes),
+            Class::Wide | Class::Other => return self.wrong(FaultKind::BadChar),
+        };
+        let len = c.len_utf8();
+        self.mode = mode;
+        self.start = self.stop;
+        self.stop += len;
+        Progress::Going(len)
     }
 
     /// Takes what the bytes begin with, where no string's text is open.
+    #[tactic(auto, unfolding(crate::specs::Character::is_mark))]
     fn take_in_code(&mut self, bytes: &[u8]) -> Progress
         requires bytes { self.old.stop + length bytes.now < 2 ^ 64 }
         requires code { is_text self.old.mode ≡ false }
@@ -301,11 +259,9 @@ impl Scan {
             return Progress::Waits;
         };
         let len = c.len_utf8();
-        if let Mode::Start = self.mode {
-            if is_mark(c) {
-                self.pass(len);
-                return Progress::Going(len);
-            }
+        if matches!(self.mode, Mode::Start) && c == '\u{feff}' {
+            self.pass(len);
+            return Progress::Going(len);
         }
         if let Some(mode) = self.mode.with(c) {
             self.mode = mode;
@@ -315,47 +271,11 @@ impl Scan {
         self.take_piece(c, bytes)
     }
 
-    /// Opens a field of the string whose text is open, by its `{`. Its code begins after it.
-    fn open_field(&mut self, host: StringWithFields, region: Region) -> Progress
-        requires bytes { self.old.stop + 1 < 2 ^ 64 }
-        requires stands { StandsIn region self.old.frames }
-        ensures { OpensField self.old host region result self.new }
-    {
-        if !self.has_room(1) {
-            return self.wrong(FaultKind::TooDeep);
-        }
-        self.frames.push(Frame::Field(OpenField {
-            place: self.stop,
-            host,
-            region,
-            start: self.start,
-        }));
-        self.pass(1);
-        Progress::Going(1)
-    }
-
-    /// Ends the field whose specification is open, with a `}`.
-    fn end_field(&mut self) -> Progress
-        requires bytes { self.old.stop + 1 < 2 ^ 64 }
-        requires field { InField self.old.frames }
-        ensures { EndsField self.old result self.new }
-    {
-        match self.frames.innermost() {
-            Some(Frame::Field(field)) => {
-                self.leave(field);
-                Progress::Going(1)
-            }
-            Some(Frame::Bracket(_, _)) => unreachable!(),
-            None => unreachable!(),
-        }
-    }
-
     /// Does what bytes do to the text of the string that is open.
     fn take_text(&mut self, text_move: TextMove, bytes: &[u8]) -> Progress
         requires bytes { self.old.stop + length bytes.now < 2 ^ 64 }
         requires text { is_text self.old.mode ≡ true }
         requires does { DoesText (mode_from self.old.mode) bytes.now text_move }
-        requires placed { IsInPlace self.old }
         ensures { Steps self.old bytes.now result self.new }
     {
         let (kind, place) = match text_move {
@@ -368,7 +288,19 @@ impl Scan {
                 self.pass(len);
                 return Progress::Going(len);
             }
-            TextMove::OpensField(host, region) => return self.open_field(host, region),
+            TextMove::OpensField(host, region) => {
+                let field = OpenField {
+                    place: self.stop,
+                    host,
+                    region,
+                    start: self.start,
+                };
+                if !self.frames.open(Frame::Field(field)) {
+                    return self.wrong(FaultKind::TooDeep);
+                }
+                self.pass(1);
+                return Progress::Going(1);
+            }
             TextMove::EndsField => return self.end_field(),
             TextMove::Waits => return Progress::Waits,
             TextMove::BreaksString => (FaultKind::OpenString, self.start),
@@ -382,7 +314,6 @@ impl Scan {
         requires some { 0 < length bytes.now }
         requires bytes { self.old.stop + length bytes.now < 2 ^ 64 }
         requires quote { HasQuote self.old.mode }
-        requires placed { IsInPlace self.old }
         ensures { Steps self.old bytes.now result self.new }
     {
         let text_move = match self.mode {
@@ -394,22 +325,6 @@ impl Scan {
         self.take_text(text_move, bytes)
     }
 
-    /// Takes code of a field that ends no line, where no piece is open, and answers the bytes after it.
-    fn take_field_code<'s>(&mut self, bytes: &'s [u8]) -> &'s [u8]
-        requires bytes { self.old.stop + length bytes.now < 2 ^ 64 }
-        requires code { self.old.mode ≡ Free }
-        requires field { has_field self.old.frames ≡ true }
-        ensures { HoldsRun self.old bytes.now result.now self.new }
-    {
-        let code = &bytes[..ByteRun::Code.len_in(bytes)];
-        // Words, spaces and signs, up to the last sign: after it no piece is open.
-        let len = last_operator_end(code);
-        if len > 0 {
-            self.pass(len);
-        }
-        &bytes[len..]
-    }
-
     /// Takes bytes that end no line, and no piece of it outside fields, and answers the bytes after them.
     pub fn hold<'s>(&mut self, bytes: &'s [u8]) -> &'s [u8]
         requires bytes { self.old.stop + length bytes.now < 2 ^ 64 }
@@ -417,7 +332,12 @@ impl Scan {
         ensures { HoldsRun self.old bytes.now result.now self.new }
     {
         let len = match self.mode {
-            Mode::Free if self.frames.has_field() => return self.take_field_code(bytes),
+            // Words, spaces and signs of a field's code, up to the last sign: after it no piece is open.
+            Mode::Free if self.frames.has_field() => {
+                let len = last_operator_end(&bytes[..ByteRun::Code.len_in(bytes)]);
+                self.start = self.stop + len;
+                len
+            }
             // Deeper in fields, text is seldom simple.
             Mode::Fields(host, Region::Literal, false) if self.frames.len() <= 10 => {
                 text_len(host.quote as u8, bytes)
@@ -436,14 +356,12 @@ impl Scan {
     {
         let lone = if bytes.len() == 1 { bytes[0] } else { 0 };
         let (kind, place) = match self.mode {
-            Mode::Short(_) => (FaultKind::OpenString, self.start),
-            Mode::Long(_) => (FaultKind::OpenTriple, self.start),
             Mode::Fields(_, Region::Specification, _) => {
                 (FaultKind::OpenField, self.frames.last_place())
             }
             // A `{` would open a field, if there is room.
             Mode::Fields(_, Region::Literal, false) if lone == b'{' => {
-                if self.has_room(1) {
+                if self.frames.len() < MAX_DEPTH {
                     (FaultKind::OpenField, self.stop)
                 } else {
                     (FaultKind::TooDeep, self.stop)
@@ -451,11 +369,10 @@ impl Scan {
             }
             Mode::Fields(host, _, _) if host.is_long => (FaultKind::OpenTriple, self.start),
             Mode::Fields(_, _, _) => (FaultKind::OpenString, self.start),
-            // A quote begins a string, with this word as its prefix or without one.
-            Mode::Word(spelling) if is_quote(lone as char) && spelling.is_prefix() => {
-                (FaultKind::OpenString, self.start)
-            }
-            _ if is_quote(lone as char) => (FaultKind::OpenString, self.stop),
+            Mode::Short(_) => (FaultKind::OpenString, self.start),
+            Mode::Long(_) => (FaultKind::OpenTriple, self.start),
+            // A quote begins a string.
+            _ if is_quote(lone as char) => (FaultKind::OpenString, self.string_start().0),
             _ if lone == b'\\' => (FaultKind::BadJoin, self.stop),
             _ => match self.frames.innermost()? {
                 Frame::Bracket(_, place) => (FaultKind::OpenBracket, place),
@@ -472,8 +389,7 @@ impl Scan {
         requires pending { HasPending self.old.mode bytes.now }
         ensures { EndsTextSo self.old bytes.now result self.new }
     {
-        let returned = !bytes.is_empty() && bytes[0] == b'\r';
-        if returned && !self.mode.is_text() && self.frames.is_empty() {
+        if bytes.starts_with(b"\r") && !self.mode.is_text() && self.frames.is_empty() {
             self.pass(1);
             return Ok(1);
         }

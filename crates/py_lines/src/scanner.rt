@@ -1,6 +1,6 @@
 //! The logical lines of a text that comes in pieces.
-ghost use Rattle.std.specs.Prelude.{◌≡◌, ℕ, ◌+◌, ◌<◌, ◌≤◌, ◌^◌, false, None, Some, IsSome, List, [], length, IfOk, IfErr};
-ghost use Rattle.py_lines.specs.ScannerState.{ScannerState, IsScanning, ScansFrom, begun_at, fed_of};
+ghost use Rattle.std.specs.Prelude.{◌≡◌, ℕ, ◌+◌, ◌<◌, ◌≤◌, ◌^◌, false, None, Some, IsSome, IsTrue, List, [], length, IfOk, IfErr};
+ghost use Rattle.py_lines.specs.ScannerState.{ScannerState, IsScanning, LacksBoth, ScansFrom, begun_at, fed_of};
 ghost use Rattle.py_lines.specs.ScannerState.{Feeds, FeedsNaming, Releases, PassesPieceLines, Finishes};
 ghost use Rattle.py_lines.specs.ScannerState.View.{scanning_of};
 ghost use Rattle.py_lines.specs.UnitLine.{line_in};
@@ -8,9 +8,21 @@ ghost use Rattle.py_lines.specs.Private.Feed.{IsSoundFeed};
 
 use crate::fault::LexError;
 use crate::feed::Feed;
+use crate::line_ends::line_ends;
+use crate::line_state::LineState;
 use crate::unit::Unit;
+use memchr::memmem;
 use std::alloc::Global;
 use std::marker::Model;
+
+/// Whether neither word stands in these bytes.
+fn lacks_both(bytes: &[u8], word: &[u8], other: &[u8]) -> bool
+    requires { 0 < length bytes.now }
+    ensures yes { IsTrue result → LacksBoth word.now other.now bytes.now }
+    ensures no { result ≡ false → ¬ (LacksBoth word.now other.now bytes.now) }
+{
+    memmem::find(bytes, word).is_none() && memmem::find(bytes, other).is_none()
+}
 
 /// Reads a text that comes in pieces into its logical lines (Python Language Reference, 2.1). It keeps the text of one
 /// line and at most one byte more. Contracts see it as a [`ScannerState`]: the byte and line up to which lines were
@@ -36,9 +48,7 @@ impl Scanner {
         ensures scans { IfOk result (λ s. (text : List ℕ) → IsScanning s text []) }
         ensures memory { IfErr result (λ e. e ≡ LexError.Memory) }
     {
-        Ok(Scanner {
-            feed: Feed::at(alloc, 0, 1),
-        })
+        Scanner::at(alloc, 0, 1)
     }
 
     /// A scanner of a text whose first `offset` bytes are whole logical lines, and which is fed from that byte on. That
@@ -54,7 +64,13 @@ impl Scanner {
         ensures memory { IfErr result (λ e. e ≡ LexError.Memory) }
     {
         Ok(Scanner {
-            feed: Feed::at(alloc, offset, line),
+            feed: Feed {
+                held: Vec::new(alloc),
+                state: LineState::at(alloc, offset, line),
+                ready: None,
+                next_line: 0,
+                ended: false,
+            },
         })
     }
 
@@ -71,7 +87,13 @@ impl Scanner {
         requires open_yet { self.old.ended ≡ false }
         ensures feeds { Feeds self.old piece.now result self.new }
     {
-        self.feed.feed(piece)
+        if self.feed.ready.is_some() {
+            return Ok(0);
+        }
+        let before = self.feed.held.len();
+        let taken = self.feed.take_bytes(piece)?;
+        self.feed.read_tokens(before)?;
+        Ok(taken)
     }
 
     /// Takes bytes of a piece as [`Scanner::feed`] does, and answers how many. A line that gets ready and holds neither word is released at
@@ -89,7 +111,19 @@ impl Scanner {
         requires open_yet { self.old.ended ≡ false }
         ensures feeds { FeedsNaming word.now other.now self.old piece.now result self.new }
     {
-        self.feed.feed_naming(piece, word, other)
+        if self.feed.ready.is_some() {
+            return Ok(0);
+        }
+        let before = self.feed.held.len();
+        let taken = self.feed.take_bytes(piece)?;
+        let stop = self.feed.state.scan.stop;
+        if self.feed.ready.is_some() && lacks_both(&self.feed.held[..stop], word, other) {
+            let line = self.feed.state.line + line_ends(&self.feed.held[..stop]);
+            self.feed.let_go(line);
+            return Ok(taken);
+        }
+        self.feed.read_tokens(before)?;
+        Ok(taken)
     }
 
     /// The line that is ready, lent out of the scanner, if one is. It isn't empty.
@@ -98,7 +132,10 @@ impl Scanner {
         ensures none { result ≡ None → self.now.ready ≡ None }
         ensures some_text { (u : Unit) → result ≡ Some u → 0 < length u.text.now }
     {
-        self.feed.unit()
+        let end_len = self.feed.ready?;
+        let state = &self.feed.state;
+        let text = &self.feed.held[..state.scan.stop];
+        Some(state.unit(text, state.place, state.line, end_len))
     }
 
     /// Releases the line that is ready. One is.
@@ -106,7 +143,8 @@ impl Scanner {
         requires ready { IsSome self.old.ready }
         ensures releases { Releases self.old self.new }
     {
-        self.feed.release();
+        let line = self.feed.next_line;
+        self.feed.let_go(line);
     }
 
     /// Passes over the next logical lines (2.1.1) without their tokens, one after another, and answers how many bytes they have. `bytes`
@@ -121,7 +159,34 @@ impl Scanner {
         requires fits { self.old.place + length bytes.now ≤ 2 ^ 62 }
         ensures passes { PassesPieceLines self.old bytes.now before result self.new }
     {
-        self.feed.pass_lines(bytes, before)
+        let held = self.feed.held.len();
+        let begins = bytes.starts_with(&self.feed.held);
+        if held > 1
+            || !begins
+            || self.feed.ready.is_some()
+            || self.feed.ended
+            || self.feed.state.fault.is_some()
+        {
+            return 0;
+        }
+        let clear = &bytes[..before.min(bytes.len())];
+        let lines = self.feed.state.scan.pass_lines(clear);
+        // The byte after CR shows that the last line is whole.
+        let end = lines.len + clear[..lines.len].ends_with(b"\r") as usize;
+        if self
+            .feed
+            .held
+            .extend_from_slice(&clear[lines.len..end])
+            .is_err()
+        {
+            self.feed.state.restart();
+            return 0;
+        }
+        self.feed.held.drain(..held.min(lines.len));
+        let line = self.feed.state.line + lines.line_ends;
+        self.feed.state.pass(lines.len, line);
+        self.feed.state.restart();
+        lines.len
     }
 
     /// Ends the text: what is left of it is its last line, if anything is left. No line is ready, and `finish` hasn't
@@ -134,7 +199,14 @@ impl Scanner {
         requires open_yet { self.old.ended ≡ false }
         ensures finishes { Finishes self.old result self.new }
     {
-        self.feed.finish()
+        if let Some(fault) = self.feed.state.fault {
+            return Err(LexError::Fault(fault));
+        }
+        self.feed.end_text()?;
+        let all = self.feed.held.len();
+        self.feed.read_tokens(all)?;
+        self.feed.ended = true;
+        Ok(())
     }
 
     /// The byte of the text up to which lines were released.

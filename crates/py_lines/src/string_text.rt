@@ -2,11 +2,9 @@
 //! and t-strings). An item is taken where the bytes tell it whole.
 
 ghost use Rattle.std.specs.Prelude.{◌≡◌, ◌<◌, false, true, length, slice_index};
-ghost use Rattle.std.specs.Str.{byte};
 ghost use Rattle.py_lines.specs.Character.{is_backslash, is_quote};
 ghost use Rattle.py_lines.specs.Private.Scan.{DoesInFields, DoesInText, StaysIn, escape_in, quotes_in};
 
-use crate::character::{is_brace, is_break};
 use crate::host::{Region, StringWithFields};
 use crate::mode::Mode;
 use crate::utf8::first_character;
@@ -32,35 +30,25 @@ pub enum TextMove {
 
 /// How many quotes the bytes begin with, up to three, where they tell it.
 pub fn quotes_len(bytes: &[u8]) -> Option<usize>
-    requires { 0 < length bytes.now }
     ensures { result ≡ quotes_in bytes.now }
 {
-    if bytes.len() < 2 {
-        None
-    } else if bytes[1] != bytes[0] {
-        Some(1)
-    } else if bytes.len() < 3 {
-        None
-    } else if bytes[2] != bytes[0] {
-        Some(2)
-    } else {
-        Some(3)
+    match bytes {
+        [a, b, ..] if a != b => Some(1),
+        [a, _, c, ..] if a != c => Some(2),
+        [_, _, _, ..] => Some(3),
+        _ => None,
     }
 }
 
 /// How many bytes the escape has that the bytes begin with, where they tell it: a backslash and one byte of ASCII, or CR LF. A character of
 /// more bytes stands for itself after it.
 fn escape_len(bytes: &[u8]) -> Option<usize>
-    requires { 0 < length bytes.now }
     ensures { result ≡ escape_in bytes.now }
 {
-    if bytes.len() < 2 {
-        return None;
-    }
-    match bytes[1] {
-        b'\r' if bytes.len() < 3 => None,
-        b'\r' if bytes[2] == b'\n' => Some(3),
-        0..=127 => Some(2),
+    match bytes {
+        [_, b'\r', b'\n', ..] => Some(3),
+        [] | [_] | [_, b'\r'] => None,
+        [_, 0..=127, ..] => Some(2),
         _ => Some(1),
     }
 }
@@ -72,24 +60,16 @@ pub fn text_move(mode: Mode, quote: char, is_long: bool, bytes: &[u8]) -> TextMo
     ensures does { DoesInText mode quote is_long bytes.now result }
     ensures same { StaysIn mode result }
 {
-    let Some(c) = first_character(bytes) else {
-        return TextMove::Waits;
-    };
-    if c == quote && !is_long {
-        return TextMove::Closes(1);
-    }
-    if is_break(c) && !is_long {
-        return TextMove::BreaksString;
-    }
-    let len = if c == quote {
-        match quotes_len(bytes) {
+    let len = match first_character(bytes) {
+        None => return TextMove::Waits,
+        Some(c) if c == quote && !is_long => return TextMove::Closes(1),
+        Some(c) if c == quote => match quotes_len(bytes) {
             Some(3) => return TextMove::Closes(3),
             quotes => quotes,
-        }
-    } else if c == '\\' {
-        escape_len(bytes)
-    } else {
-        Some(c.len_utf8())
+        },
+        Some('\n' | '\r') if !is_long => return TextMove::BreaksString,
+        Some('\\') => escape_len(bytes),
+        Some(c) => Some(c.len_utf8()),
     };
     match len {
         Some(len) => TextMove::Grows(mode, len),
@@ -103,42 +83,18 @@ fn escape_move(host: StringWithFields, region: Region, named: bool, bytes: &[u8]
     ensures { DoesInFields host region named bytes.now result }
 {
     let mode = Mode::Fields(host, region, named);
-    if bytes.len() < 2 {
-        return TextMove::Waits;
-    }
-    let c = bytes[1] as char;
-    if is_brace(c) {
-        return TextMove::Grows(mode, 1);
-    }
-    // A specification of a short string holds no line end, and none after a backslash.
-    if is_break(c) && matches!(region, Region::Specification) && !host.is_long {
-        return TextMove::BreaksString;
-    }
-    if c == 'N' && !host.is_raw && bytes.len() > 2 && bytes[2] == b'{' {
-        return TextMove::Grows(Mode::Fields(host, region, true), 3);
-    }
-    if c == 'N' && !host.is_raw && bytes.len() < 3 {
-        return TextMove::Waits;
-    }
-    match escape_len(bytes) {
-        Some(len) => TextMove::Grows(mode, len),
-        None => TextMove::Waits,
-    }
-}
-
-/// What a `{` and the bytes after it are to the text of a string with fields, where it doesn't stand for itself. In the string's own text
-/// two of them do.
-fn brace_move(host: StringWithFields, region: Region, bytes: &[u8]) -> TextMove
-    requires { slice_index bytes.now 0 ≡ byte "{" }
-    ensures { DoesInFields host region false bytes.now result }
-{
-    if let Region::Specification = region {
-        return TextMove::OpensField(host, region);
-    }
-    match first_character(&bytes[1..]) {
-        None => TextMove::Waits,
-        Some('{') => TextMove::Grows(Mode::Fields(host, region, false), 2),
-        Some(_) => TextMove::OpensField(host, region),
+    match bytes {
+        [_, b'{' | b'}', ..] => TextMove::Grows(mode, 1),
+        // A specification of a short string holds no line end, and none after a backslash.
+        [_, b'\n' | b'\r', ..] if matches!(region, Region::Specification) && !host.is_long => {
+            TextMove::BreaksString
+        }
+        [_, b'N', b'{', ..] if !host.is_raw => TextMove::Grows(Mode::Fields(host, region, true), 3),
+        [_, b'N'] if !host.is_raw => TextMove::Waits,
+        _ => match escape_len(bytes) {
+            Some(len) => TextMove::Grows(mode, len),
+            None => TextMove::Waits,
+        },
     }
 }
 
@@ -148,13 +104,17 @@ pub fn fields_move(host: StringWithFields, region: Region, named: bool, bytes: &
     requires quote { is_quote host.quote ≡ true }
     ensures { DoesInFields host region named bytes.now result }
 {
-    match bytes[0] {
-        b'{' if !named => brace_move(host, region, bytes),
-        b'}' => match region {
-            Region::Specification if !named => TextMove::EndsField,
-            _ => TextMove::Grows(Mode::Fields(host, region, false), 1),
+    match (bytes[0], region) {
+        (b'{', Region::Specification) if !named => TextMove::OpensField(host, region),
+        // In the string's own text two of them stand for one.
+        (b'{', Region::Literal) if !named => match first_character(&bytes[1..]) {
+            None => TextMove::Waits,
+            Some('{') => TextMove::Grows(Mode::Fields(host, region, false), 2),
+            Some(_) => TextMove::OpensField(host, region),
         },
-        b'\\' => escape_move(host, region, named, bytes),
+        (b'}', Region::Specification) if !named => TextMove::EndsField,
+        (b'}', _) => TextMove::Grows(Mode::Fields(host, region, false), 1),
+        (b'\\', _) => escape_move(host, region, named, bytes),
         _ => {
             let mode = Mode::Fields(host, region, named);
             match (region, text_move(mode, host.quote, host.is_long, bytes)) {

@@ -1,5 +1,5 @@
 -- Bytes of a piece were taken: what they settle and decide, where they were scanned, and what the call that feeds it answers.
-use Rattle.std.proofs.Common.{◌≡◌, ℕ, ◌+◌, ◌<◌, false, None, Some, List, [], ◌∷◌, ◌++◌, length, take, sym, ap, ◌∙◌, subst, ⊎_elim, inl, inr, append-nil, arith, length-append, encode_utf8_all, ◌-◌, ◌≤◌, ◌^◌, Option, Err, drop, refl, append_assoc, length-drop, length-take, min, ◌⊎◌, true, is_some}
+use Rattle.std.proofs.Common.{◌≡◌, ℕ, ◌+◌, ◌<◌, false, None, Some, List, [], ◌∷◌, ◌++◌, length, take, sym, ap, ◌∙◌, subst, ⊎_elim, inl, inr, append-nil, arith, length-append, encode_utf8_all, ◌-◌, ◌≤◌, ◌^◌, Option, Err, drop, refl, append_assoc, length-drop, ◌⊎◌, true, is_some}
 use Rattle.std.proofs.lemmas.Bool.{cases_lt}
 use Rattle.py_lines.specs.Character.{is_return}
 use Rattle.py_lines.specs.Piece.{ends, spelled}
@@ -7,22 +7,22 @@ use Rattle.py_lines.specs.LogicalLine.{LogicalLine, line_of}
 use Rattle.std.specs.Str.{all_scalars}
 use Rattle.py_lines.specs.Lexed.{IsLexed}
 use Rattle.py_lines.specs.Settled.{IsSettled, Decides, DecideNone}
-use Rattle.py_lines.specs.ScannerState.{GoesOnWith, EndsExactly, HoldsReady, ScannerState, IsScanning, MeetsFault, TakesBytes, WhereFed, fed_of, ready_lines, ScannerRunsOut, Feeds, FeedsNaming, LacksBoth, Releases, TakesNaming}
+use Rattle.py_lines.specs.ScannerState.{GoesOnWith, EndsExactly, HoldsReady, ScannerState, IsScanning, TakesBytes, WhereFed, fed_of, ready_lines, Feeds, LacksBoth, Releases, TakesNaming}
 use Rattle.py_lines.specs.Private.LineScan.{EndsWhole, IsApart, ScansIn}
 use Rattle.py_lines.specs.Private.LineState.{first_mode}
-use Rattle.py_lines.specs.Private.Feed.{IsScanned, Scan, Stop, Feed, AreFirstLines, EndsWithLine, GivesBack, Holds, HoldsSo, IsSoundFeed, ScansHeld, StandsSo, StopsWith, TakesLine, TakesSo, line_held, Fault, LexError, ready_of, scanning_of, DropsLine, HasReadTokens, LetsGoWithout, ReadsTokens, with_line, line_of_feed}
+use Rattle.py_lines.specs.Private.Feed.{IsScanned, Scan, Stop, Feed, AreFirstLines, EndsWithLine, FailsAfter, Holds, HoldsMore, HoldsSo, IsSoundFeed, IsUnchanged, StandsSo, Takes, TakesLine, TakesSo, line_held, Fault, LexError, ready_of, scanning_of, HasReadTokens, LetsGo, ReadsTokens, with_line, line_of_feed}
 use Rattle.py_lines.proofs.Text.Utf8Prefixes.{all_scalars-parts, nothing_bad}
 use Rattle.py_lines.proofs.Lexings.DecidedFaults.{decided_fault, decided_more}
 use Rattle.py_lines.proofs.Lexings.FirstLines.{first_reading}
-use Rattle.py_lines.proofs.Feeds.Known.{IsKnown, given_bytes, is_known, first_at, goes_after, goes_at, goes_joined, goes_with_first}
+use Rattle.py_lines.proofs.Feeds.Known.{IsKnown, given_bytes, is_known, first_at, goes_at, goes_joined, goes_with_first}
 use Rattle.py_lines.proofs.Feeds.SettledSoFar.{settled_open, settled_ready, ended_before, IsNextLine, next_line}
 use Rattle.py_lines.proofs.Feeds.DecidedSoFar.{undecided}
-use Rattle.py_lines.proofs.Feeds.ReadyLines.{ended_alone, line_alone, pieces_alone, ended_holds, none_read, none_ready, some_is, text_stands}
+use Rattle.py_lines.proofs.Feeds.ReadyLines.{ended_alone, line_alone, pieces_alone, ended_holds, line_stands, none_read, none_ready, some_is, text_stands}
 use Rattle.py_lines.proofs.Feeds.LastBytes.{exactly_encoded}
 use Rattle.py_lines.proofs.LineScan.LineSteps.{follows_whole}
-use Rattle.std.proofs.lemmas.List.{length-take-le, nil_from_length, take-append-drop, take-take, take_all, take_min}
-use Rattle.std.proofs.Math.Seq.{take-add, take-append-add, take-append_seam}
-use Rattle.py_lines.proofs.Feeds.OpenLine.{holds_on, room_more, scans_on, left_none, dropped, runs_out}
+use Rattle.std.proofs.lemmas.List.{length-take-le, nil_from_length, take-append-drop, take_all}
+use Rattle.std.proofs.Math.Seq.{take-add}
+use Rattle.py_lines.proofs.Feeds.OpenLine.{fails_later, holds_on, room_more, left_none, dropped, runs_out}
 use Rattle.py_lines.proofs.Feeds.Released.{released_sound, releases}
 
 -- these bytes, if there are any, settle the lines given and no more
@@ -110,67 +110,107 @@ module _ (f : Feed) (s : IsScanned f None) (text : List ℕ) (lines : List Logic
 pub settled_held : (text : List ℕ) (lines : List LogicalLine) (old : Feed) → old.ready ≡ None → IsScanning (scanning_of old) text lines → SettleNone text old.state.place old.held.items lines
 settled_held text lines old not_ready s some = subst (IsSettled (take (old.state.place + length old.held.items) text)) (ap (λ r. lines ++ ready_lines (ready_of old r)) not_ready ∙ append-nil lines) (s.settled some)
 
-module _ (old : Feed) (sound : IsSoundFeed old) (no_fault : old.state.fault ≡ None) (not_ready : old.ready ≡ None) (piece : List ℕ) (fits : old.state.place + length old.held.items + length piece ≤ 2 ^ 62) (n : ℕ) (within : n ≤ length piece) where
-  size : length (old.held.items ++ take n piece) ≡ length old.held.items + n
-  size = length-append old.held.items (take n piece) ∙ ap (λ (k : ℕ). length old.held.items + k) (length-take-le n piece within)
+-- a text that goes on with so many bytes of a piece holds these bytes before, which settle the lines given and no more
+abbrev SettlesNone : Feed → List ℕ → ℕ → List ℕ → Type 0
+SettlesNone old piece n before = WhereFed (scanning_of old) (take n piece) (λ text lines. GoesOnWith text old.state.place before × SettleNone text old.state.place before lines)
 
-  few : old.state.place + length old.held.items + length (take n piece) ≤ 2 ^ 62
-  few = omega (arith, fits, length-take-le n piece within, within)
+-- so many bytes of a piece were taken so far
+pub record TakesSoFar (old : Feed) (piece : List ℕ) (n : ℕ) (new : Feed) : Type 0 where
+  pub before : List ℕ
+  pub none : SettlesNone old piece n before
+  pub more : HoldsMore old old.held.items before piece n new
 
-  -- they are held then, and where a line has ended it is all that is held, with one byte more after CR alone
-  module _ (new : Feed) (text : Holds old (old.held.items ++ take n piece) old.state.fault new) where
-    -- this line stands there then: it is settled, and where there is none no fault is decided
+-- the bytes of a piece that aren't taken yet, as a slice has them
+pub rest_is : (piece : List ℕ) (n : ℕ) → take (length piece - n) (drop n piece) ≡ drop n piece
+rest_is piece n = take_all (length piece - n) (drop n piece) (omega (arith, length-drop n piece))
+
+module _ {old new : Feed} {piece : List ℕ} {n : ℕ} (t : TakesSoFar old piece n new) where
+  module _ {whole : List ℕ} {lines : List LogicalLine} (s : IsScanning (scanning_of old) whole lines) (go : GoesOnWith whole (fed_of (scanning_of old)) (take n piece)) where
+    first_new : AreFirstLines whole new.state.place new.state.line lines
+    first_new = first_at t.more.text.place t.more.text.line s.first
+
+    goes_new : GoesOnWith whole new.state.place new.held.items
+    goes_new = goes_at whole t.more.text.place t.more.text.held (goes_joined whole old.state.place old.held.items (take n piece) s.held go)
+
+  all_held : (m : ℕ) {rest : List ℕ} → rest ≡ drop n piece → new.held.items ++ take m rest ≡ old.held.items ++ take (n + m) piece
+  all_held m {rest} is = ap (λ l. l ++ take m rest) t.more.text.held ∙ append_assoc old.held.items (take n piece) (take m rest) ∙ ap (λ l. old.held.items ++ l) (ap (λ l. take n piece ++ take m l) is ∙ sym (take-add n m piece))
+
+module _ {old mid new : Feed} {piece rest : List ℕ} {n : ℕ} (t : TakesSoFar old piece n mid) (is : rest ≡ drop n piece) where
+  -- bytes were taken once more
+  pub takes_more : {m : ℕ} → mid.ready ≡ None → HoldsMore mid mid.held.items mid.held.items rest m new → TakesSoFar old piece (n + m) new
+  takes_more {m} none more =
+      let text = t.more.text in let scanned : IsScanned mid None = subst (EndsWithLine t.before mid) none t.more.ends in
+      record {
+        before = mid.held.items;
+        none = λ whole lines s go.
+            let part = goes_with_first whole (fed_of (scanning_of old)) (take n piece) (take m (drop n piece)) (subst (GoesOnWith whole (fed_of (scanning_of old))) (take-add n m piece) go) in
+            rw (← text.place) (goes_new t s part, (scanned_open mid scanned whole lines (first_new t s part) (goes_new t s part)).0);
+        more = record {
+          within = omega (arith, t.more.within, more.within, ap length is, length-drop n piece);
+          some = λ zero. t.more.some (omega (arith, zero));
+          text = holds_on text more.text (all_held t m is) text.fault;
+          ends = more.ends;
+        };
+      }
+
+  -- or a fault was met then
+  pub fails_more : {fault : Fault} → FailsAfter mid rest fault new → FailsAfter old piece fault new
+  fails_more (m, within, failed) = (n + m, omega (arith, t.more.within, within, ap length is, length-drop n piece), fails_later old mid new t.more.text (all_held t m is) failed)
+
+module _ (old : Feed) (sound : IsSoundFeed old) (no_fault : old.state.fault ≡ None) (not_ready : old.ready ≡ None) (piece : List ℕ) (fits : old.state.place + length old.held.items + length piece ≤ 2 ^ 62) where
+  few : (n : ℕ) → n ≤ length piece → old.state.place + length old.held.items + length (take n piece) ≤ 2 ^ 62
+  few n within = omega (arith, fits, length-take-le n piece within, within)
+
+  -- what the bytes that were taken come to
+  module _ {n : ℕ} {new : Feed} (t : TakesSoFar old piece n new) where
+    text : Holds old (old.held.items ++ take n piece) old.state.fault new
+    text = t.more.text
+
+    -- this line stands in what is held then: it is settled, and where there is none no fault is decided
     abbrev StandsFed : Option LogicalLine → Type 0
     StandsFed line = WhereFed (scanning_of old) (take n piece) (λ whole lines.
         (0 < length new.held.items → IsSettled (take (fed_of (scanning_of new)) whole) (lines ++ ready_lines line))
         × HoldsReady new.held.items line × (line ≡ None → DecideNone (take (fed_of (scanning_of new)) whole)))
 
-    module _ (whole : List ℕ) (lines : List LogicalLine) (s : IsScanning (scanning_of old) whole lines) (go : GoesOnWith whole (fed_of (scanning_of old)) (take n piece)) where
-      first_new : AreFirstLines whole new.state.place new.state.line lines
-      first_new = first_at text.place text.line s.first
-
-      goes_new : GoesOnWith whole new.state.place new.held.items
-      goes_new = goes_at whole text.place text.held (goes_joined whole old.state.place old.held.items (take n piece) s.held go)
-
-    line_fed : (r : Option ℕ) → EndsWithLine old.held.items new r → (line : Option LogicalLine) × HoldsSo new r line × StandsFed line
+    line_fed : (r : Option ℕ) → EndsWithLine t.before new r → (line : Option LogicalLine) × HoldsSo new r line × StandsFed line
     line_fed None s = (
       None,
       (refl, λ open_yet. (s.0.stops.left, s.0.stops.reached)),
       λ whole lines scanning go.
-          let (settled, undecided) = scanned_open new s whole lines (first_new whole lines scanning go) (goes_new whole lines scanning go) in
+          let (settled, undecided) = scanned_open new s whole lines (first_new t scanning go) (goes_new t scanning go) in
           (λ some. subst (IsSettled (take (fed_of (scanning_of new)) whole)) (sym (append-nil lines)) (settled some), tt, λ none. undecided),
     )
     line_fed (Some end_len) (s, which) = (
       Some (line_held new end_len (ended_holds new end_len s)),
       (ended_holds new end_len s, refl),
       λ whole lines scanning go.
-          let first = first_new whole lines scanning go in let goes = goes_new whole lines scanning go in
+          let first = first_new t scanning go in let goes = goes_new t scanning go in
           ⊎_elim
           (λ exact. (λ some. settled_fed whole new.state.place lines s first goes exact, holds_exactly whole new.state.place lines s first goes exact, λ none. absurd (cc)))
-          (λ had. absurd (never_before whole new.state.place lines had first (goes_at whole text.place refl scanning.held) (rw text.place (settled_held whole lines old not_ready scanning))))
+          (λ had. let (held, none) = t.none whole lines scanning go in absurd (never_before whole new.state.place lines had first (goes_at whole text.place refl held) (rw text.place none)))
           which,
     )
 
-    pub taken : (n ≡ 0 → length piece ≡ 0) → EndsWithLine old.held.items new new.ready → TakesLine old piece n new
-    taken some ends =
-        let (line, holds, stands) = line_fed new.ready ends in
+    pub taken : TakesLine old piece n new
+    taken =
+        let (line, holds, stands) = line_fed new.ready t.more.ends in
         record {
           line = line;
           holds = holds;
           takes = record {
-            within = within;
+            within = t.more.within;
             scans = λ whole lines s go.
                 let at = stands whole lines s go in
                 record {
-                  first = first_new whole lines s go;
-                  held = goes_new whole lines s go;
+                  first = first_new t s go;
+                  held = goes_new t s go;
                   settled = at.0;
                   whole = at.1;
                   open_yet = text.ended ∙ s.open_yet;
                   no_fault = text.fault ∙ no_fault;
                 };
             undecided = λ whole lines s go. (stands whole lines s go).2;
-            some = λ zero. inl (nil_from_length piece (some zero));
+            some = λ zero. inl (nil_from_length piece (t.more.some zero));
             waits = λ u seen. absurd (let none = ap (ready_of old) not_ready in cc);
             held = text.held;
             place = text.place;
@@ -179,13 +219,13 @@ module _ (old : Feed) (sound : IsSoundFeed old) (no_fault : old.state.fault ≡ 
             open_yet = text.ended;
             no_fault = text.fault ∙ no_fault;
           };
-          room = room_more old new (take n piece) sound few text;
+          room = room_more old new (take n piece) sound (few n t.more.within) text;
         }
 
   -- or they decide a fault with what was held
-  pub fails : (mid new : Feed) {stop : Stop} (error : LexError) → StopsWith old (old.held.items ++ take n piece) stop mid → ScansHeld mid (Err error) new → TakesSo old piece (Err error) new
-  fails mid new (LexError.Fault fault) stops failed =
-      let (text, none, decided) = scans_on old mid new (Err (LexError.Fault fault)) stops failed in (
+  pub meets : {fault : Fault} {new : Feed} → FailsAfter old piece fault new → TakesSo old piece (Err (LexError.Fault fault)) new
+  meets {fault} {new} (n, within, (text, none, decided)) =
+      let size = length-append old.held.items (take n piece) ∙ ap (λ (k : ℕ). length old.held.items + k) (length-take-le n piece within) in (
         record {
           decided = λ whole lines s go.
               let part = goes_with_first whole (fed_of (scanning_of old)) (take n piece) (drop n piece) (subst (GoesOnWith whole (fed_of (scanning_of old))) (sym (take-append-drop n piece)) go) in
@@ -202,87 +242,12 @@ module _ (old : Feed) (sound : IsSoundFeed old) (no_fault : old.state.fault ≡ 
           open_yet = text.ended;
           kept = text.fault;
         },
-        record { room = room_more old new (take n piece) sound few text; state = subst (StandsSo new) (sym none) (λ no_more. absurd (let h = sym text.fault ∙ no_more in cc)) },
+        record { room = room_more old new (take n piece) sound (few n within) text; state = subst (StandsSo new) (sym none) (λ no_more. absurd (let h = sym text.fault ∙ no_more in cc)) },
       )
-  fails mid new LexError.Memory stops never = absurd never
 
--- what stays held of what was held and first bytes of a piece
-pub taken_back : (old mid new : Feed) → IsSoundFeed old → old.state.fault ≡ None → old.ready ≡ None → (piece : List ℕ) → old.state.place + length old.held.items + length piece ≤ 2 ^ 62
-    → (first n before : ℕ) → first ≤ length piece → (first ≡ 0 → length piece ≡ 0) → Holds old (old.held.items ++ take first piece) old.state.fault mid
-    → before ≡ length old.held.items → n ≡ length new.held.items - before → GivesBack mid before new → TakesLine old piece n new
-taken_back old mid new sound no_fault not_ready piece fits first n before within some holds at left g =
-    let whole : length mid.held.items ≡ length old.held.items + first = ap length holds.held ∙ length-append old.held.items (take first piece) ∙ ap (λ (k : ℕ). length old.held.items + k) (length-take-le first piece within) in
-    let size : length new.held.items ≡ min g.kept (length mid.held.items) = ap length g.text.held ∙ length-take g.kept mid.held.items in
-    let parts : min g.kept (length mid.held.items) ≡ length old.held.items + n = ⊎_elim (λ more. omega (arith, more, left, at, size, whole)) (λ all. omega (arith, all, left, at, size, whole)) g.more in
-    let items : take g.kept mid.held.items ≡ old.held.items ++ take n piece =
-    sym (take_min g.kept mid.held.items) ∙ ap (λ (k : ℕ). take k mid.held.items) parts ∙ ap (take (length old.held.items + n)) holds.held
-    ∙ take-append-add old.held.items (take first piece) n ∙ ap (λ l. old.held.items ++ l) (take-take n first piece (omega (arith, parts, whole))) in
-    let earlier : take before mid.held.items ≡ old.held.items = ap (take before) holds.held ∙ ap (λ (k : ℕ). take k (old.held.items ++ take first piece)) at ∙ take-append_seam old.held.items (take first piece) in
-    taken old sound no_fault not_ready piece fits n (omega (arith, parts, whole, within)) new (holds_on holds g.text items holds.fault)
-    (λ none. some (⊎_elim (λ more. omega (arith, more, none, parts, at, whole)) (λ all. omega (arith, all, none, parts, whole)) g.more))
-    (subst (λ l. EndsWithLine l new new.ready) earlier g.ends)
-
--- nothing that was held before is given back
-pub back_kept : {old new : Feed} {before : ℕ} → before ≤ length old.held.items → GivesBack old before new → before ≤ length new.held.items
-back_kept {old} within g =
-    let size = ap length g.text.held ∙ length-take g.kept old.held.items in
-    ⊎_elim (λ more. omega (arith, more, size, within)) (λ all. omega (arith, all, size, within)) g.more
-
--- the bytes of a piece that aren't taken yet, as a slice has them
-pub rest_is : (piece : List ℕ) (n : ℕ) → take (length piece - n) (drop n piece) ≡ drop n piece
-rest_is piece n = take_all (length piece - n) (drop n piece) (omega (arith, length-drop n piece))
-
--- bytes were taken, no line is ready, and more of the piece come
-module _ {a b : ScannerState} {piece : List ℕ} {n : ℕ} (was : a.ready ≡ None) (none : b.ready ≡ None) (t : TakesBytes a piece n b) {rest : List ℕ} (is : rest ≡ drop n piece) where
-  fed : fed_of b ≡ fed_of a + n
-  fed = omega (arith, t.place, ap length t.held, length-append a.held (take n piece), length-take-le n piece t.within)
-
-  all : length piece ≡ n + length rest
-  all = omega (arith, ap length is, length-drop n piece, t.within)
-
-  split : (m : ℕ) → take (n + m) piece ≡ take n piece ++ take m rest
-  split m = take-add n m piece ∙ ap (λ l. take n piece ++ take m l) (sym is)
-
-  -- the text goes on with both
-  scans_first : (text : List ℕ) (lines : List LogicalLine) (bytes : List ℕ) → IsScanning a text lines → GoesOnWith text (fed_of a) (take n piece ++ bytes) → IsScanning b text lines × GoesOnWith text (fed_of b) bytes
-  scans_first text lines bytes s go = (
-    t.scans text lines s (goes_with_first text (fed_of a) (take n piece) bytes go),
-    subst (λ (k : ℕ). GoesOnWith text k bytes) (omega (arith, fed, length-take-le n piece t.within)) (goes_after text (fed_of a) (take n piece) bytes go),
-  )
-
-  both_fed : (text : List ℕ) (lines : List LogicalLine) (m : ℕ) → IsScanning a text lines → GoesOnWith text (fed_of a) (take (n + m) piece) → IsScanning b text lines × GoesOnWith text (fed_of b) (take m rest)
-  both_fed text lines m s go = scans_first text lines (take m rest) s (subst (GoesOnWith text (fed_of a)) (split m) go)
-
-  pub takes_on : {m : ℕ} {c : ScannerState} → TakesBytes b rest m c → TakesBytes a piece (n + m) c
-  takes_on {m} u = record {
-    within = omega (arith, all, u.within);
-    scans = λ text lines s go. let (s', go') = both_fed text lines m s go in u.scans text lines s' go';
-    undecided = λ text lines s go. let (s', go') = both_fed text lines m s go in u.undecided text lines s' go';
-    some = λ zero. t.some (omega (arith, zero));
-    waits = λ l ready. absurd (cc);
-    held = u.held ∙ ap (λ l. l ++ take m rest) t.held ∙ append_assoc a.held (take n piece) (take m rest) ∙ ap (λ l. a.held ++ l) (sym (split m));
-    place = u.place ∙ t.place;
-    line = u.line ∙ t.line;
-    fault = t.fault;
-    open_yet = u.open_yet ∙ t.open_yet;
-    no_fault = u.no_fault;
-  }
-
-  pub fails_on : {fault : Fault} {c : ScannerState} → MeetsFault b rest fault c → MeetsFault a piece fault c
-  fails_on {fault} u = record {
-    decided = λ text lines s go.
-        let (s', go') = scans_first text lines rest s (subst (GoesOnWith text (fed_of a)) (sym (ap (λ l. take n piece ++ l) is ∙ take-append-drop n piece)) go) in
-        let (k, less, decided, lexed) = u.decided text lines s' go' in
-        (n + k, omega (arith, all, less), subst (λ (i : ℕ). Decides (take i text) fault) (omega (arith, fed)) decided, lexed);
-    again = λ first known. absurd (let h = sym t.fault ∙ known in cc);
-    none_ready = λ h. was;
-    place = u.place ∙ t.place;
-    line = u.line ∙ t.line;
-    fed = omega (arith, u.fed, fed, all);
-    ready = u.ready ∙ none ∙ sym was;
-    open_yet = u.open_yet ∙ t.open_yet;
-    kept = u.kept;
-  }
+  pub errs : (new : Feed) (error : LexError) → Takes old piece (Err error) new → TakesSo old piece (Err error) new
+  errs new (LexError.Fault fault) failed = meets failed
+  errs new LexError.Memory short = runs_out sound no_fault not_ready short
 
 -- so they were where lines are released at once, if none was
 pub naming_same : (word other : List ℕ) (old new : ScannerState) (piece : List ℕ) (n : ℕ) → TakesBytes old piece n new
@@ -290,9 +255,10 @@ pub naming_same : (word other : List ℕ) (old new : ScannerState) (piece : List
 naming_same word other old new piece n t kept = record { mid = new; takes = t; same = inl refl; kept = kept; waits = λ line is. (t.waits line is).1 }
 
 -- where a line is ready, no byte is taken
-pub waits_so : (f : Feed) (piece : List ℕ) → f.state.fault ≡ None → is_some f.ready ≡ true → TakesBytes (scanning_of f) piece 0 (scanning_of f)
-waits_so f piece fault ready =
+pub waits_so : (f : Feed) (piece : List ℕ) → IsSoundFeed f → is_some f.ready ≡ true → TakesBytes (scanning_of f) piece 0 (scanning_of f)
+waits_so f piece sound ready =
     let m = some_is f.ready ready in let line : ready_of f f.ready ≡ Some (line_of_feed f m.0) = ap (ready_of f) m.1 in
+    let fault = (subst (StandsSo f) m.1 sound.state).no_fault in
     record {
       within = omega arith;
       scans = λ text lines s go. s;
@@ -314,21 +280,13 @@ module _ {old new : Feed} {piece : List ℕ} {n : ℕ} (t : TakesLine old piece 
   takes_read r = subst (TakesBytes (scanning_of old) piece n) (sym (r.seen t.line t.holds)) t.takes
 
   -- without a line
-  pub takes_open : new.ready ≡ None → TakesBytes (scanning_of old) piece n (scanning_of new) × IsSoundFeed new
+  takes_open : new.ready ≡ None → TakesBytes (scanning_of old) piece n (scanning_of new) × IsSoundFeed new
   takes_open none = let r = none_read t.room none (t.line, t.holds) in (takes_read r, r.sound)
 
-  -- and then with more bytes
-  pub takes_more : old.ready ≡ None → new.ready ≡ None → {rest : List ℕ} {m : ℕ} {now : Feed} → rest ≡ drop n piece → TakesLine new rest m now → TakesLine old piece (n + m) now
-  takes_more was none is more = record {
-    line = more.line;
-    holds = more.holds;
-    takes = takes_on (ap (ready_of old) was) (ap (ready_of new) none) (takes_open none).0 is more.takes;
-    room = more.room;
-  }
-
-  -- or with none for which there is memory
-  pub takes_short : new.ready ≡ None → {now : Feed} → ScannerRunsOut (scanning_of new) (scanning_of now) → IsSoundFeed now → TakesLine old piece n now
-  takes_short none {now} short sound =
+  -- where there is no memory for more
+  pub takes_short : new.ready ≡ None → {now : Feed} → IsUnchanged new now → TakesLine old piece n now
+  takes_short none {now} unchanged =
+      let (short, sound) = runs_out (takes_open none).1 t.takes.no_fault none unchanged in
       let seen : ready_of now now.ready ≡ None = ap (λ (s : ScannerState). s.ready) short.same ∙ ap (ready_of new) none in
       let ready = none_ready now now.ready seen in
       record {
@@ -339,46 +297,40 @@ module _ {old new : Feed} {piece : List ℕ} {n : ℕ} (t : TakesLine old piece 
       }
 
   -- where there is no memory for the tokens
-  pub fed_short : IsSoundFeed old → old.ready ≡ None → {held : ℕ} → held ≡ length old.held.items → {mid now : Feed} → mid ≡ new → (error : LexError) → ReadsTokens mid held (Err error) now
+  pub fed_short : IsSoundFeed old → old.ready ≡ None → {held : ℕ} → held ≡ length old.held.items → {now : Feed} (error : LexError) → ReadsTokens new held (Err error) now
       → Feeds (scanning_of old) piece (Err error) (scanning_of now) × IsSoundFeed now
-  fed_short sound was before same (LexError.Fault f) never = absurd never
-  fed_short sound was {held} before {mid} {now} same LexError.Memory drops = runs_out sound t.takes.fault was (dropped old new now (take n piece) (record {
+  fed_short sound was before (LexError.Fault f) never = absurd never
+  fed_short sound was before {now} LexError.Memory drops = runs_out sound t.takes.fault was (dropped old new now (take n piece) (record {
     held = t.takes.held;
     place = t.takes.place;
     line = t.takes.line;
     ended = t.takes.open_yet;
     fault = t.takes.no_fault ∙ sym t.takes.fault;
-  }) before (subst (λ (f : Feed). DropsLine f held now) same drops))
+  }) before drops)
 
   -- where it was not let go, and the tokens of the line that stands in what is held are read
-  pub fed_named : {mid now : Feed} {word other : List ℕ} → LetsGoWithout word other new false mid → HasReadTokens mid now → TakesNaming word other (scanning_of old) piece n (scanning_of now)
-  fed_named {mid} {now} {word} {other} stays read =
-      let here = subst (λ (f : Feed). HasReadTokens f now) stays.0 read in
-      naming_same word other (scanning_of old) (scanning_of now) piece n (takes_read here) (λ line is.
-      let at = text_stands new new.ready t.holds (ap (λ (s : ScannerState). s.ready) (sym (here.seen t.line t.holds)) ∙ is) in
-      inr (subst (λ text. ¬ (LacksBoth word other text)) (sym at.2) (stays.1 at.0 at.1)))
+  pub fed_named : {now : Feed} {word other : List ℕ} → (is_some new.ready ≡ true → ¬ (LacksBoth word other (take new.state.scan.stop new.held.items))) → HasReadTokens new now → TakesNaming word other (scanning_of old) piece n (scanning_of now)
+  fed_named {now} {word} {other} stays read =
+      naming_same word other (scanning_of old) (scanning_of now) piece n (takes_read read) (λ line is.
+      let at = text_stands new new.ready t.holds (ap (λ (s : ScannerState). s.ready) (sym (read.seen t.line t.holds)) ∙ is) in
+      inr (subst (λ text. ¬ (LacksBoth word other text)) (sym at.2) (stays (ap is_some at.1))))
 
   -- where it was let go
-  pub fed_released : {now : Feed} {word other : List ℕ} → old.ready ≡ None → LetsGoWithout word other new true now → TakesNaming word other (scanning_of old) piece n (scanning_of now) × IsSoundFeed now
-  fed_released {now} {word} {other} was (end_len, ready, lacks, go) =
-      let h = subst (λ r. HoldsSo new r t.line) ready t.holds in (
+  pub fed_released : {now : Feed} {word other : List ℕ} → old.ready ≡ None → is_some new.ready ≡ true → LacksBoth word other (take new.state.scan.stop new.held.items) → LetsGo new now
+      → TakesNaming word other (scanning_of old) piece n (scanning_of now) × IsSoundFeed now
+  fed_released {now} {word} {other} was some lacks go =
+      let (end_len, ready, h, line) = line_stands new new.ready t.holds some in (
         record {
           mid = with_line new t.line;
           takes = t.takes;
           same = inr (
-            line_held new end_len h.0,
-            h.1,
-            subst (LacksBoth word other) (sym h.0.text.spell) lacks,
-            subst (λ l. Releases (with_line new l) (scanning_of now)) (sym h.1) (releases new now end_len h.0 go),
+            line_held new end_len h,
+            line,
+            subst (LacksBoth word other) (sym h.text.spell) lacks,
+            subst (λ l. Releases (with_line new l) (scanning_of now)) (sym line) (releases new now end_len h go),
           );
           kept = λ line seen. absurd (let none = ap (ready_of now) go.ready in cc);
           waits = λ line seen. absurd (let none = ap (ready_of old) was in cc);
         },
-        released_sound new now end_len h.0 go t.room,
+        released_sound new now end_len h go t.room,
       )
-
--- an error is the same where lines are released at once
-pub naming_error : (word other : List ℕ) (old new : ScannerState) (piece : List ℕ) (error : LexError)
-    → Feeds old piece (Err error) new → FeedsNaming word other old piece (Err error) new
-naming_error word other old new piece (LexError.Fault f) feeds = feeds
-naming_error word other old new piece LexError.Memory feeds = feeds

@@ -1,10 +1,15 @@
 -- The last byte of characters: it is CR just where their last character is.
-use Rattle.std.proofs.Common.{take-suc, ◌≡◌, ℕ, suc, ◌-◌, ◌<◌, ◌≤◌, Bool, false, List, [], ◌∷◌, ◌++◌, length, take, slice_index, refl, sym, ap, ◌∙◌, ⊎_elim, append-nil, arith, encode_utf8, encode_utf8_all}
-use Rattle.std.proofs.lemmas.Bool.{cases_lt, false_from_ne_true}
+use mir.Val.{bool_byte}
+use Rattle.std.proofs.Common.{take-suc, ◌≡◌, ℕ, suc, ◌-◌, ◌<◌, ◌≤◌, Bool, true, false, List, [], ◌∷◌, ◌++◌, ◌==◌, eqb, length, take, slice_index, refl, sym, ap, ◌∙◌, ⊎_elim, inl, inr, append-nil, arith, encode_utf8, encode_utf8_all}
+use Rattle.std.specs.List.{ends_with}
+use Rattle.std.proofs.Math.Bool.{or-false}
+use Rattle.std.proofs.lemmas.Bool.Decides.{nat_tests}
+use Rattle.std.proofs.lemmas.Bool.{both_ways, cases_lt, false_from_ne_true}
 use Rattle.std.proofs.lemmas.Str.{length-le-encodes}
 use Rattle.py_lines.specs.Character.{is_return}
 use Rattle.py_lines.specs.Piece.{ends}
 use Rattle.py_lines.specs.ScannerState.{EndsExactly}
+use Rattle.py_lines.specs.Private.LineScan.{EndsWhole}
 use Rattle.py_lines.proofs.Text.CharacterTests.{return_is}
 use Rattle.py_lines.proofs.Text.Utf8Shapes.{one, two, three, four}
 use Rattle.py_lines.proofs.Lexings.LineEnds.{ends-append}
@@ -39,6 +44,28 @@ last_of bytes len some within =
     let next : len ≡ suc (len - 1) = omega (arith, some) in
     ap (λ (k : ℕ). ends is_return (take k bytes)) next ∙ ap (ends is_return) (take-suc bytes (len - 1) 0 (omega (arith, some, within))) ∙ ends-last is_return (take (len - 1) bytes) (slice_index bytes (len - 1))
 
+-- what a test for CR says of it
+pub last_test : (bytes : List ℕ) (len : ℕ) → 0 < len → len ≤ length bytes → (slice_index bytes (len - 1) == 13) ≡ ends is_return (take len bytes)
+unfolding is_return
+last_test bytes len some within = sym (last_of bytes len some within ∙ or-false (slice_index bytes (len - 1) == 13))
+
 -- what comes after a line comes after its bytes
 pub exactly_encoded : (line more : List ℕ) → EndsExactly line more → EndsExactly (encode_utf8_all line) more
 exactly_encoded line more exact = rw (← ends-encoded line) at exact
+
+-- what a test for CR at the end says
+pub ends_with_return : (bytes : List ℕ) → ends_with eqb bytes (13 ∷ []) ≡ ends is_return bytes
+unfolding is_return
+ends_with_return [] = refl
+ends_with_return (a ∷ []) = grind (arith, nat_tests)
+ends_with_return (a ∷ b ∷ bs) = let more : length (a ∷ b ∷ bs) - 1 ≡ suc (length (b ∷ bs) - 1) = omega arith in rw more (ends_with_return (b ∷ bs))
+
+pub one_most : (b : Bool) → bool_byte b ≤ 1
+one_most true = omega arith
+one_most false = omega arith
+
+-- what is held after a line: one byte more after CR
+pub exactly : (line after : List ℕ) (returns : Bool) → returns ≡ ends is_return line → EndsWhole line after → (bool_byte returns ≤ length after) × EndsExactly line (take (bool_byte returns) after)
+exactly line after false is whole = (omega arith, inl (sym is, refl))
+exactly line after true is (inl feed) = absurd (both_ways _ feed (sym is))
+exactly line after true is (inr (b, more, spell, other)) = (omega (arith, ap length spell), inr (sym is, (b, ap (take 1) spell, other)))

@@ -1,14 +1,14 @@
 -- What is held of a line that is open, what a scan of it comes to, and what is left where the scan stops before bytes that do not tell.
-use Rattle.std.proofs.Common.{◌≡◌, ℕ, ◌+◌, ◌<◌, true, false, None, Some, List, [], ◌∷◌, ◌++◌, length, take, drop, refl, sym, ap, ◌∙◌, subst, arith, append-nil, length-append, encode_utf8_all, IsUtf8, length-take-le, take-append-drop, ◌-◌, ◌≤◌, Bool, append_assoc, length-drop, ◌^◌, Option, Result, Ok, Err, ⊎_elim, ◌==◌}
-use Rattle.std.specs.Str.{StartsWithNoChar, all_scalars}
+use Rattle.std.proofs.Common.{◌≡◌, ℕ, ◌+◌, ◌<◌, true, false, None, Some, List, [], ◌∷◌, ◌++◌, length, take, drop, refl, sym, ap, ◌∙◌, subst, arith, append-nil, length-append, encode_utf8_all, IsUtf8, length-take-le, take-append-drop, ◌-◌, ◌≤◌, Bool, append_assoc, length-drop, ◌^◌, Option, Err, ⊎_elim, ◌==◌}
+use Rattle.std.specs.Str.{StartsWithNoChar}
 use Rattle.std.proofs.lemmas.Bool.{both_ways, eqb-true, cases_lt}
 use Rattle.py_lines.specs.LogicalLine.{byte_len}
 use Rattle.py_lines.specs.Settled.{IsHopeless}
 use Rattle.py_lines.specs.Private.FieldMachine.{FieldScanned}
 use Rattle.py_lines.specs.Private.Scan.{StandsAs, has_returned}
 use Rattle.py_lines.specs.Private.LineScan.{IsLeft, begins_line, Reached}
-use Rattle.py_lines.specs.Private.Feed.{TellsHopeless, Mode, Scan, IsCutAt, IsHeldOpen, IsOpen, StopsHeld, Stop, Feed, DropsLine, FailsAt, HasRoom, Holds, HoldsAt, IsDecidedAt, IsSoundFeed, IsUnchanged, ScansHeld, ScansTo, StandsSo, StopsWith, WhereHeld, Fault, FaultKind, LexError, ready_of, scanning_of, LineState, LineFault}
-use Rattle.py_lines.proofs.Text.Utf8Prefixes.{one_decoding, all_scalars-parts}
+use Rattle.py_lines.specs.Private.Feed.{Mode, Scan, IsHeldOpen, IsOpen, StopsHeld, Stop, Feed, DropsLine, FailsAt, FailsIn, HasRoom, Holds, HoldsAt, IsDecidedAt, IsSoundFeed, IsUnchanged, Meets, StandsSo, WhereHeld, Fault, FaultKind, LexError, ready_of, scanning_of, LineState, LineFault}
+use Rattle.py_lines.proofs.Text.Utf8Prefixes.{one_decoding}
 use Rattle.py_lines.proofs.LineScan.LineSteps.{rests_end, begun_reached}
 use Rattle.std.specs.Global.{Vec}
 use Rattle.std.specs.Vec.{vec_len}
@@ -22,7 +22,7 @@ use Rattle.py_lines.proofs.FieldScans.Taking.{rests_more}
 use Rattle.py_lines.proofs.LineScan.TextSteps.{begun_sound}
 use Rattle.py_lines.proofs.Readers.LineFaults.{Within, refused_within}
 use Rattle.py_lines.specs.ScannerState.{ScannerRunsOut}
-use Rattle.py_lines.proofs.Text.Incomplete.{part_none}
+use Rattle.py_lines.proofs.Text.Incomplete.{TellsHopeless, part_none}
 use Rattle.py_lines.proofs.Feeds.DecidedSoFar.{by_bytes, by_character}
 
 -- before bytes the line hasn't ended with CR
@@ -49,14 +49,14 @@ module _ {m : Mode} {whole : List ℕ} {scan : Scan} {read rest : List ℕ} (l :
   cut_is : (n : ℕ) (utf8 : IsUtf8 (take n l.left)) → StartsWithNoChar (drop n l.left) → (utf8.0 ≡ l.all.run) × (drop n l.left ≡ rest)
   cut_is n (cs, (scalars, taken)) bad = one_decoding cs l.all.run (drop n l.left) rest scalars l.all.scalars bad l.none (ap (λ t. t ++ drop n l.left) taken ∙ take-append-drop n l.left ∙ sym left_spell)
 
-  pub part_left : TellsHopeless l.left None → ¬ (IsHopeless rest)
+  part_left : TellsHopeless l.left None → ¬ (IsHopeless rest)
   part_left (n, utf8, bad, more) = subst (λ t. ¬ (IsHopeless t)) (cut_is n utf8 bad).1 more
 
   module _ (start : begins_line m ≡ true) (spell : encode_utf8_all read ++ rest ≡ whole) where
     left_size : byte_len read ≡ scan.stop + byte_len l.all.run
     left_size = omega (arith, rests_end l.reached.way start l.reached.rests, ap length spell, ap length l.reached.spell, ap length left_spell, length-append (encode_utf8_all read) rest, length-append (encode_utf8_all l.reached.read) l.left, length-append (encode_utf8_all l.all.run) rest)
 
-    pub hopeless_left : (n : ℕ) → TellsHopeless l.left (Some n) → (scan.stop + n ≡ byte_len read) × IsHopeless rest
+    hopeless_left : (n : ℕ) → TellsHopeless l.left (Some n) → (scan.stop + n ≡ byte_len read) × IsHopeless rest
     hopeless_left n (within, utf8, hopeless) =
         let both = cut_is n utf8 (subst StartsWithNoChar (append-nil (drop n l.left)) (hopeless [])) in
         (omega (arith, left_size, ap byte_len both.0, ap length utf8.1.1, length-take-le n l.left within), subst IsHopeless both.1 hopeless)
@@ -65,7 +65,7 @@ pub none_held : (held : Vec ℕ) {empty : Bool} → empty ≡ (vec_len held == 0
 none_held held is empty = nil_from_length held.items (let none : vec_len held ≡ 0 = eqb-true (vec_len held) 0 (sym is ∙ empty) in omega (arith, none))
 
 -- with more bytes after those that are held, it stands before them too
-pub reached_more : (f : Feed) (rest bytes : List ℕ) → IsOpen f rest → Reached (first_mode f.state.place) (f.held.items ++ bytes) f.state.scan (rest ++ bytes)
+reached_more : (f : Feed) (rest bytes : List ℕ) → IsOpen f rest → Reached (first_mode f.state.place) (f.held.items ++ bytes) f.state.scan (rest ++ bytes)
 reached_more f rest bytes o = record {
   read = o.read;
   way = o.way;
@@ -75,13 +75,12 @@ reached_more f rest bytes o = record {
 }
 
 -- a place in characters that what is held begins with
-pub within_held : (f : Feed) (read rest : List ℕ) → encode_utf8_all read ++ rest ≡ f.held.items → all_scalars read ≡ true → (offset : ℕ) (w : Within read offset) → IsCutAt f offset × (take offset f.held.items ≡ encode_utf8_all w.prefix)
-within_held f read rest spelled scalars offset w =
+pub within_held : (f : Feed) (read rest : List ℕ) → encode_utf8_all read ++ rest ≡ f.held.items → (offset : ℕ) (w : Within read offset) → (offset ≤ length f.held.items) × (take offset f.held.items ≡ encode_utf8_all w.prefix)
+within_held f read rest spelled offset w =
     let size : byte_len read ≡ byte_len w.prefix + byte_len w.later = ap byte_len (sym w.split) ∙ byte_len-append w.prefix w.later in
     let spell : f.held.items ≡ encode_utf8_all w.prefix ++ (encode_utf8_all w.later ++ rest) = sym spelled ∙ ap (λ t. encode_utf8_all t ++ rest) (sym w.split) ∙ ap (λ t. t ++ rest) (encodes-append w.prefix w.later) ∙ append_assoc (encode_utf8_all w.prefix) (encode_utf8_all w.later) rest in
     let taken : take offset f.held.items ≡ encode_utf8_all w.prefix = ap (λ (n : ℕ). take n f.held.items) w.size ∙ ap (take (byte_len w.prefix)) spell ∙ take-append_seam (encode_utf8_all w.prefix) (encode_utf8_all w.later ++ rest) in
-    let fine = (all_scalars-parts w.prefix w.later (ap all_scalars w.split ∙ scalars)).0 in
-    ((omega (arith, size, w.size, ap length (sym spelled), length-append (encode_utf8_all read) rest), (w.prefix, (fine, sym taken))), taken)
+    (omega (arith, size, w.size, ap length (sym spelled), length-append (encode_utf8_all read) rest), taken)
 
 module _ (f : Feed) (rest : List ℕ) (o : IsOpen f rest) where
   pub open_stop : f.state.scan.stop ≡ byte_len o.read
@@ -101,14 +100,29 @@ module _ (f : Feed) (rest : List ℕ) (o : IsOpen f rest) where
       ∙ ap (drop f.state.scan.stop) same ∙ ap (λ (n : ℕ). drop n f.held.items) open_stop
       ∙ ap (drop (byte_len o.read)) (sym o.spell) ∙ drop-append_seam (encode_utf8_all o.read) rest
 
+-- more bytes are held: it stands before those that follow in what is held then
+pub reached_held : (f : Feed) (v : Vec ℕ) (bytes : List ℕ) → v.items ≡ f.held.items ++ bytes → IsHeldOpen f → (held : List ℕ) → held ≡ v.items
+    → Reached (first_mode f.state.place) v.items f.state.scan (take (length held - f.state.scan.stop) (drop f.state.scan.stop held))
+reached_held f v bytes is (rest, o) held same =
+    let opens : IsOpen (record f { held = v }) (rest ++ bytes) = subst (λ t. Reached (first_mode f.state.place) t f.state.scan (rest ++ bytes)) (sym is) (reached_more f rest bytes o) in
+    subst (Reached (first_mode f.state.place) v.items f.state.scan) (sym (next_is (record f { held = v }) (rest ++ bytes) opens held same)) opens
+
+-- what stands there tells of what is left
+module _ (f : Feed) (s : StopsHeld f Stop.TextEnd) (held : List ℕ) (is : held ≡ f.held.items) where
+  abbrev bytes_left : List ℕ
+  bytes_left = take (length held - f.state.scan.stop) (drop f.state.scan.stop held)
+
+  pub part_held : TellsHopeless bytes_left None → ¬ (IsHopeless s.rest)
+  part_held tells = part_left s.stops (subst (λ t. TellsHopeless t None) (next_is f s.stops.left s.stops.reached held is) tells)
+
+  pub hopeless_held : (n : ℕ) → TellsHopeless bytes_left (Some n) → (f.state.scan.stop + n ≡ byte_len s.read) × IsHopeless s.rest
+  hopeless_held n tells = hopeless_left s.stops (begun_sound f.state.place) s.spell n (subst (λ t. TellsHopeless t (Some n)) (next_is f s.stops.left s.stops.reached held is) tells)
+
 -- where all that is held was scanned, it stands before the bytes that come next
 pub reached_next : (f : Feed) (chunk : List ℕ) → IsHeldOpen f → length f.held.items ≤ f.state.scan.stop → Reached (first_mode f.state.place) (f.held.items ++ chunk) f.state.scan chunk
 reached_next f chunk (rest, o) all =
     let none : rest ≡ [] = nil_from_length rest (omega (arith, all, open_stop f rest o, open_size f rest o)) in
     subst (λ t. Reached (first_mode f.state.place) (f.held.items ++ chunk) f.state.scan (t ++ chunk)) none (reached_more f rest chunk o)
-
-pub holds_self : (f : Feed) → Holds f f.held.items f.state.fault f
-holds_self f = record { held = refl; place = refl; line = refl; ended = refl; fault = refl }
 
 -- what two calls leave, one after the other
 pub holds_on : {place line : ℕ} {ended : Bool} {items more others : List ℕ} {fault known also : Option Fault} {mid new : Feed}
@@ -116,11 +130,9 @@ pub holds_on : {place line : ℕ} {ended : Bool} {items more others : List ℕ} 
     → HoldsAt place line ended others also new
 holds_on a b is same = record { held = b.held ∙ is; place = b.place ∙ a.place; line = b.line ∙ a.line; ended = b.ended ∙ a.ended; fault = b.fault ∙ same }
 
--- what is held was scanned after it came to be held
-pub scans_on : (old mid new : Feed) {items : List ℕ} {stop : Stop} (result : Result (Unit {0}) LexError) → StopsWith old items stop mid → ScansHeld mid result new → ScansTo old items result new
-scans_on old mid new (Ok done) w (text, scanned) = (holds_on w.text text w.text.held w.text.fault, scanned)
-scans_on old mid new (Err (LexError.Fault f)) w (text, ready, decided) = (holds_on w.text text w.text.held refl, ready, rw (← w.text.held, ← w.text.place, ← w.text.line) decided)
-scans_on old mid new (Err LexError.Memory) w none = none
+-- a fault in what is held then is one after what was held before
+pub fails_later : (old mid new : Feed) {items more all : List ℕ} {known : Option Fault} {fault : Fault} → Holds old items known mid → more ≡ all → FailsIn mid more fault new → FailsIn old all fault new
+fails_later old mid new text is (later, ready, decided) = (holds_on text later is refl, ready, rw (← is, ← text.place, ← text.line) decided)
 
 -- the state stays sound where more bytes are held
 pub room_more : (old new : Feed) (bytes : List ℕ) {known : Option Fault} → IsSoundFeed old → old.state.place + length old.held.items + length bytes ≤ 2 ^ 62
@@ -184,28 +196,29 @@ module _ (f new : Feed) (kind : FaultKind) (offset : ℕ) (error : LexError) (fa
   fails_ready none = ap (λ (x : Feed). x.ready) fails.same ∙ none
 
   -- it stands after these characters of what is held
-  pub fault_after : (read rest : List ℕ) → encode_utf8_all read ++ rest ≡ f.held.items → all_scalars read ≡ true → (w : Within read offset) → IsFaultAfter f.state kind offset (encode_utf8_all w.prefix) fails.keeps.fault
-  fault_after read rest spell scalars w = subst (λ b. IsFaultAfter f.state kind offset b fails.keeps.fault) (within_held f read rest spell scalars offset w).1 fails.keeps.at
+  pub fault_after : (read rest : List ℕ) → encode_utf8_all read ++ rest ≡ f.held.items → (w : Within read offset) → IsFaultAfter f.state kind offset (encode_utf8_all w.prefix) fails.keeps.fault
+  fault_after read rest spell w = subst (λ b. IsFaultAfter f.state kind offset b fails.keeps.fault) (within_held f read rest spell offset w).1 fails.keeps.at
 
   -- the scan of what is held meets a fault
-  pub fails_held : f.ready ≡ None → WhereHeld f.state.place f.state.line f.held.items (λ text lines. IsDecidedAt text f.state.place lines (length f.held.items) fails.keeps.fault)
-      → ScansHeld f (Err error) new
-  fails_held none decided = subst (λ (e : LexError). ScansHeld f (Err e) new) (sym fails.keeps.error_is) (fails_keep, fails_ready none, decided)
+  fails_held : f.ready ≡ None → (before : ℕ) → WhereHeld f.state.place f.state.line f.held.items (λ text lines. IsDecidedAt text f.state.place lines (length f.held.items) fails.keeps.fault)
+      → Meets f before (Err error) new
+  fails_held none before decided = subst (λ (e : LexError). Meets f before (Err e) new) (sym fails.keeps.error_is) (fails_keep, fails_ready none, decided)
 
-module _ (f new : Feed) (error : LexError) (not_ready : f.ready ≡ None) where
+module _ (f new : Feed) (before : ℕ) (error : LexError) (not_ready : f.ready ≡ None) where
   -- what is left begins no character, whatever follows
-  pub part_fails : (s : StopsHeld f Stop.TextEnd) → IsHopeless s.rest → FailsAt f FaultKind.BadUtf8 (byte_len s.read) error new → ScansHeld f (Err error) new
-  part_fails s hopeless fails =
+  pub part_fails : (offset : ℕ) (s : StopsHeld f Stop.TextEnd) → offset ≡ byte_len s.read → IsHopeless s.rest → FailsAt f FaultKind.BadUtf8 offset error new → Meets f before (Err error) new
+  part_fails offset s at hopeless fails =
       let left = s.stops in
       let some : 0 < length s.rest = ⊎_elim (λ more. more) (λ none. absurd (part_none (subst IsHopeless (nil_from_length s.rest (omega (arith, none))) hopeless))) (cases_lt 0 (length s.rest)) in
-      fails_held f new FaultKind.BadUtf8 (byte_len s.read) error fails not_ready (λ text lines first goes.
+      fails_held f new FaultKind.BadUtf8 offset error fails not_ready before (λ text lines first goes.
       by_bytes text f.state lines f.held.items s.read s.rest first goes s.scalars s.spell left.way (left_open left some) some hopeless fails.keeps.fault
-      (fault_after f new FaultKind.BadUtf8 (byte_len s.read) error fails s.read s.rest s.spell s.scalars (record { prefix = s.read; later = []; split = append-nil s.read; size = refl })))
+      (subst (λ (n : ℕ). IsFaultAfter f.state FaultKind.BadUtf8 n (encode_utf8_all s.read) fails.keeps.fault) at
+      (fault_after f new FaultKind.BadUtf8 offset error fails s.read s.rest s.spell (record { prefix = s.read; later = []; split = append-nil s.read; size = at }))))
 
   -- the next character is refused
-  pub held_refused : (line_fault : LineFault) → StopsHeld f (Stop.Wrong line_fault) → FailsAt f line_fault.kind line_fault.place error new → ScansHeld f (Err error) new
+  pub held_refused : (line_fault : LineFault) → StopsHeld f (Stop.Wrong line_fault) → FailsAt f line_fault.kind line_fault.place error new → Meets f before (Err error) new
   held_refused line_fault s fails =
       let no = s.stops in let w = refused_within f.state.place s.read no.way no.c no.none line_fault no.fault in
-      fails_held f new line_fault.kind line_fault.place error fails not_ready (λ text lines first goes.
+      fails_held f new line_fault.kind line_fault.place error fails not_ready before (λ text lines first goes.
       by_character text f.state lines f.held.items s.read s.rest first goes s.scalars s.spell no.way no.c no.after no.scalar no.spell no.none no.open_yet line_fault no.fault fails.keeps.fault w
-      (fault_after f new line_fault.kind line_fault.place error fails s.read s.rest s.spell s.scalars w))
+      (fault_after f new line_fault.kind line_fault.place error fails s.read s.rest s.spell w))

@@ -1,8 +1,11 @@
 -- Lines that a scanner passed over are the next ones of each text that goes on with them.
-use Rattle.std.proofs.Common.{take-suc, ◌≡◌, ℕ, suc, ◌+◌, ◌-◌, ◌<◌, ◌≤◌, ◌^◌, ⊎_elim, inl, inr, true, Option, None, List, [], ◌∷◌, ◌++◌, length, take, drop, slice_index, refl, sym, ap, ◌∙◌, subst, append_assoc, append-nil, arith, length-append, encode_utf8_all, flat_map, min}
+use mir.Val.{bool_byte}
+use Rattle.std.proofs.Common.{◌≡◌, ℕ, ◌+◌, ◌<◌, ◌≤◌, ◌^◌, ⊎_elim, inl, inr, Bool, Option, None, List, [], ◌∷◌, ◌++◌, ◌-◌, eqb, false, length, take, drop, refl, sym, ap, ◌∙◌, subst, append_assoc, append-nil, arith, length-append, encode_utf8_all, flat_map, min}
 use Rattle.std.specs.Global.{Vec}
-use Rattle.std.proofs.lemmas.Bool.{both_ways, false_from_ne_true}
-use Rattle.std.proofs.lemmas.List.{drop_more, length-drop, length-take-le, length-take}
+use Rattle.std.proofs.lemmas.Bool.{cases_lt}
+use Rattle.std.specs.List.{ends_with}
+use Rattle.std.proofs.Math.Seq.{drop-append_seam, take-add}
+use Rattle.std.proofs.lemmas.List.{length-drop, length-take-le, length-take}
 use Rattle.std.proofs.lemmas.Str.{encodes-append, length-le-encodes}
 use Rattle.py_lines.specs.Character.{is_return}
 use Rattle.py_lines.specs.Piece.{ends}
@@ -14,14 +17,12 @@ use Rattle.py_lines.specs.Private.Feed.{IsSoundFeed, StandsSo, Scan, Feed, ready
 use Rattle.py_lines.specs.Private.LineState.{BeginsAnew}
 use Rattle.py_lines.specs.Private.LineScan.{EndsWhole}
 use Rattle.py_lines.specs.Private.WholeLines.{AreWholeLines, BeginWithLines}
-use Rattle.py_lines.proofs.Lexings.LineEnds.{return_returns}
 use Rattle.py_lines.proofs.LineScan.LineCount.{line_ends-bytes}
 use Rattle.py_lines.proofs.LogicalLines.Cuts.{line_ends-append}
-use Rattle.py_lines.proofs.Text.CharacterTests.{return_is}
 use Rattle.py_lines.proofs.Readers.PassedLines.{AreSettledAt, apart, line_settled, lines_at, lines_spell, pieces_of, shown, take_slice}
 use Rattle.py_lines.proofs.Feeds.Known.{goes_after, goes_with_first}
 use Rattle.py_lines.proofs.Feeds.ReadyLines.{none_ready}
-use Rattle.py_lines.proofs.Feeds.LastBytes.{ends-encoded, ends-later, last_of}
+use Rattle.py_lines.proofs.Feeds.LastBytes.{ends-encoded, ends-later, ends_with_return, exactly}
 use Rattle.py_lines.proofs.Feeds.OpenLine.{begun_open, begun_unchanged, runs_out}
 
 -- which bytes come after the first of those that follow is no matter
@@ -73,35 +74,19 @@ bytes_whole bytes len some found = by found.texts found.whole
     by [] are = absurd (omega (arith, some, ap length found.spell, ap byte_len are, length-take-le len bytes found.within))
     by (t ∷ texts) are = rw (sym (ends-encoded found.read) ∙ ap (ends is_return) found.spell) at (lines_whole t texts found.read (drop len bytes) are)
 
--- after lines that CR alone doesn't end nothing is held
-pub nothing_after : (bytes : List ℕ) (len : ℕ) → 0 < len → BeginWithLines bytes len → (slice_index bytes (len - 1) ≡ 13 → ⊥) → HoldsAfterLines bytes len []
-nothing_after bytes len some found other =
-    let none : len + 0 ≡ len = omega arith in
-    record {
-      exact = inl (last_of bytes len some found.within ∙ false_from_ne_true _ (λ returns. other (return_is (slice_index bytes (len - 1)) returns)), refl);
-      within = omega (arith, found.within);
-      next = ap (λ (k : ℕ). take k bytes) none ∙ sym (append-nil (take len bytes));
-    }
+-- what is held after them: one byte more after CR
+module _ (bytes : List ℕ) (len : ℕ) (found : BeginWithLines bytes len) (returns : Bool) (is : returns ≡ ends is_return (take len bytes)) where
+  more_held : 0 < len → (bool_byte returns ≤ length (drop len bytes)) × EndsExactly (take len bytes) (take (bool_byte returns) (drop len bytes))
+  more_held some = exactly (take len bytes) (drop len bytes) returns is (bytes_whole bytes len some found)
 
--- after others there is a byte, which is no LF
-module _ (bytes : List ℕ) (len : ℕ) (some : 0 < len) (found : BeginWithLines bytes len) (is : slice_index bytes (len - 1) ≡ 13) where
-  returned : ends is_return (take len bytes) ≡ true
-  returned = last_of bytes len some found.within ∙ ap is_return is ∙ return_returns
+  pub end_within : len + bool_byte returns ≤ length bytes
+  end_within = ⊎_elim (λ some. omega (arith, (more_held some).0, length-drop len bytes))
+      (λ none. omega (arith, none, ap bool_byte (is ∙ ap (λ (n : ℕ). ends is_return (take n bytes)) (let zero : len ≡ 0 = omega (arith, none) in zero)))) (cases_lt 0 len)
 
-  next_byte : (b : ℕ) × (more : List ℕ) × (drop len bytes ≡ b ∷ more) × (b ≡ 10 → ⊥)
-  next_byte = ⊎_elim (λ feed. absurd (both_ways _ feed returned)) (λ one. one) (bytes_whole bytes len some found)
-
-  pub byte_follows : len < length bytes
-  byte_follows = let (b, more, spell, other) = next_byte in omega (arith, ap length spell, length-drop len bytes)
-
-  pub byte_after : HoldsAfterLines bytes len (slice_index bytes len ∷ [])
-  byte_after =
-      let next : len + 1 ≡ suc len = omega arith in
-      record {
-        exact = inr (returned, (slice_index bytes len, refl, λ feeds. let (b, more, spell, other) = next_byte in other (ap first_or_zero (sym spell ∙ drop_more bytes len 0 byte_follows) ∙ feeds)));
-        within = omega (arith, byte_follows);
-        next = ap (λ (k : ℕ). take k bytes) next ∙ take-suc bytes len 0 byte_follows;
-      }
+  pub holds_after : 0 < len → HoldsAfterLines bytes len (take (bool_byte returns) (drop len bytes))
+  holds_after some =
+      let k = bool_byte returns in let size : length (take k (drop len bytes)) ≡ k = length-take-le k (drop len bytes) (more_held some).0 in
+      record { exact = (more_held some).1; within = omega (arith, size, end_within); next = ap (λ (n : ℕ). take (len + n) bytes) size ∙ take-add len k bytes }
 
 -- where no line is passed over the scan of the next one begins anew
 module _ (f : Feed) (held : Vec ℕ) (state : LineState) (scan : Scan) (stands : StandsAtLine (scanning_of f)) (kept : held.items ≡ f.held.items) (anew : BeginsAnew (record f.state { scan = scan }) state) where
@@ -130,7 +115,7 @@ module _ (f : Feed) (held : Vec ℕ) (state : LineState) (scan : Scan) (stands :
       )
 
 -- the lines that the code has found in the first of these bytes, after which the scan of the next line begins
-module _ (f : Feed) (bytes : List ℕ) (before stop len : ℕ) (stands : StandsAtLine (scanning_of f)) (began : take (length f.held.items) bytes ≡ f.held.items) (stop_is : stop ≡ min before (length bytes)) (found : BeginWithLines (take stop bytes) len) (some : 0 < len) where
+module _ (f : Feed) (bytes : List ℕ) (before stop len : ℕ) (stands : StandsAtLine (scanning_of f)) (began : take (length f.held.items) bytes ≡ f.held.items) (stop_is : stop ≡ min before (length bytes)) (found : BeginWithLines (take stop bytes) len) where
   read_is : encode_utf8_all found.read ≡ take len bytes
   read_is = found.spell ∙ take_slice bytes len stop found.within
 
@@ -149,19 +134,35 @@ module _ (f : Feed) (bytes : List ℕ) (before stop len : ℕ) (stands : StandsA
   not_ready : f.ready ≡ None
   not_ready = none_ready f f.ready stands.ready
 
-  -- what is held then
-  module _ (held : Vec ℕ) (holds : HoldsAfterLines (take stop bytes) len held.items) where
-    pub holds_here : HoldsAfterLines bytes len held.items
-    holds_here =
-        let room = holds.within in
+  -- what is held then: the byte after CR alone, or what was where no line was found
+  module _ (held : Vec ℕ) (returns : Bool) (is : returns ≡ ends_with eqb (take len (take stop bytes)) (13 ∷ []))
+      (held_is : held.items ≡ drop (min (length f.held.items) len) (f.held.items ++ take (len + bool_byte returns - len) (drop len (take stop bytes)))) where
+    returned : returns ≡ ends is_return (take len (take stop bytes))
+    returned = is ∙ ends_with_return (take len (take stop bytes))
+
+    same : len ≡ 0 → held.items ≡ f.held.items
+    same zero =
+        let none : returns ≡ false = returned ∙ ap (λ (n : ℕ). ends is_return (take n (take stop bytes))) zero in
+        let all : min (length f.held.items) len ≡ 0 = omega (arith, zero) in let size : len + bool_byte returns - len ≡ 0 = omega (arith, ap bool_byte none) in
+        held_is ∙ rw (all, size) (append-nil f.held.items)
+
+    holds : 0 < len → HoldsAfterLines (take stop bytes) len held.items
+    holds some =
+        let more = take (bool_byte returns) (drop len (take stop bytes)) in
+        let all : min (length f.held.items) len ≡ length f.held.items = omega (arith, some, stands.held) in let size : len + bool_byte returns - len ≡ bool_byte returns = omega arith in
+        subst (HoldsAfterLines (take stop bytes) len) (sym (held_is ∙ rw (all, size) (drop-append_seam f.held.items more))) (holds_after (take stop bytes) len found returns returned some)
+
+    holds_here : 0 < len → HoldsAfterLines bytes len held.items
+    holds_here some =
+        let h = holds some in let room = h.within in
         record {
-          exact = subst (λ t. EndsExactly t held.items) (take_slice bytes len stop found.within) holds.exact;
+          exact = subst (λ t. EndsExactly t held.items) (take_slice bytes len stop found.within) h.exact;
           within = omega (arith, room, stop_is, length-take stop bytes);
-          next = sym (take_slice bytes (len + length held.items) stop holds.within) ∙ holds.next ∙ ap (λ t. t ++ held.items) (take_slice bytes len stop found.within);
+          next = sym (take_slice bytes (len + length held.items) stop h.within) ∙ h.next ∙ ap (λ t. t ++ held.items) (take_slice bytes len stop found.within);
         }
 
-    exact : EndsExactly found.read held.items
-    exact = rw (ap (ends is_return) (sym read_is) ∙ ends-encoded found.read) at holds_here.exact
+    exact : 0 < len → EndsExactly found.read held.items
+    exact some = rw (ap (ends is_return) (sym read_is) ∙ ends-encoded found.read) at (holds_here some).exact
 
     module _ (scan : Scan) (tokens : LineTokens) where
       abbrev after : Feed
@@ -170,15 +171,12 @@ module _ (f : Feed) (bytes : List ℕ) (before stop len : ℕ) (stands : StandsA
       ready : ready_of after f.ready ≡ None
       ready = ap (ready_of after) not_ready
 
-      first : (text : List ℕ) (given : List LogicalLine) → IsScanning (scanning_of f) text given → GoesOnWith text f.state.place (encode_utf8_all found.read ++ held.items) → AreSettledAt text after.state.place after.state.line (length held.items) (given ++ lines)
+      scans : 0 < len → (text : List ℕ) (given : List LogicalLine) → IsScanning (scanning_of f) text given → GoesOnWith text f.state.place (take len bytes ++ held.items) → HasSettled (scanning_of after) text (given ++ lines)
       unfolding lines
-      first text given scanning goes = subst (λ (n : ℕ). AreSettledAt text (f.state.place + n) after.state.line (length held.items) (given ++ lines)) read_size
-          (all_settled found.texts text f.state.place f.state.line given found.read held.items (drop len (take stop bytes)) found.whole (omega (arith, some, read_size)) scanning.first goes exact)
-
-      scans : (text : List ℕ) (given : List LogicalLine) → IsScanning (scanning_of f) text given → GoesOnWith text f.state.place (take len bytes ++ held.items) → HasSettled (scanning_of after) text (given ++ lines)
-      scans text given scanning goes =
+      scans some text given scanning goes =
           let next : GoesOnWith text f.state.place (encode_utf8_all found.read ++ held.items) = subst (λ t. GoesOnWith text f.state.place (t ++ held.items)) (sym read_is) goes in
-          let at = first text given scanning next in
+          let at : AreSettledAt text after.state.place after.state.line (length held.items) (given ++ lines) = subst (λ (n : ℕ). AreSettledAt text (f.state.place + n) after.state.line (length held.items) (given ++ lines)) read_size
+          (all_settled found.texts text f.state.place f.state.line given found.read held.items (drop len (take stop bytes)) found.whole (omega (arith, some, read_size)) scanning.first next (exact some)) in
           let none : (given ++ lines) ++ ready_lines (ready_of after f.ready) ≡ given ++ lines = ap (λ (r : Option LogicalLine). (given ++ lines) ++ ready_lines r) ready ∙ append-nil (given ++ lines) in (
             record {
               first = at.0;
@@ -197,18 +195,20 @@ module _ (f : Feed) (bytes : List ℕ) (before stop len : ℕ) (stands : StandsA
 
       passes_lines : PassesPieceLines (scanning_of f) bytes before len (scanning_of after)
       passes_lines =
-          let same : ready_of after f.ready ≡ ready_of f f.ready = ready ∙ sym stands.ready in
+          let seen : ready_of after f.ready ≡ ready_of f f.ready = ready ∙ sym stands.ready in
           record {
             lines = lines;
             texts = texts;
             ends = omega (arith, up_to, stop_is);
             stands = λ more. stands;
             began = λ more. began;
-            held = λ more. holds_here;
-            scans = λ more. scans;
+            held = holds_here;
+            scans = scans;
             place = refl;
-            others = λ i. record { place = after.state.place; line = after.state.line; held = held.items; ready = same i; ended = f.ended; fault = f.state.fault };
-            same = λ none. absurd (omega (arith, none, some));
+            others = λ i. record { place = after.state.place; line = after.state.line; held = held.items; ready = seen i; ended = f.ended; fault = f.state.fault };
+            same = λ none.
+                let here : after.state.place ≡ f.state.place = omega (arith, none) in let number : after.state.line ≡ f.state.line = omega (arith, none, few) in
+                (λ i. record { place = here i; line = number i; held = same none i; ready = seen i; ended = f.ended; fault = f.state.fault });
           }
 
     pub passed : {ends : ℕ} → ends ≡ line_ends found.read → {scan : Scan} {state : LineState} → BeginsAnew (record f.state { place = f.state.place + len; line = f.state.line + ends; scan = scan }) state → f.state.place + length bytes ≤ 2 ^ 62 → IsSoundFeed f
@@ -217,10 +217,10 @@ module _ (f : Feed) (bytes : List ℕ) (before stop len : ℕ) (stands : StandsA
         let anew = subst (λ (n : ℕ). BeginsAnew (record f.state { place = f.state.place + len; line = f.state.line + n; scan = scan }) state) ends_are new_line in
         let place : state.place ≡ f.state.place + len = ap (λ (s : LineState). s.place) anew.same in
         let line : state.line ≡ f.state.line + line_ends found.read = ap (λ (s : LineState). s.line) anew.same in
-        let room = holds_here.within in (
+        let room : f.state.place + len + length held.items ≤ 2 ^ 62 = ⊎_elim (λ some. let h = (holds_here some).within in omega (arith, h, fits)) (λ none. let zero : len ≡ 0 = omega (arith, none) in omega (arith, zero, ap length (same zero), sound.room.fits)) (cases_lt 0 len) in (
           subst (λ (s : LineState). PassesPieceLines (scanning_of f) bytes before len (scanning_of (record f { state = s; held = held }))) (sym anew.same) (passes_lines state.scan state.tokens),
           record {
-            room = record { fits = omega (arith, place, room, fits); few_lines = omega (arith, place, line, few, sound.room.few_lines) };
+            room = record { fits = omega (arith, place, room); few_lines = omega (arith, place, line, few, sound.room.few_lines) };
             state = subst (StandsSo (record f { state = state; held = held })) (sym not_ready) (λ no_fault. (held.items, begun_open _ (record f { state = state; held = held }) anew));
           },
         )

@@ -1,5 +1,5 @@
 -- The line that stands in what is held: the logical line of the pieces that the scan found.
-use Rattle.std.proofs.Common.{◌≡◌, ℕ, ◌+◌, ◌≤◌, true, false, Option, Some, None, List, [], ◌∷◌, ◌++◌, length, take, refl, sym, ap, ◌∙◌, subst, arith, length-append, encode_utf8_all, IsUtf8, is_some}
+use Rattle.std.proofs.Common.{◌≡◌, ℕ, ◌+◌, ◌≤◌, true, false, Option, Some, None, List, [], ◌∷◌, ◌++◌, length, take, refl, sym, ap, ◌∙◌, subst, arith, length-append, encode_utf8_all, is_some}
 use Rattle.std.specs.Str.{all_scalars}
 use Rattle.std.proofs.lemmas.Str.{encodes_same}
 use Rattle.std.proofs.Math.Seq.{take-append_seam}
@@ -54,9 +54,6 @@ module _ (f : Feed) (end_len : ℕ) (h : HoldsLine f end_len) where
   pub held_within : f.state.scan.stop ≤ length f.held.items
   held_within = omega (arith, h.stop, ap length h.spell, length-append (encode_utf8_all h.read) h.rest)
 
-  pub held_utf8 : IsUtf8 (take f.state.scan.stop f.held.items)
-  held_utf8 = (h.read, (h.scalars, sym (stopped_text f.state.scan.stop f.held.items h.read h.rest h.spell h.stop)))
-
   pub held_line_text : IsLineText (take f.state.scan.stop f.held.items)
   held_line_text = (h.pieces, h.text)
 
@@ -83,10 +80,10 @@ module _ (f : Feed) (state : LineState) (line : ℕ) (tokens : HoldsTokens (take
   line_after : (end_len : ℕ) → HoldsLine f end_len → IsLineAfterHeld with_read line
   line_after end_len h read spell = after h.pieces h.text ∙ ap (λ (t : List ℕ). f.state.line + line_ends t) (encodes_same (spelled h.pieces) read (h.text.spell ∙ sym spell))
 
-  pub some_read : {end_len : ℕ} → HasRoom f 0 → f.ready ≡ Some end_len → HoldsLine f end_len → HasReadTokens f with_read
-  some_read {end_len} room ready h = record {
+  pub some_read : {end_len : ℕ} → f.state.fault ≡ None → HasRoom f 0 → f.ready ≡ Some end_len → HoldsLine f end_len → HasReadTokens f with_read
+  some_read {end_len} no_fault room ready h = record {
     seen = λ seen held. ap (with_line f) (ap (ready_of with_read) ready ∙ seen_read end_len seen (subst (λ r. HoldsSo f r seen) ready held));
-    sound = record { room = room; state = subst (StandsSo with_read) (sym ready) (record { holds = h; after = line_after end_len h; line_is = line_read end_len h }) };
+    sound = record { room = room; state = subst (StandsSo with_read) (sym ready) (record { no_fault = no_fault; holds = h; after = line_after end_len h; line_is = line_read end_len h }) };
   }
 
 pub ready_seen : (f : Feed) (end_len : ℕ) → f.ready ≡ Some end_len → (r : IsReady f end_len)

@@ -4,8 +4,8 @@ use Rattle.std.proofs.Common.{◌≡◌, ℕ, ◌+◌, ◌<◌, ◌==◌, Bool, 
 use Rattle.std.specs.Prelude.{codes, if◌then◌else◌}
 use Rattle.std.specs.Char.{len_utf8}
 use Rattle.std.specs.Str.{StartsWithNoChar}
-use Rattle.std.proofs.lemmas.Bool.{both_ways, false_from_ne_true, eq-eqb}
-use Rattle.std.proofs.lemmas.Str.{len_utf8_ascii}
+use Rattle.std.proofs.lemmas.Bool.{both_ways, cond_both, false_from_ne_true, eq-eqb}
+use Rattle.std.proofs.lemmas.Str.{len_utf8_ascii, len_utf8_bounds}
 use Rattle.py_lines.specs.Balance.{is_closing}
 use Rattle.py_lines.specs.Character.{is_backslash, is_break, is_mark, is_operator, is_quote}
 use Rattle.py_lines.specs.Faults.{kind_of_cause}
@@ -23,14 +23,15 @@ use Rattle.py_lines.specs.Private.Mode as modes
 use Rattle.py_lines.specs.Private.FieldMachine.{FieldMode, FieldScanned, breaks, closes, field_closed, field_move, field_started, field_state, grows, plain, text_place, between, body, empty, frames, opened}
 use Rattle.py_lines.specs.Private.LineEnds.{BeginsOuterEnd, HasOuterEnd}
 use Rattle.py_lines.specs.Private.Run.{BeginsWith}
-use Rattle.py_lines.specs.Private.Scan.{ComesTo, Follows, GoesOver, HasQuote, HoldsCode, TakesOperator, begun_at, ends_before, grown, has_returned, is_text, line_end_progress, mode_from, passed, wrong_here, host_in, is_break_move, is_ending, is_part_of_code, is_return_at, quotes_in, string_mode}
+use Rattle.py_lines.specs.Private.Scan.{ComesTo, Follows, GoesOver, HasQuote, HoldsCode, TakesOperator, begun_at, ends_before, grown, has_returned, is_text, line_end_progress, mode_from, passed, wrong_here, host_in, is_break_move, is_ending, is_part_of_code, is_return_at, quotes_in, string_from, string_mode, string_start}
 use Rattle.py_lines.proofs.Machine.LiveTexts.{closing-operator}
 use Rattle.py_lines.proofs.Machine.Soundness.{StartHolds, start_holds}
 use Rattle.py_lines.proofs.Machine.Starts.{opens_no, start-operator, start-quote}
 use Rattle.py_lines.proofs.Text.CharacterTests.{each_of, none_of, operator_ascii, quote-not-word}
+use Rattle.py_lines.proofs.Text.FirstCharacters.{first_size}
 use Rattle.py_lines.proofs.FieldScans.LineEnds.{at, breaks_before, code_before, code_breaks, line_ends_so, pending_code, pending_none, parts, return_breaks, return_waits, waits_low, Walks, breaks_mode, over_low, walks_on, walks_one}
 use Rattle.py_lines.proofs.LineScan.AsciiRuns.{break_low, quote_ascii}
-use Rattle.py_lines.proofs.FieldScans.StringBytes.{first_is, by_quotes}
+use Rattle.py_lines.proofs.FieldScans.StringBytes.{first_byte_is, first_is, by_quotes}
 use Rattle.py_lines.proofs.FieldScans.Moves.{said, word_meets}
 use Rattle.py_lines.proofs.FieldScans.Operators.{code_cause, fault_in_code}
 use Rattle.py_lines.proofs.FieldScans.Taking.{follows_open, rests_exact, IsTaken, Opening, Shut, break_starts, StandsAt, follows_at, goes_on, no_line_end, no_step, one_comes, over_one, stands_at, stands_begun, stands_grown, stands_shut, wrong_at, StepsOn, rests_ended}
@@ -118,8 +119,12 @@ module _ (old : Scan) (t : FieldScanned) (bytes : List ℕ) (c : ℕ) (follow : 
       )
 
 -- what the callees ask for
-pub begins_so : (passes : ℕ → Bool) (bytes : List ℕ) (c : ℕ) → BeginsWith bytes c → c < 128 → passes c ≡ true → begins passes bytes ≡ true
-begins_so passes bytes c first low is = ap (begins passes) (sym (first_is bytes c low first)) ∙ is
+pub some_first : {bytes : List ℕ} {c : ℕ} → BeginsWith bytes c → 0 < length bytes
+some_first {bytes} {c} first = omega (arith, first_size first, len_utf8_bounds c)
+
+pub begins_so : (passes : ℕ → Bool) (m : OpenMode) (bytes : List ℕ) (c : ℕ) → BeginsWith bytes c → ends_before m c ≡ true → c < 128 → passes c ≡ true
+    → (begins passes bytes ≡ true) × (ends_before m (slice_index bytes 0) ≡ true)
+begins_so passes m bytes c first after low is = (ap (begins passes) (sym (first_is bytes c low first)) ∙ is, ap (ends_before m) (first_byte_is bytes c low first) ∙ after)
 
 pub slash_low : (c : ℕ) → is_backslash c ≡ true → c < 128
 unfolding is_backslash
@@ -339,9 +344,6 @@ word_breaks s held q holds quote none = grind (arith, word_meets s held q holds,
 abbrev NoPrefix : Scan → Type 0
 NoPrefix old = (s : Spelling) → old.mode ≡ opens.Word s → begins_string s ≡ false
 
-pub word_alone : (old : Scan) (own : Spelling) → old.mode ≡ opens.Word own → begins_string own ≡ false → NoPrefix old
-word_alone old own is none s same = let w : s ≡ own = cc (is, same) in ap begins_string w ∙ none
-
 pub other_word : (old : Scan) → ((s : Spelling) → old.mode ≡ opens.Word s → ⊥) → NoPrefix old
 other_word old none s same = absurd (none s same)
 
@@ -364,17 +366,14 @@ module _ (old : Scan) (t : FieldScanned) (q : ℕ) (follow : Follows old t) (quo
       let begun = stands_begun t old.frames old.start old.stop at_code q follow.holds move (modes.Opened q) (start-quote q quote) in
       search (begun, stands_on _ old.frames old.stop old.stop (old.stop + 1) q quote refl begun.1)
 
-  -- by some prefix or none
-  pub some_string : (s : Spelling) × (start : ℕ) × StringBegun old t q s start
-  some_string = by old.mode refl
+  -- as the scan has it
+  pub string_begun : StringBegun old t q (string_start old).1 (string_start old).0
+  string_begun = by old.mode refl
     where
-      word : (s : Spelling) (b : Bool) → old.mode ≡ opens.Word s → begins_string s ≡ b → (s : Spelling) × (start : ℕ) × StringBegun old t q s start
-      word s true is prefix = (s, old.start, after_prefix s is prefix)
-      word s false is none = (spellings.Name, old.stop, after_piece (word_alone old s is none))
-
-      by : (m : OpenMode) → old.mode ≡ m → (s : Spelling) × (start : ℕ) × StringBegun old t q s start
-      by (opens.Word s) is = word s (begins_string s) is refl
-      by m is = (spellings.Name, old.stop, after_piece (λ r same. absurd (cc (is, same))))
+      by : (m : OpenMode) → old.mode ≡ m → StringBegun old t q (string_from m old.start old.stop).1 (string_from m old.start old.stop).0
+      by (opens.Word s) is = cond_both {A = ℕ × Spelling} (begins_string s) (old.start, s) (old.stop, spellings.Name) (λ p. StringBegun old t q p.1 p.0) (after_prefix s is)
+          (λ none. after_piece (λ r same. let word : r ≡ s = cc (is, same) in ap begins_string word ∙ none))
+      by m is = after_piece (λ r same. absurd (cc (is, same)))
 
 -- the first byte is a quote
 pub first_quote : (bytes : List ℕ) → begins is_quote bytes ≡ true → is_quote (slice_index bytes 0) ≡ true
@@ -392,14 +391,14 @@ module _ (old : Scan) (t : FieldScanned) (bytes : List ℕ) (follow : Follows ol
       go [] is before_it b = absurd (both_ways _ refl is)
       go (q ∷ more) is before_it b = quotes_come old t q is (follows_open old t follow) s start b before_it more
 
-  some : (s : Spelling) × (start : ℕ) × StringBegun old t (slice_index bytes 0) s start
-  some = some_string old t (slice_index bytes 0) follow (first_quote bytes quote) after
+  begun_so : StringBegun old t (slice_index bytes 0) (string_start old).1 (string_start old).0
+  begun_so = string_begun old t (slice_index bytes 0) follow (first_quote bytes quote) after
 
   pub quotes_wait : None ≡ quotes_in bytes → ComesTo t bytes old progress.Waits old
-  quotes_wait told = come some.0 some.1 some.2 None told
+  quotes_wait told = come _ _ begun_so None told
 
   pub quotes_empty : (n : ℕ) → Some n ≡ quotes_in bytes → n ≡ 2 → GoesOver t bytes 2 (passed old 2)
-  quotes_empty n told is = (come some.0 some.1 some.2 (Some n) told).0 is
+  quotes_empty n told is = (come _ _ begun_so (Some n) told).0 is
 
   pub quotes_open : (n : ℕ) (s : Spelling) (start : ℕ) → StringBegun old t (slice_index bytes 0) s start → Some n ≡ quotes_in bytes → (n ≡ 2 → ⊥)
       → GoesOver t bytes n (record old { mode = string_mode s (slice_index bytes 0) (n == 3); start = start; stop = old.stop + n })

@@ -1,7 +1,8 @@
 -- What is open where the text ends, with characters that don't tell yet what they are: a string, or the field whose specification is open or
 -- that a `{` would open; a backslash; a string that they begin; or else a bracket or a field.
-use Rattle.std.proofs.Common.{◌≡◌, ℕ, Bool, ◌-◌, false, Option, None, Some, List, [], ◌∷◌, length, refl, sym, ap, ◌∙◌, true, ◌==◌, ◌&&◌, ◌++◌, subst, ⊎_elim, ◌+◌, drop, slice_index, take, take-append-drop, arith}
-use Rattle.std.specs.Prelude.{if◌then◌else◌, encode_utf8_all, nat_lt}
+use Rattle.std.proofs.Common.{◌≡◌, ℕ, zero, suc, Bool, ◌<◌, ◌⊎◌, ◌-◌, false, Option, None, Some, List, [], ◌∷◌, length, refl, sym, ap, ◌∙◌, true, ◌==◌, ◌&&◌, ◌++◌, subst, ⊎_elim, drop, slice_index, take, take-append-drop, arith}
+use Rattle.std.specs.Prelude.{if◌then◌else◌, encode_utf8_all, nat_eq, nat_lt}
+use Rattle.std.specs.List.{starts_with}
 use Rattle.py_lines.specs.LogicalLine.{byte_len}
 use Rattle.py_lines.specs.Faults.{open_bracket, open_inside, Unfinished, open_long, open_short, open_brace, open_join}
 use Rattle.py_lines.specs.FieldStrings.{literal, Host, Place, specification}
@@ -13,23 +14,22 @@ use Rattle.py_lines.specs.declared.scan.LineFault.{LineFault}
 use Rattle.py_lines.specs.declared.scan.Scan.{Scan}
 use Rattle.py_lines.specs.Private.FieldMachine.{Level, FieldScanned, frames, before, At, FieldMode, FieldMove, plain, body, between, after_brace, after_name, after_one, after_return, after_slash, after_two, grows, refused, between_move, body_move, escape_move, field_move, field_state, is_after_brace, room_step, text_place}
 use Rattle.py_lines.specs.Private.FieldFaults.{is_waiting, here, field_start, unfinished_code, unfinished_at, piece_start, unfinished_in}
-use Rattle.py_lines.specs.Private.Scan.{bracket_openers, Follows, FramesFollow, IsFieldEnd, Goes, is_part_of_text, is_return_at, EndsReturned, HasPending, HasQuote, ends_before, has_returned, host_in, is_begun_after, is_lone_brace, is_part_of_code, is_pending, is_text, mode_from, passed, region_in}
-use Rattle.py_lines.specs.Private.Frames.{InField, IsInnermostFrame, place_of}
+use Rattle.py_lines.specs.Private.Scan.{bracket_openers, Follows, FramesFollow, EndsOpen, IsFieldEnd, Goes, IsPending, is_part_of_text, is_return_at, EndsReturned, GoesOverAll, HasPending, HasQuote, ends_before, has_returned, host_in, is_begun_after, is_lone_brace, is_part_of_code, is_pending, is_text, mode_from, passed, region_in, string_start}
+use Rattle.py_lines.specs.Private.Frames.{IsInnermostFrame, place_of}
 use Rattle.py_lines.proofs.FieldScans.Frames.{innermost_bracket, innermost_field, none_outside}
 use Rattle.std.proofs.lemmas.Bool.{and_parts, both_ways, eq-eqb, eqb-true, or_cases, false_from_ne_true}
 use Rattle.py_lines.specs.Character.{is_backslash, is_brace, is_break, is_quote, is_return}
 use Rattle.py_lines.specs.Piece.{Piece, spelled, begins}
 use Rattle.py_lines.specs.Private.Mode as modes
-use Rattle.py_lines.specs.Private.Machine.{Mode, in_long, in_short, move_of, short_move, long_move, is_field_spelling}
+use Rattle.py_lines.specs.Private.Machine.{Mode, in_long, in_short, move_of, short_move, long_move}
 use Rattle.py_lines.specs.declared.fault.FaultKind.{FaultKind}
 use Rattle.py_lines.proofs.Text.CharacterTests.{not_quote, the_one}
 use Rattle.py_lines.proofs.FieldMachine.Runs.{room_grows}
 use Rattle.py_lines.proofs.Machine.PieceSteps.{some_is}
 use Rattle.py_lines.proofs.FieldScans.Taking.{no_step, steps, StepsOn, follows_open}
-use Rattle.py_lines.proofs.FieldScans.TextItems.{InText, held_nothing, AreLow, low_scalars, one_low, two_low}
+use Rattle.py_lines.proofs.FieldScans.TextItems.{InText, held_nothing, AreLow, low_encoded, low_scalars, one_low, two_low}
 use Rattle.py_lines.proofs.LineScan.AsciiRuns.{quote_ascii}
 use Rattle.std.specs.Str.{StartsWithNoChar, all_scalars}
-use Rattle.std.proofs.lemmas.Bool.Decides.{nat_tests}
 use Rattle.py_lines.specs.declared.host.Region.{Region}
 use Rattle.py_lines.specs.declared.host.Region.TheVariants as regions
 use Rattle.py_lines.specs.declared.host.StringWithFields.{StringWithFields}
@@ -38,9 +38,9 @@ use Rattle.py_lines.specs.declared.mode.Mode.TheVariants as opens
 use Rattle.py_lines.specs.declared.mode.Spelling.{Spelling}
 use Rattle.py_lines.proofs.Text.Utf8Prefixes.{one_decoding}
 use Rattle.py_lines.proofs.FieldScans.LineEnds.{half, returns, slashes}
-use Rattle.py_lines.proofs.FieldScans.Operators.{open-length}
+use Rattle.py_lines.proofs.FieldScans.Operators.{in_field, open-length}
 use Rattle.py_lines.proofs.FieldScans.Openings.{after_it, brace_here, goes_literal}
-use Rattle.py_lines.proofs.FieldScans.CodeItems.{StringBegun, one_quote, some_string, two, two_quotes}
+use Rattle.py_lines.proofs.FieldScans.CodeItems.{one_quote, string_begun, two, two_quotes}
 
 -- the field that is open
 field_in : (t : FieldScanned) (fs : List Frame) (field : OpenField) (others : List Frame) → FramesFollow t.outer t.done t.openers fs → fs ≡ frame.Field field ∷ others → (field.place ≡ field_start t) × (unfinished_code t.outer t.openers ≡ Some open_inside)
@@ -51,13 +51,10 @@ field_in t fs field others f top =
     )
 
 -- the place of the field whose specification is open
-pub specification_place : (scan : Scan) (t : FieldScanned) (place : ℕ) → Follows scan t → InField scan.frames → ((f : Frame) (others : List Frame) → scan.frames ≡ f ∷ others → place ≡ place_of f) → place ≡ field_start t
-specification_place scan t place f field last = go scan.frames refl field
-  where
-    go : (fs : List Frame) → scan.frames ≡ fs → InField fs → place ≡ field_start t
-    go [] is inside = absurd inside
-    go (frame.Bracket opener at ∷ fs) is inside = absurd inside
-    go (frame.Field own ∷ fs) is inside = last (frame.Field own) fs is ∙ (field_in t scan.frames own fs f.frames is).0
+pub specification_place : (scan : Scan) (t : FieldScanned) (place : ℕ) → Follows scan t → text_place t.mode ≡ specification
+    → ((f : Frame) (others : List Frame) → scan.frames ≡ f ∷ others → place ≡ place_of f) → place ≡ field_start t
+specification_place scan t place f there last = let (field, others, top) = in_field scan t f there in
+    last (frame.Field field) others top ∙ (field_in t scan.frames field others f.frames top).0
 
 bracket_ends : (outer : List Level) (openers : List ℕ) (o : ℕ) (os : List ℕ) → openers ≡ o ∷ os → unfinished_code outer openers ≡ Some open_bracket
 bracket_ends [] openers o os is = ap (λ (l : List ℕ). unfinished_code [] l) is
@@ -134,28 +131,6 @@ keeps_to what place outer done openers m held (c ∷ cs) u (in_text, keeps) (ope
 
 pub text_end : (what : Unfinished) (place : Place) (t u : FieldScanned) (run : List ℕ) → StaysOpen what place t.mode run → Goes t run u → EndsText what place t u
 text_end what place t u run keeps goes = keeps_to what place t.outer t.done t.openers t.mode t.held run u keeps goes
-
--- so the string is open, or the field whose specification is
-pub string_end : (old : Scan) (t u : FieldScanned) (run : List ℕ) (long : Bool) (line_fault : LineFault) → Follows old t → text_place t.mode ≡ literal → StaysOpen (string_what long) literal t.mode run → Goes t run u
-    → line_fault.kind ≡ string_kind long → line_fault.place ≡ old.start → IsFieldEnd u (Some line_fault)
-string_end old t u run long line_fault follow at keeps goes kind place =
-    let e = text_end (string_what long) literal t u run keeps goes in
-    subst (λ (s : FieldScanned). IsFieldEnd s (Some line_fault)) (sym e.is) (go long e.mode e.held e.told kind)
-  where
-    start : (m : FieldMode) (held : List ℕ) → text_place m ≡ literal → line_fault.place ≡ piece_start (field_state t.outer t.done t.openers m held)
-    start m held stands = place ∙ follow.start ∙ ap (λ p. byte_len (before p t.outer ++ spelled t.done)) (at ∙ sym stands)
-
-    go : (b : Bool) (m : FieldMode) (held : List ℕ) → OpenText (string_what b) literal m → line_fault.kind ≡ string_kind b
-        → IsFieldEnd (field_state t.outer t.done t.openers m held) (Some line_fault)
-    go true m held told kind = (open_long, told.is t.outer t.openers, kind, start m held told.stands)
-    go false m held told kind = (open_short, told.is t.outer t.openers, kind, start m held told.stands)
-
-pub specification_end : (t u : FieldScanned) (run : List ℕ) (line_fault : LineFault) → StaysOpen open_inside specification t.mode run → Goes t run u
-    → line_fault.kind ≡ fault_kind.OpenField → line_fault.place ≡ field_start t → IsFieldEnd u (Some line_fault)
-specification_end t u run line_fault keeps goes kind place = let e = text_end open_inside specification t u run keeps goes in
-    let S : FieldScanned = field_state t.outer t.done t.openers e.mode e.held in
-    subst (λ (s : FieldScanned). IsFieldEnd s (Some line_fault)) (sym e.is)
-    (open_inside, e.told.is t.outer t.openers, kind, place ∙ ap (λ (b : Bool). if b then here S - 1 else field_start t) (sym e.told.calm))
 
 -- What holds of each text that doesn't tell yet in a string: none, a backslash, CR or `N` after it, or one or two quotes of a long string.
 pub slash_only : (c : ℕ) → is_backslash c ≡ true → c ≡ 92
@@ -256,15 +231,25 @@ one_quote_open : (b : Bool) (s : Spelling) (q : ℕ) → ((outer : List Level) (
 one_quote_open true s q = (λ outer openers. refl, refl)
 one_quote_open false s q = (λ outer openers. refl, refl)
 
--- one byte alone
-pub only_byte : (bytes : List ℕ) (b : ℕ) → length bytes ≡ 1 → slice_index bytes 0 ≡ b → bytes ≡ b ∷ []
-only_byte [] b one is = absurd (omega (arith, one))
-only_byte (c ∷ []) b one is = ap (λ (x : ℕ). x ∷ []) is
-only_byte (c ∷ d ∷ cs) b one is = absurd (omega (arith, one))
+-- the byte that is left, if it is the only one
+abbrev pub lone_of : List ℕ → ℕ
+lone_of (b ∷ []) = b
+lone_of other = 0
 
--- one limit for the code's count, which is one more
-below_so : (a b : ℕ) → a ≡ b + 1 → nat_lt a 201 ≡ nat_lt b 200
-below_so a b is = grind (arith, nat_tests)
+pub lone_is : (bytes : List ℕ) (b : ℕ) → ((length bytes ≡ 1) × (b ≡ slice_index bytes 0)) ⊎ ((length bytes ≡ 1 → ⊥) × (b ≡ 0)) → b ≡ lone_of bytes
+lone_is [] b is = grind arith
+lone_is (c ∷ []) b is = grind arith
+lone_is (c ∷ d ∷ cs) b is = grind arith
+
+only_lone : (run : List ℕ) → 0 < lone_of run → run ≡ lone_of run ∷ []
+only_lone [] some = absurd (omega (arith, some))
+only_lone (c ∷ []) some = refl
+only_lone (c ∷ d ∷ cs) some = absurd (omega (arith, some))
+
+quote_some : (q : ℕ) → is_quote q ≡ true → 0 < q
+unfolding is_quote
+quote_some zero quote = absurd (both_ways _ refl quote)
+quote_some (suc q) quote = omega arith
 
 pub lone_brace : (region : Region) (named : Bool) (run : List ℕ) → is_lone_brace region named run ≡ true → (region ≡ regions.Literal) × (named ≡ false) × (run ≡ 123 ∷ [])
 lone_brace regions.Literal false (c ∷ []) is = (refl, refl, ap (λ (x : ℕ). x ∷ []) (eqb-true c 123 is))
@@ -286,25 +271,10 @@ by_code P none back slash join quotes (c ∷ d ∷ e ∷ run) part = absurd (bot
 -- what the machine comes to by them: no piece is open that may not end there, unless a quote or a backslash is all that was read; and no CR
 -- of a line end was read last, unless it is all that was, outside brackets and fields
 pub record CodeOver (t u : FieldScanned) (fs : List Frame) (run : List ℕ) : Type 0 where
-  pub ends : (length run ≡ 1 → is_quote (slice_index run 0) ≡ false) → (length run ≡ 1 → is_backslash (slice_index run 0) ≡ false) → EndsCode u fs
+  pub ends : is_quote (lone_of run) ≡ false → is_backslash (lone_of run) ≡ false → EndsCode u fs
   pub open_yet : (frames t == 0 ≡ true → run ≡ 13 ∷ [] → ⊥) → has_returned u ≡ false
 
 module _ (old : Scan) (t u : FieldScanned) (follow : Follows old t) (code : is_text old.mode ≡ false) where
-  -- a backslash is open
-  pub slash_end : ends_before old.mode 92 ≡ true → Goes t (92 ∷ []) u → (line_fault : LineFault) → line_fault.kind ≡ fault_kind.BadJoin → line_fault.place ≡ old.stop → IsFieldEnd u (Some line_fault)
-  slash_end after goes line_fault kind place = let s = slashes old t follow after in
-      subst (λ (x : FieldScanned). IsFieldEnd x (Some line_fault)) (goes_next t _ u 92 [] s.0 goes) (open_join, refl, kind, place ∙ s.1.begins)
-
-  -- a string is
-  pub quote_end : (q : ℕ) (s : Spelling) (start : ℕ) → StringBegun old t q s start → Goes t (q ∷ []) u → (line_fault : LineFault) → line_fault.kind ≡ fault_kind.OpenString → line_fault.place ≡ start → IsFieldEnd u (Some line_fault)
-  quote_end q s start begun goes line_fault kind place =
-      subst (λ (x : FieldScanned). IsFieldEnd x (Some line_fault)) (goes_next t _ u q [] begun.step goes) (
-        open_short,
-        (one_quote_open (is_field_spelling s) s q).0 t.outer t.openers,
-        kind,
-        place ∙ begun.at.begins ∙ ap (λ p. byte_len (before p t.outer ++ spelled begun.done)) (sym begun.at.place),
-      )
-
   -- nothing is open that may not end there
   over : (run : List ℕ) (s : FieldScanned) → s ≡ u → EndsMode s.mode → FramesFollow s.outer s.done s.openers old.frames → CodeOver t u old.frames run
   over run s same ends framed = record {
@@ -325,7 +295,7 @@ module _ (old : Scan) (t u : FieldScanned) (follow : Follows old t) (code : is_t
         open_yet = λ other. ap has_returned (sym there) ∙ false_from_ne_true (frames t == 0) (λ none. other none refl);
       })
       (λ begun on. record {
-        ends = λ no_quote no_slash. absurd (both_ways _ (no_slash refl) refl);
+        ends = λ no_quote no_slash. absurd (both_ways _ no_slash refl);
         open_yet = λ other. ap has_returned (sym (goes_next t _ u 92 [] (slashes old t follow begun).0 on));
       })
       (λ begun on.
@@ -333,39 +303,114 @@ module _ (old : Scan) (t u : FieldScanned) (follow : Follows old t) (code : is_t
       over (92 ∷ 13 ∷ []) _ (goes_next _ _ u 13 [] h.0 (goes_next t _ u 92 (13 ∷ []) (slashes old t follow begun).0 on))
       (λ outer openers. refl, refl, refl) h.1.frames)
       (λ q quote. (
-        λ begun on. let (s, start, string) = some_string old t q follow quote begun in
+        λ begun on. let string = string_begun old t q follow quote begun in
             record {
-              ends = λ no_quote no_slash. absurd (both_ways _ (no_quote refl) quote);
+              ends = λ no_quote no_slash. absurd (both_ways _ no_quote quote);
               open_yet = λ other. ap has_returned (sym (goes_next t _ u q [] string.step on))
-                  ∙ ap (λ b. b && (frames t == 0)) (one_quote_open (is_field_spelling s) s q).1;
+                  ∙ ap (λ b. b && (frames t == 0)) (one_quote_open _ _ q).1;
             },
         λ begun on.
-            let (s, start, string) = some_string old t q follow quote begun in let w = two old t q quote (follows_open old t follow) s start string in
-            over (q ∷ q ∷ []) _ (goes_next _ _ u q [] w.0 (goes_next t _ u q (q ∷ []) string.step on))
-            (two_quotes_end (is_field_spelling s) s q) w.1.frames,
+            let string = string_begun old t q follow quote begun in let w = two old t q quote (follows_open old t follow) _ _ string in
+            over (q ∷ q ∷ []) _ (goes_next _ _ u q [] w.0 (goes_next t _ u q (q ∷ []) string.step on)) (two_quotes_end _ _ q) w.1.frames,
       ))
       run (code_parts old.mode run code pending).0 (code_parts old.mode run code pending).1 goes
 
--- a `{` would open a field, if there is room
-pub brace_end : (old : Scan) (t u : FieldScanned) (host : StringWithFields) (room : Bool) (line_fault : LineFault) → Follows old t → old.mode ≡ opens.Fields host regions.Literal false → Goes t (123 ∷ []) u → room ≡ nat_lt (length old.frames + 1) 201
-    → line_fault.kind ≡ (if room then fault_kind.OpenField else fault_kind.TooDeep) → line_fault.place ≡ old.stop → IsFieldEnd u (Some line_fault)
-brace_end old t u host room line_fault follow mode goes room_is kind place =
-    subst (λ (x : FieldScanned). IsFieldEnd x (Some line_fault)) (goes_same t At u (123 ∷ []) (goes_literal old t follow host (ap mode_from mode)) goes)
-    (by (nat_lt (frames t) 200) refl (kind ∙ ap (λ (b : Bool). if b then fault_kind.OpenField else fault_kind.TooDeep) (room_is ∙ same)))
-  where
-    At : FieldScanned
-    At = after_it t (host_in host)
+-- the text of a string is open, which this byte doesn't end or open a field in
+abbrev pub IsStringOf : Bool → ℕ → OpenMode → Type 0
+IsStringOf long lone (opens.Short q) = long ≡ false
+IsStringOf long lone (opens.Long q) = long ≡ true
+IsStringOf long lone (opens.Fields h regions.Literal named) = (h.is_long ≡ long) × (named ≡ false → lone ≡ 123 → ⊥)
+IsStringOf long lone other = ⊥
 
-    here_is : line_fault.place ≡ here At - 1
-    here_is = place ∙ brace_here old t follow host (ap mode_from mode)
+string_stays : (m : OpenMode) (long : Bool) (run : List ℕ) → HasQuote m → is_pending m run ≡ true → IsStringOf long (lone_of run) m
+    → (StaysOpen (string_what long) literal (mode_from m) run) × (text_place (mode_from m) ≡ literal)
+string_stays (opens.Short q) long run quote part is = (rw is (short_part q run quote part), refl)
+string_stays (opens.Long q) long run quote part is = (rw is (long_part q run quote part), refl)
+string_stays (opens.Fields h regions.Literal named) long run quote part (same, other) = (
+  ⊎_elim (λ brace. let (place, none, is) = lone_brace regions.Literal named run brace in absurd (other none (ap lone_of is)))
+      (λ kept. subst (λ b. StaysOpen (string_what b) literal (body (host_in h) literal named between) run) same (body_part (host_in h) literal named run quote kept))
+      (or_cases (is_lone_brace regions.Literal named run) (is_part_of_text h.is_long h.quote run) part),
+  refl,
+)
+string_stays m long run quote part is = absurd is
 
-    same : nat_lt (length old.frames + 1) 201 ≡ nat_lt (frames t) 200
-    same = below_so (length old.frames + 1) (frames t) (omega (arith, open-length old t follow))
+-- what is wrong where the text ends with these characters
+module _ (old : Scan) (run : List ℕ) (pending : IsPending old.mode run) where
+  -- the string is open, or the field whose specification is
+  pub string_left : (long : Bool) (f : LineFault) → IsStringOf long (lone_of run) old.mode → f.kind ≡ string_kind long → f.place ≡ old.start
+      → EndsOpen old run (Some f)
+  string_left long f is kind place t u follow goes = subst (λ (s : FieldScanned). IsFieldEnd s (Some f)) (sym e.is) (by long e.told kind)
+    where
+      stays : StaysOpen (string_what long) literal (mode_from old.mode) run × (text_place (mode_from old.mode) ≡ literal)
+      stays = string_stays old.mode long run follow.quote (pending follow.quote) is
 
-    by : (b : Bool) → nat_lt (frames t) 200 ≡ b → line_fault.kind ≡ (if b then fault_kind.OpenField else fault_kind.TooDeep)
-        → IsFieldEnd At (Some line_fault)
-    by true few kind_is = (open_inside, ap (λ (b : Bool). Some (if b then open_inside else open_brace)) few, kind_is, here_is)
-    by false full kind_is = (open_brace, ap (λ (b : Bool). Some (if b then open_inside else open_brace)) full, kind_is, here_is)
+      e : EndsText (string_what long) literal t u
+      e = text_end (string_what long) literal t u run (subst (λ (m : FieldMode). StaysOpen (string_what long) literal m run) follow.mode stays.0) goes
+
+      start : f.place ≡ piece_start (field_state t.outer t.done t.openers e.mode e.held)
+      start = place ∙ follow.start ∙ ap (λ p. byte_len (before p t.outer ++ spelled t.done)) (sym (ap text_place follow.mode) ∙ stays.1 ∙ sym e.told.stands)
+
+      by : (b : Bool) → OpenText (string_what b) literal e.mode → f.kind ≡ string_kind b → IsFieldEnd (field_state t.outer t.done t.openers e.mode e.held) (Some f)
+      by true told kind = (open_long, told.is t.outer t.openers, kind, start)
+      by false told kind = (open_short, told.is t.outer t.openers, kind, start)
+
+  pub specification_left : (host : StringWithFields) (named : Bool) → old.mode ≡ opens.Fields host regions.Specification named
+      → (f : LineFault) → ((top : Frame) (others : List Frame) → old.frames ≡ top ∷ others → f.place ≡ place_of top) → f.kind ≡ fault_kind.OpenField
+      → EndsOpen old run (Some f)
+  specification_left host named mode f last kind t u follow goes =
+      let there = sym follow.mode ∙ ap mode_from mode in
+      let keeps = body_part (host_in host) specification named run (rw mode at follow.quote) (rw mode at (pending follow.quote)) in
+      let e = text_end open_inside specification t u run (rw there keeps) goes in let S : FieldScanned = field_state t.outer t.done t.openers e.mode e.held in
+      let place = specification_place old t f.place follow (ap text_place there) last in
+      subst (λ (s : FieldScanned). IsFieldEnd s (Some f)) (sym e.is)
+      (open_inside, e.told.is t.outer t.openers, kind, place ∙ ap (λ (b : Bool). if b then here S - 1 else field_start t) (sym e.told.calm))
+
+  -- a `{` would open a field, if there is room
+  pub brace_left : (host : StringWithFields) (room : Bool) → old.mode ≡ opens.Fields host regions.Literal false → lone_of run ≡ 123 → nat_lt (length old.frames) 200 ≡ room
+      → (f : LineFault) → f.kind ≡ (if room then fault_kind.OpenField else fault_kind.TooDeep) → f.place ≡ old.stop → EndsOpen old run (Some f)
+  brace_left host room mode brace is f kind place t u follow goes =
+      subst (λ (x : FieldScanned). IsFieldEnd x (Some f)) (goes_same t At u (123 ∷ []) (goes_literal old t follow host (ap mode_from mode)) one)
+      (ends room (ap (λ (n : ℕ). Some (if nat_lt n 200 then open_inside else open_brace)) (sym (open-length old t follow))
+      ∙ ap (λ (b : Bool). Some (if b then open_inside else open_brace)) is) kind)
+    where
+      At : FieldScanned
+      At = after_it t (host_in host)
+
+      one : Goes t (123 ∷ []) u
+      one = subst (λ (x : List ℕ). Goes t x u) (only_lone run (omega (arith, brace)) ∙ ap (λ (b : ℕ). b ∷ []) brace) goes
+
+      ends : (b : Bool) → unfinished_at At ≡ Some (if b then open_inside else open_brace) → f.kind ≡ (if b then fault_kind.OpenField else fault_kind.TooDeep)
+          → IsFieldEnd At (Some f)
+      ends true told kind = (open_inside, told, kind, place ∙ brace_here old t follow host (ap mode_from mode))
+      ends false told kind = (open_brace, told, kind, place ∙ brace_here old t follow host (ap mode_from mode))
+
+  -- in code
+  module _ (code : is_text old.mode ≡ false) where
+    after : (t u : FieldScanned) → HasQuote old.mode → Goes t run u → (b : ℕ) → lone_of run ≡ b → 0 < b → (ends_before old.mode b ≡ true) × Goes t (b ∷ []) u
+    after t u quote goes b is some =
+        let one : run ≡ b ∷ [] = only_lone run (omega (arith, is, some)) ∙ ap (λ (x : ℕ). x ∷ []) is in
+        ((rw one at (code_parts old.mode run code (pending quote))).1, rw one at goes)
+
+    -- a backslash is open
+    pub slash_left : lone_of run ≡ 92 → (f : LineFault) → f.kind ≡ fault_kind.BadJoin → f.place ≡ old.stop → EndsOpen old run (Some f)
+    slash_left is f kind place t u follow goes = let (begun, on) = after t u follow.quote goes 92 is (omega arith) in let s = slashes old t follow begun in
+        subst (λ (x : FieldScanned). IsFieldEnd x (Some f)) (goes_next t _ u 92 [] s.0 on) (open_join, refl, kind, place ∙ s.1.begins)
+
+    -- a string is
+    pub quote_left : is_quote (lone_of run) ≡ true → (f : LineFault) → f.kind ≡ fault_kind.OpenString → f.place ≡ (string_start old).0 → EndsOpen old run (Some f)
+    quote_left quote f kind place t u follow goes = let (begun, on) = after t u follow.quote goes (lone_of run) refl (quote_some (lone_of run) quote) in
+        let string = string_begun old t (lone_of run) follow quote begun in
+        subst (λ (x : FieldScanned). IsFieldEnd x (Some f)) (goes_next t _ u (lone_of run) [] string.step on) (
+          open_short,
+          (one_quote_open _ _ (lone_of run)).0 t.outer t.openers,
+          kind,
+          place ∙ string.at.begins ∙ ap (λ p. byte_len (before p t.outer ++ spelled string.done)) (sym string.at.place),
+        )
+
+    -- or what is innermost
+    pub code_left : is_quote (lone_of run) ≡ false → (lone_of run ≡ 92 → ⊥) → (top : Option Frame) → IsInnermostFrame top old.frames → EndsOpen old run (frame_fault top)
+    code_left no_quote no_slash top is t u follow goes = code_end u old.frames top
+        ((code_over old t u follow code run (pending follow.quote) goes).ends no_quote (false_from_ne_true _ (λ slash. no_slash (slash_only _ slash)))) is
 
 -- what doesn't tell in a string's text: it is such a `{`, or keeps the text open
 text_part : (R : Type 0) (m : OpenMode) (run : List ℕ) → HasQuote m → is_text m ≡ true → is_pending m run ≡ true
@@ -430,9 +475,17 @@ ends_returned old t bytes new follow code none first like = let r = returns old 
     search (first, goes, ap (λ n. n == 0) (sym (open-length old t follow) ∙ ap length none), like)
 
 -- CR stands first
-pub begins_there : (bytes : List ℕ) → slice_index bytes 0 == 13 ≡ true → begins (λ c. c == 13) bytes ≡ true
-begins_there [] is = absurd (both_ways _ refl is)
-begins_there (b ∷ rest) is = is
+pub begins_there : (bytes : List ℕ) → starts_with nat_eq bytes (13 ∷ []) ≡ true → begins (λ c. c == 13) bytes ≡ true
+begins_there [] is = is
+begins_there (b ∷ rest) is = grind arith
+
+-- or the machine isn't after it
+pub not_returned : (old : Scan) (t : FieldScanned) (bytes : List ℕ) → Follows old t → HasPending old.mode bytes → (all : GoesOverAll t bytes)
+    → (is_text old.mode ≡ false → length old.frames == 0 ≡ true → starts_with nat_eq bytes (13 ∷ []) ≡ true → ⊥) → has_returned all.to ≡ false
+not_returned old t bytes follow pending all other =
+    pending_open old t all.to all.run follow (pending_run old.mode bytes all.run all.rest follow.quote pending all.scalars all.none all.spell).0 all.goes
+    (λ code none is. other code (ap (λ n. n == 0) (open-length old t follow) ∙ none)
+    (ap (λ (x : List ℕ). starts_with nat_eq x (13 ∷ [])) (sym (rw is at all.spell) ∙ ap (λ x. x ++ all.rest) (low_encoded (13 ∷ []) refl))))
 
 -- nothing is in the list
 pub no_members : {A : Type 0} (xs : List A) → length xs == 0 ≡ true → xs ≡ []

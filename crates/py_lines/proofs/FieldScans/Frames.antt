@@ -4,13 +4,13 @@ use Rattle.std.proofs.lemmas.List.{length-map}
 use Rattle.py_lines.specs.Piece.{Class, operator, Piece, spelled}
 use Rattle.py_lines.specs.LogicalLine.{byte_len}
 use Rattle.py_lines.specs.Balance.{is_opening, is_closing, is_opener, is_closer, closing_of}
-use Rattle.py_lines.specs.FieldStrings.{literal}
+use Rattle.py_lines.specs.FieldStrings.{literal, specification}
 use Rattle.py_lines.specs.declared.frames.OpenField.{OpenField}
 use Rattle.py_lines.specs.declared.frames.Frame.{Frame}
 use Rattle.py_lines.specs.declared.frames.Frame.TheVariants as frame
 use Rattle.py_lines.specs.Private.Machine.{Bracket, brackets_of}
 use Rattle.py_lines.specs.Private.FieldMachine.{Level, levels_open, before}
-use Rattle.py_lines.specs.Private.Scan.{bracket_frames, bracket_openers, FieldFollows, FramesFollow}
+use Rattle.py_lines.specs.Private.Scan.{bracket_frames, bracket_openers, FieldFollows, FramesFollow, NoListAt}
 use Rattle.py_lines.proofs.Pieces.PieceLists.{piece}
 use Rattle.py_lines.proofs.Pieces.OpenBrackets.{stack_push, opener_pushes, closer_pops, other_keeps}
 use Rattle.py_lines.proofs.LogicalLines.Cuts.{byte_len-append}
@@ -61,6 +61,13 @@ innermost_field (l ∷ ls) done openers fs others field ([], own, rest, stack, o
       none = openers_are;
       at = subst (λ (f : OpenField). FieldFollows l ls f (FramesFollow ls l.done l.openers others)) same (subst (λ (fs : List Frame). FieldFollows l ls own (FramesFollow ls l.done l.openers fs)) round at);
     }
+
+-- it is a field, where a specification is open
+pub specified_field : (outer : List Level) (done : List Piece) (openers : List ℕ) (fs : List Frame) → NoListAt specification outer done openers
+    → FramesFollow outer done openers fs → (field : OpenField) × (others : List Frame) × (fs ≡ frame.Field field ∷ others)
+specified_field [] done openers fs bare follow = absurd (bare.2 refl)
+specified_field (l ∷ ls) done openers fs bare ([], field, others, stack, openers_are, frames_are, at) = (field, others, frames_are)
+specified_field (l ∷ ls) done openers fs bare ((b ∷ bs), field, others, stack, openers_are, frames_are, at) = absurd (cc (bare.1, openers_are))
 
 -- where no frame is open, there is no bracket and no field
 pub none_outside : (outer : List Level) (done : List Piece) (openers : List ℕ) (fs : List Frame) → FramesFollow outer done openers fs → length fs ≡ 0 → (outer ≡ []) × (openers ≡ [])

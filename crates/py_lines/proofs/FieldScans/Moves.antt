@@ -8,8 +8,8 @@ use Rattle.py_lines.specs.Piece.{string, Piece, spelled}
 use Rattle.py_lines.specs.FieldStrings.{Host, Place, literal, specification}
 use Rattle.py_lines.specs.Private.Machine.{Mode, Move, Spelling, Move as moves, Holds, begins_string, closed, class_of, is_field_spelling, is_raw_spelling, long_move, move_of, short_move, spelling_with}
 use Rattle.py_lines.specs.Private.Mode as modes
-use Rattle.py_lines.specs.Private.FieldMachine.{At, between, after_slash, after_brace, FieldMode, plain, opened, empty, body, FieldMove, grows, closes, breaks, begins_code, opens_field, ends_field, refused, host_of, long_host, begins_host, plain_move, between_move, escape_move, body_move, is_after_brace, field_move, field_closed, field_class_of, text_place}
-use Rattle.py_lines.specs.Private.Scan.{HoldsCode, HasNoList, is_ending}
+use Rattle.py_lines.specs.Private.FieldMachine.{At, Level, between, after_slash, after_brace, FieldMode, plain, opened, empty, body, FieldMove, grows, closes, breaks, begins_code, opens_field, ends_field, refused, host_of, long_host, begins_host, plain_move, between_move, escape_move, body_move, is_after_brace, field_move, field_closed, field_class_of, text_place}
+use Rattle.py_lines.specs.Private.Scan.{HoldsCode, HasNoList, NoListAt, is_ending}
 use Rattle.py_lines.proofs.Pieces.PieceLists.{piece, spelled-push}
 use Rattle.py_lines.proofs.Machine.LiveTexts as live
 use Rattle.py_lines.proofs.Machine.PieceSteps.{closing_neutral}
@@ -122,11 +122,13 @@ pub said : (m : FieldMode) (held : List ℕ) (c : ℕ) (v : FieldMove) → Holds
 said m held c v holds is = subst (Says m held c) is (says m held c holds)
 
 -- no list stands in a specification that goes on
-pub list_at : (m n : FieldMode) (done : List Piece) (openers : List ℕ) → text_place n ≡ text_place m → HasNoList m done openers → HasNoList n done openers
-list_at (body h specification b a) (body host specification named at) done openers same none = none
-list_at m (body host specification named at) done openers same none = absurd (cc)
-list_at m n done openers same none = tt
+pub list_at : (m n : FieldMode) (outer : List Level) (done : List Piece) (openers : List ℕ) → text_place n ≡ text_place m
+    → HasNoList m outer done openers → HasNoList n outer done openers
+list_at (body h specification b a) (body host specification named at) outer done openers same none = none
+list_at m (body host specification named at) outer done openers same none = absurd (cc)
+list_at m n outer done openers same none = tt
 
-pub bare_in : (m : FieldMode) (done : List Piece) (openers : List ℕ) → text_place m ≡ specification → HasNoList m done openers → (done ≡ []) × (openers ≡ [])
-bare_in (body host specification named at) done openers is none = none
-bare_in m done openers is none = absurd (cc)
+pub bare_in : (m : FieldMode) (outer : List Level) (done : List Piece) (openers : List ℕ) → text_place m ≡ specification
+    → HasNoList m outer done openers → NoListAt specification outer done openers
+bare_in (body host specification named at) outer done openers is none = none
+bare_in m outer done openers is none = absurd (cc)

@@ -4,7 +4,7 @@ use Rattle.std.proofs.Common.{◌≡◌, ℕ, ◌+◌, ◌-◌, ◌<◌, Bool, t
 use Rattle.py_lines.proofs.FieldScans.Bytes.{byte_len-one}
 use Rattle.std.specs.Prelude.{encode_utf8_all, encode_utf8}
 use Rattle.std.specs.Char.{len_utf8}
-use Rattle.std.proofs.lemmas.Bool.{both_ways, eq-eqb, eqb-true, le-ltb, ltb-false, ltb-true, ne_eqb}
+use Rattle.std.proofs.lemmas.Bool.{both_ways, eq-eqb, eqb-true, le-ltb, lt-ltb, ltb-true, ne_eqb}
 use Rattle.std.proofs.Math.Utf8.{low_scalar}
 use Rattle.std.proofs.lemmas.Bool.Decides.{nat_tests}
 use Rattle.std.proofs.lemmas.Str.{encode_ascii, length-encode, len_utf8_ascii, len_utf8_bounds}
@@ -19,10 +19,9 @@ use Rattle.py_lines.specs.Private.Machine.{move_of}
 use Rattle.py_lines.specs.Private.FieldMachine.{FieldMode, FieldMove, FieldScanned, Level, plain, body, between, after_brace, grows, breaks, begins_code, opens_field, ends_field, before, field_ended, field_fresh, field_move, field_moved, field_state, frames, has_room_at, opened_level, room_step, roomy, specification_ended, text_place, At, between_move, body_move, opening_move}
 use Rattle.py_lines.specs.Private.FieldFaults.{cause_in, cause_place, here}
 use Rattle.py_lines.specs.Private.Run.{BeginsWith}
-use Rattle.py_lines.specs.Private.Scan.{ComesTo, FieldFollows, Follows, FramesFollow, IsOneItem, GoAlike, Goes, GoesOver, IsFieldFault, IsFirstByte, IsWrongIn, OpensField, OpensIf, OpensInText, StandsAs, ended_in, ends_line, entered, host_in, is_break_move, is_line_ending, is_text, mode_from, region_in, with_bytes, HasNoList, HasQuote, IsInPlace}
+use Rattle.py_lines.specs.Private.Scan.{ComesTo, FieldFollows, Follows, FramesFollow, IsOneItem, GoAlike, Goes, GoesOver, IsFieldFault, IsFirstByte, IsWrongIn, OpensInText, StandsAs, EndsField, ended_in, ends_line, entered, host_in, is_break_move, is_line_ending, is_text, mode_from, region_in, with_bytes, HasNoList, HasQuote}
 use Rattle.py_lines.specs.declared.fault.FaultKind.TheVariants as fault_kind
 use Rattle.py_lines.specs.declared.frames.OpenField.{OpenField}
-use Rattle.py_lines.specs.declared.frames.Frame.{Frame}
 use Rattle.py_lines.specs.declared.frames.Frame.TheVariants as frame
 use Rattle.py_lines.specs.declared.host.Region.{Region}
 use Rattle.py_lines.specs.declared.host.Region.TheVariants as regions
@@ -38,7 +37,7 @@ use Rattle.py_lines.proofs.FieldScans.Taking.{first_byte, follows_open, rests_ex
 use Rattle.py_lines.proofs.FieldMachine.Runs.{room_grows}
 use Rattle.py_lines.proofs.FieldScans.Frames.{innermost_field}
 use Rattle.py_lines.proofs.FieldScans.Moves.{bare_in}
-use Rattle.py_lines.proofs.FieldScans.Operators.{open-length, resumed}
+use Rattle.py_lines.proofs.FieldScans.Operators.{in_field, open-length, resumed}
 use Rattle.py_lines.proofs.FieldScans.TextItems.{low_scalars, more_bytes, text_open, StaysText, held_nothing, text_is, text_stays}
 
 -- the quote of a string with fields is one
@@ -153,7 +152,7 @@ module _ (old : Scan) (t : FieldScanned) (follow : Follows old t) (host : String
   enters = let field : OpenField = record { place = old.stop; host = host; region = region; start = old.start } in
       let start : old.start ≡ byte_len (before (region_in region) t.outer ++ spelled t.done) = follow.start ∙ ap (λ p. byte_len (before p t.outer ++ spelled t.done)) place in
       let level : Level = opened_level t (host_in host) (region_in region) (t.held ++ 123 ∷ []) in
-      let bare = subst (λ (m : FieldMode). HasNoList m t.done t.openers) mode follow.no_list in
+      let bare = subst (λ (m : FieldMode). HasNoList m t.outer t.done t.openers) mode follow.no_list in
       let at : FieldFollows level t.outer field (FramesFollow t.outer t.done t.openers old.frames) = search (inner_place region old.stop level.front after, quote, start, bare, follow.frames) in
       follows_free (with_bytes (record old { frames = frame.Field field ∷ old.frames }) 1) (level ∷ t.outer) [] [] ([], field, old.frames, refl, refl, refl, at)
       (after ∙ ap byte_len (sym (append-nil (before literal (level ∷ t.outer)))))
@@ -215,49 +214,46 @@ module _ (old : Scan) (t : FieldScanned) (follow : Follows old t) (host : String
       (ap kind_of_cause (sym because), follow.stop ∙ ap (cause_place t) (sym because))
 
 -- if there is room, or else
-opens_in : (old : Scan) (t : FieldScanned) (follow : Follows old t) (host : StringWithFields) (region : Region) (bytes : List ℕ) (new : Scan)
-    → OpensInText (mode_from old.mode) bytes host region → (nat_lt (frames t) 200 ≡ true → new ≡ entered old host region → GoesOver t bytes 1 new)
-    × (frames t ≡ 200 → IsWrongIn t bytes (record { kind = fault_kind.TooDeep; place = old.stop }))
-opens_in old t follow host regions.Literal bytes new x = let (c, next, other) = x.next refl in
-    (opens_literal old t follow host x.is bytes new c x.brace next other, deep_literal old t follow host x.is bytes c x.brace next other)
-opens_in old t follow host regions.Specification bytes new x = (
-  opens_specified old t follow host x.is bytes new x.brace,
-  λ full. deep_specified old t follow host x.is bytes x.brace (le-ltb (frames t) 200 (omega arith)),
-)
-
--- what opening a field comes to
-pub opens_comes : (old : Scan) (t : FieldScanned) (host : StringWithFields) (region : Region) (bytes : List ℕ) (result : Progress) (new : Scan) → Follows old t → OpensInText (mode_from old.mode) bytes host region → OpensField old host region result new → ComesTo t bytes old result new
-opens_comes old t host region bytes result new follow x opens = go (nat_lt (length old.frames) 200) refl opens
+pub opens_in : (old : Scan) (t : FieldScanned) (follow : Follows old t) (host : StringWithFields) (region : Region) (bytes : List ℕ) (new : Scan)
+    → OpensInText (mode_from old.mode) bytes host region → (length old.frames < 200 → new ≡ entered old host region → GoesOver t bytes 1 new)
+    × (length old.frames ≡ 200 → IsWrongIn t bytes (record { kind = fault_kind.TooDeep; place = old.stop }))
+opens_in old t follow host region bytes new x = go region x
   where
     many : length old.frames ≡ frames t
     many = open-length old t follow
 
-    go : (b : Bool) → nat_lt (length old.frames) 200 ≡ b → OpensIf b old host region result new → ComesTo t bytes old result new
-    go true room (going, like) = subst (λ (r : Progress). ComesTo t bytes old r new) (sym going)
-        ((opens_in old t follow host region bytes new x).0 (ap (λ n. nat_lt n 200) (sym many) ∙ room) like)
-    go false full (wrong, few, like) = subst (λ (r : Progress). ComesTo t bytes old r new) (sym wrong) (
-      (opens_in old t follow host region bytes new x).1 (omega (arith, many, few, ltb-false (length old.frames) 200 full)),
-      like,
+    go : (r : Region) → OpensInText (mode_from old.mode) bytes host r → (length old.frames < 200 → new ≡ entered old host r → GoesOver t bytes 1 new)
+        × (length old.frames ≡ 200 → IsWrongIn t bytes (record { kind = fault_kind.TooDeep; place = old.stop }))
+    go regions.Literal x = let (c, next, other) = x.next refl in (
+      λ few. opens_literal old t follow host x.is bytes new c x.brace next other (lt-ltb (frames t) 200 (omega (arith, many, few))),
+      λ full. deep_literal old t follow host x.is bytes c x.brace next other (omega (arith, many, full)),
+    )
+    go regions.Specification x = (
+      λ few. opens_specified old t follow host x.is bytes new x.brace (lt-ltb (frames t) 200 (omega (arith, many, few))),
+      λ full. deep_specified old t follow host x.is bytes x.brace (le-ltb (frames t) 200 (omega (arith, many, full))),
     )
 
 -- a field ends with its specification
-pub ends_over : (old : Scan) (t : FieldScanned) (field : OpenField) (others : List Frame) (bytes : List ℕ) (new : Scan) → Follows old t → is_text old.mode ≡ true → field_move (mode_from old.mode) [] 125 ≡ ends_field
-    → begins (λ c. c == 125) bytes ≡ true → old.frames ≡ frame.Field field ∷ others → new ≡ ended_in old field others → IsInPlace (ended_in old field others) → GoesOver t bytes 1 new
+pub ends_over : (old : Scan) (t : FieldScanned) (bytes : List ℕ) (result : Progress) (new : Scan) → Follows old t → is_text old.mode ≡ true
+    → field_move (mode_from old.mode) [] 125 ≡ ends_field → begins (λ c. c == 125) bytes ≡ true → EndsField old result new → ComesTo t bytes old result new
 unfolding has_room_at
-ends_over old t field others bytes new follow text does braced top like placed = let in_text = text_open old t follow text in
+ends_over old t bytes result new follow text does braced ends = let in_text = text_open old t follow text in
     let own = text_is t.mode in_text in
     let bare_move : field_move t.mode [] 125 ≡ ends_field = ap (λ (m : FieldMode). field_move m [] 125) (sym follow.mode) ∙ does in
     let move : field_move t.mode t.held 125 ≡ ends_field = held_nothing t.mode t.held 125 in_text ∙ bare_move in
     let place : text_place t.mode ≡ specification = subst (StaysText (text_place t.mode)) bare_move (text_stays t.mode 125 in_text) in
+    let (field, others, top) = in_field old t follow place in let (going, like) = ends field others top in
     let i = innermost_field t.outer t.done t.openers old.frames others field follow.frames top in let held : List ℕ = t.held ++ 125 ∷ [] in
-    let to : FieldScanned = field_ended i.level i.outside held in let none : t.done ≡ [] = (bare_in t.mode t.done t.openers place follow.no_list).0 in
+    let to : FieldScanned = field_ended i.level i.outside held in let none : t.done ≡ [] = (bare_in t.mode t.outer t.done t.openers place follow.no_list).0 in
     let stands : old.stop ≡ byte_len (before specification (i.level ∷ i.outside) ++ t.held) =
     follow.stop ∙ ap (λ p. byte_len (before p t.outer ++ (spelled t.done ++ t.held))) place ∙ ap (λ (ls : List Level). byte_len (before specification ls ++ (spelled t.done ++ t.held))) i.outer_is
     ∙ ap (λ (ps : List Piece). byte_len (before specification (i.level ∷ i.outside) ++ (spelled ps ++ t.held))) none in
     let stop : old.stop + 1 ≡ byte_len (before i.level.place i.outside ++ (spelled i.level.done ++ held)) =
     more_bytes (before specification (i.level ∷ i.outside)) [] t.held (125 ∷ []) old.stop 1 stands (byte_len-one 125)
     ∙ ap byte_len (append_assoc (before i.level.place i.outside) (spelled i.level.done) held) in
-    over_one t to 125 bytes new (first_sign 125 bytes (omega arith) braced) (follows_open old t follow) (
+    let over : GoesOver t bytes 1 (ended_in old field others) =
+    over_one t to 125 bytes (ended_in old field others) (first_sign 125 bytes (omega arith) braced) (follows_open old t follow) (
       steps t 125 ends_field move to refl (ap (λ (ls : List Level). specification_ended ls held) i.outer_is),
       goes_on t 125 ends_field move (own.no_line ends_field 125),
-    ) (rw like (rests_exact (ended_in old field others) to (drop 1 bytes) (resumed old t.outer t.openers field others i held placed stop)))
+    ) (rests_exact (ended_in old field others) to (drop 1 bytes) (resumed old t.outer t.openers field others i held stop)) in
+    rw (going, like) over

@@ -29,12 +29,12 @@ IsWhole other = Unit {0}
 -- no list stands round the string of a specification's field
 abbrev AreBare : List Level → Type 0
 AreBare [] = Unit {0}
-AreBare (l ∷ ls) = NoListAt l.place l.done l.openers × AreBare ls
+AreBare (l ∷ ls) = NoListAt l.place ls l.done l.openers × AreBare ls
 
 -- the open piece and the lists are as they may be in a line
 pub record IsLaidOut (t : FieldScanned) : Type 0 where
   holds : HoldsCode t.mode t.held
-  no_list : HasNoList t.mode t.done t.openers
+  no_list : HasNoList t.mode t.outer t.done t.openers
   whole : IsWhole t.mode
   bare : AreBare t.outer
 
@@ -113,7 +113,7 @@ operator_at (level ∷ outer) done (o ∷ os) c bare = after_at (level ∷ outer
 operator_at (level ∷ outer) done [] c bare =
     let far : ℕ = byte_len (before literal (level ∷ outer) ++ spelled done) + len_utf8 c in
     cond_both (c == byte "}") _ _ (IsAt far) (λ h. (code_text level outer done c, ended_at level outer _ bare))
-    (λ h. cond_both (c == byte ":") _ _ (IsAt far) (λ k. (ap byte_len (append_assoc (before level.place outer) (spelled level.done) (level.front ++ (spelled done ++ c ∷ []))) ∙ code_text level outer done c, record { holds = tt; no_list = (refl, refl); whole = refl; bare = bare }))
+    (λ h. cond_both (c == byte ":") _ _ (IsAt far) (λ k. (ap byte_len (append_assoc (before level.place outer) (spelled level.done) (level.front ++ (spelled done ++ c ∷ []))) ∙ code_text level outer done c, record { holds = tt; no_list = (refl, refl, λ none. absurd (cc)); whole = refl; bare = bare }))
     (λ k. after_at (level ∷ outer) done c (openers_with [] c) bare))
 
 -- another piece
@@ -146,7 +146,7 @@ moved_at t c (grows n) laid is =
     let so = said t.mode t.held c (grows n) laid.holds is in (
       ap (λ p. byte_len (before p t.outer ++ (spelled t.done ++ (t.held ++ c ∷ [])))) so.place
           ∙ push_three (before (text_place t.mode) t.outer) (spelled t.done) t.held c,
-      record { holds = so.holds; no_list = list_at t.mode n t.done t.openers so.place laid.no_list; whole = subst StaysWhole is (stays_whole t.mode t.held c); bare = laid.bare },
+      record { holds = so.holds; no_list = list_at t.mode n t.outer t.done t.openers so.place laid.no_list; whole = subst StaysWhole is (stays_whole t.mode t.held c); bare = laid.bare },
     )
 moved_at t c closes laid is =
     let so = said t.mode t.held c closes laid.holds is in
@@ -171,12 +171,12 @@ moved_at t c (opens_field host) laid is =
     let level : Level = opened_level t host specification (t.held ++ c ∷ []) in (
       ap byte_len (append-nil (before literal (level ∷ t.outer))) ∙ push_three (before specification t.outer) (spelled t.done) t.held c
           ∙ ap (λ p. byte_len (before p t.outer ++ (spelled t.done ++ t.held)) + len_utf8 c) (sym (ap text_place mode)),
-      fresh_laid (level ∷ t.outer) [] [] (bare_in t.mode t.done t.openers (ap text_place mode) laid.no_list, laid.bare),
+      fresh_laid (level ∷ t.outer) [] [] (bare_in t.mode t.outer t.done t.openers (ap text_place mode) laid.no_list, laid.bare),
     )
 moved_at t c ends_field laid is =
     let (place, brace) = said t.mode t.held c ends_field laid.holds is in
     subst (λ p. IsAt (byte_len (before p t.outer ++ (spelled t.done ++ t.held)) + len_utf8 c) (specification_ended t.outer (t.held ++ c ∷ []))) (sym place)
-    (specified_at t.outer t.done t.held c (bare_in t.mode t.done t.openers place laid.no_list).0 laid.bare)
+    (specified_at t.outer t.done t.held c (bare_in t.mode t.outer t.done t.openers place laid.no_list).0 laid.bare)
 moved_at t c refused laid is = tt
 
 -- a run

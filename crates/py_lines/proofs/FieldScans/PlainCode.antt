@@ -142,6 +142,11 @@ fields_alike [] done openers fs (bs, stack, openers_are, frames_are) = ap has_fi
 fields_alike (l ∷ ls) done openers fs (bs, field, others, stack, openers_are, frames_are, at) =
     ap has_field frames_are ∙ field_behind (byte_len (before literal (l ∷ ls))) bs field others
 
+pub outside_fields : (outer : List Level) (done : List Piece) (openers : List ℕ) (fs : List Frame) → FramesFollow outer done openers fs
+    → has_field fs ≡ false → outer ≡ []
+outside_fields [] done openers fs follow none = refl
+outside_fields (l ∷ ls) done openers fs follow none = absurd (both_ways _ none (fields_alike (l ∷ ls) done openers fs follow))
+
 -- a `:` stands in no field
 no_colon_in : (outer : List Level) (openers : List ℕ) (c : ℕ) → is_inside outer && (c == 58) ≡ false → IsNoColon outer openers c
 no_colon_in [] openers c h = tt

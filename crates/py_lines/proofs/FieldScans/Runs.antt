@@ -1,6 +1,7 @@
 -- What is held in one step: characters that leave the open piece as it is, simple text of a string with fields, and words, spaces and
 -- signs of a field's code up to the last sign.
-use Rattle.std.proofs.Common.{◌≡◌, ℕ, ◌+◌, ◌<◌, ◌≤◌, Bool, true, false, ◌&&◌, ◌==◌, List, [], ◌∷◌, ◌++◌, length, take, drop, refl, sym, ap, ◌∙◌, subst, append_assoc, append-nil, arith, take-append-drop}
+use Rattle.std.proofs.Common.{◌≡◌, ℕ, zero, suc, ◌+◌, ◌<◌, ◌≤◌, Bool, true, false, ◌&&◌, ◌==◌, List, [], ◌∷◌, ◌++◌, length, take, drop, refl, sym, ap, ◌∙◌, subst, append_assoc, append-nil, arith, take-append-drop}
+use Rattle.std.proofs.Math.Path.{transport}
 use Rattle.std.specs.Prelude.{Some, encode_utf8_all}
 use Rattle.std.specs.Char.{len_utf8}
 use Rattle.std.specs.List.{list_all}
@@ -25,7 +26,7 @@ use Rattle.py_lines.specs.Private.FieldFaults.{here}
 use Rattle.py_lines.specs.Private.Scan.{Follows, Goes, HoldsCode, HoldsField, HasQuote, KeepsOpen, ends_line, is_line_ending, is_shut, mode_from, host_in, passed, region_in, with_bytes}
 use Rattle.py_lines.specs.Private.FieldText.{HasText}
 use Rattle.py_lines.specs.Private.Frames.{has_field}
-use Rattle.py_lines.specs.Private.Run.{IsRunOf, Spans, is_code_byte, is_literal_byte, stays}
+use Rattle.py_lines.specs.Private.Run.{IsRunOf, Spans, is_code_byte, is_line_byte, is_literal_byte, stays}
 use Rattle.py_lines.specs.Private.TakenPieces.{IsOperatorEnd}
 use Rattle.py_lines.proofs.FieldScans.Bytes.{byte_len-more, push_three}
 use Rattle.py_lines.proofs.FieldScans.Frames.{frames-length}
@@ -34,7 +35,7 @@ use Rattle.py_lines.proofs.FieldScans.Places.{follows_laid, here_on}
 use Rattle.py_lines.proofs.FieldScans.PlainCode.{code_run, is_code_open, over_code, over_operator, plain_low, word_is}
 use Rattle.py_lines.proofs.FieldScans.Takes.{comes_exact}
 use Rattle.py_lines.proofs.FieldScans.Texts.{code_plain, text_stays, literal_parts}
-use Rattle.py_lines.proofs.LineScan.AsciiRuns.{all_pass, is_low, low_encodes, low_is}
+use Rattle.py_lines.proofs.LineScan.AsciiRuns.{all_pass, line_byte_low, low_encodes}
 use Rattle.py_lines.proofs.LineScan.Runs.{body_parts, stay_spelled}
 use Rattle.py_lines.proofs.Machine.Soundness.{word_on}
 use Rattle.py_lines.proofs.FieldMachine.Runs.{room_grows}
@@ -46,8 +47,6 @@ Stays m held c = (field_move m held c ≡ grows m) × HoldsCode m (held ++ c ∷
 -- so do those that stay in code, or in the text of a string without fields
 code_stays : (m : OpenMode) (held : List ℕ) (c : ℕ) → stays m c ≡ true → HoldsCode (mode_from m) held → Stays (mode_from m) held c
 unfolding field_move move_of short_move long_move spelling_with
-code_stays (opens.Word spellings.Number) held c h holds =
-    let is = word_is c h in (grind (arith, is.0, is.1), word_on spellings.Number held c holds is.0, refl)
 code_stays (opens.Word spellings.Name) held c h holds =
     let is = word_is c h in (grind (arith, is.0, is.1), word_on spellings.Name held c holds is.0, refl)
 code_stays opens.Space held c h holds = (grind arith, tt, refl)
@@ -89,7 +88,6 @@ module _ (scan : Scan) (t : FieldScanned) (c : ℕ) (follows : Follows scan t) (
     holds = on.1;
     no_list = follows.no_list;
     quote = follows.quote;
-    placed = follows.placed;
     start = follows.start;
     frames = follows.frames;
     stop = ap (λ (n : ℕ). n + len_utf8 c) follows.stop ∙ sym (push_three (before (text_place t.mode) t.outer) (spelled t.done) t.held c);
@@ -146,10 +144,6 @@ holds_run old new bytes n run spells leads t follows =
       keeps,
     )
 
--- nothing is held
-pub holds_none : (scan : Scan) (bytes : List ℕ) → HoldsField scan bytes 0 scan
-holds_none scan bytes t follows = (record { run = []; spell = refl; scalars = refl; size = refl; comes = follows }, tt)
-
 -- characters that leave what is open as it is
 holds_on : (scan : Scan) (bytes : List ℕ) (n : ℕ) (run : List ℕ) (passes : ℕ → Bool) → Spells bytes n run → list_all passes run ≡ true
     → ((held : List ℕ) (c : ℕ) → passes c ≡ true → HoldsCode (mode_from scan.mode) held → Stays (mode_from scan.mode) held c)
@@ -179,7 +173,7 @@ holds_literal scan h region named bytes n mode run =
 pub holds_text : (scan : Scan) (h : StringWithFields) (bytes : List ℕ) (n : ℕ) → scan.mode ≡ opens.Fields h regions.Literal false
     → is_quote h.quote ≡ true → length scan.frames ≤ 100 → HasText h.quote bytes n → HoldsField scan bytes n (with_bytes scan n)
 holds_text scan h bytes n mode quotes room text =
-    let spells = spells_ascii is_low bytes n text.0 low_is text.1.low in
+    let spells = spells_ascii is_line_byte bytes n text.0 line_byte_low text.1.low in
     holds_run scan (with_bytes scan n) bytes n (take n bytes) spells (λ t follows.
     let is : t ≡ field_state t.outer t.done t.openers (body (host_in h) literal false between) t.held = ap (λ m. field_state t.outer t.done t.openers m t.held) (sym follows.mode ∙ ap mode_from mode) in
     let l : Level = record { done = t.done; openers = t.openers; host = host_in h; place = literal; front = [] } in
@@ -190,17 +184,31 @@ holds_text scan h bytes n mode quotes room text =
       goes,
       keeps,
       subst (Follows (with_bytes scan n)) (sym ends)
-          (record { mode = own.mode; holds = tt; no_list = own.no_list; quote = own.quote; placed = own.placed; start = own.start; frames = own.frames; stop = stop ∙ ap here ends }),
+          (record { mode = own.mode; holds = tt; no_list = own.no_list; quote = own.quote; start = own.start; frames = own.frames; stop = stop ∙ ap here ends }),
     ))
+
+-- where no piece is open, none begins before where the scan stops
+pub free_start : (scan : Scan) (t : FieldScanned) → Follows scan t → scan.mode ≡ opens.Free → Follows (passed scan 0) t
+free_start scan t follows free =
+    let mode : plain modes.Free ≡ t.mode = ap mode_from (sym free) ∙ follows.mode in
+    let none : t.held ≡ [] = subst (λ (m : FieldMode). HoldsCode m t.held) (sym mode) follows.holds in
+    let far : scan.stop ≡ scan.stop + 0 = omega arith in
+    let start : scan.start ≡ scan.stop + 0 =
+    follows.start ∙ ap byte_len (sym (append-nil (before (text_place t.mode) t.outer ++ spelled t.done)) ∙ append_assoc _ (spelled t.done) [])
+    ∙ ap (λ h. byte_len (before (text_place t.mode) t.outer ++ (spelled t.done ++ h))) (sym none) ∙ sym follows.stop ∙ far in
+    transport (λ i. Follows (record scan { mode = free i; start = start i; stop = far i }) t) follows
 
 -- code of a field: its first bytes, up to a sign
 pub holds_code : (first : Scan) (bytes : List ℕ) (all len : ℕ) → first.mode ≡ opens.Free → has_field first.frames ≡ true
-    → IsRunOf is_code_byte bytes all → IsOperatorEnd (take all bytes) len → 0 < len → HoldsField first bytes len (passed first len)
-holds_code first bytes all len free field run end some =
+    → IsRunOf is_code_byte bytes all → IsOperatorEnd (take all bytes) len → HoldsField first bytes len (passed first len)
+holds_code first bytes all zero free field run end = λ t follows.
+    (record { run = []; spell = refl; scalars = refl; size = refl; comes = free_start first t follows free }, tt)
+holds_code first bytes all (suc n) free field run end =
+    let len : ℕ = suc n in
     let least : len ≤ all = omega (arith, end.0, length-take-le all bytes run.within) in
     let short : len ≤ length bytes = omega (arith, least, run.within) in
     let code : list_all is_code_byte (take len bytes) ≡ true = all_pass is_code_byte bytes len short (λ i early. run.each i (omega (arith, early, least))) in
-    let same : over_code first (take len bytes) ≡ passed first len = ap (over_code first) (sym (take-take len all bytes least)) ∙ over_operator first (take all bytes) len end some in
+    let same : over_code first (take len bytes) ≡ passed first len = ap (over_code first) (sym (take-take len all bytes least)) ∙ over_operator first (take all bytes) len end (omega arith) in
     holds_run first (passed first len) bytes len (take len bytes) (spells_ascii is_code_byte bytes len short (λ c h. plain_low c (code_plain c h).0) code) (λ t follows.
     let r = code_run is_code_byte first.frames (λ c h. let is = code_plain c h in (is.0, and_right (has_field first.frames) _ is.1)) first t (take len bytes) refl (ap is_code_open free) follows code in
     (r.to, r.goes, r.keeps field, subst (λ (s : Scan). Follows s r.to) same r.follows))

@@ -1,25 +1,30 @@
 -- What the bytes with which a string's text goes on do to it, item after item.
-use Rattle.std.proofs.Common.{◌≡◌, ℕ, ◌<◌, Bool, true, false, not, ◌&&◌, ◌==◌, Option, None, Some, List, [], ◌∷◌, ◌++◌, ◌+◌, length, drop, slice_index, refl, sym, ap, ◌∙◌, subst, arith, append_assoc, append-nil, inl, inr, ◌⊎◌}
+use Rattle.std.proofs.Common.{◌≡◌, ℕ, ◌<◌, ◌≤◌, Bool, true, false, not, ◌&&◌, ◌==◌, Option, None, Some, List, [], ◌∷◌, ◌++◌, ◌+◌, length, drop, slice_index, refl, sym, ap, ◌∙◌, subst, arith, append_assoc, append-nil, inl, inr, ◌⊎◌}
 use Rattle.std.specs.Prelude.{encode_utf8, encode_utf8_all, nat_lt, if◌then◌else◌}
 use Rattle.std.specs.List.{list_all}
 use Rattle.std.specs.Char.{len_utf8}
 use Rattle.std.specs.Str.{StartsWithNoChar}
-use Rattle.std.proofs.Math.Seq.{drop-append_seam}
-use Rattle.std.proofs.lemmas.List.{length_push}
+use Rattle.std.proofs.Math.Seq.{drop-append_seam, drop-cons}
+use Rattle.std.proofs.lemmas.List.{drop_all, length_push}
 use Rattle.std.proofs.lemmas.Bool.{and_from, cond_both, both_ways, eq-eqb, eqb-true, ltb-true, ltb-false, or_right}
 use Rattle.std.proofs.lemmas.Str.{encode_ascii, len_utf8_ascii, len_utf8_bounds}
-use Rattle.py_lines.specs.Character.{is_backslash, is_break, is_quote}
+use Rattle.py_lines.specs.Character.{is_backslash, is_brace, is_break, is_quote, is_return}
+use Rattle.py_lines.specs.FieldStrings.{literal}
 use Rattle.py_lines.specs.declared.host.StringWithFields.{StringWithFields}
 use Rattle.py_lines.specs.declared.host.Region.{Region}
+use Rattle.py_lines.specs.declared.host.Region.TheVariants as regions
 use Rattle.py_lines.specs.declared.mode.Mode.{Mode as OpenMode}
 use Rattle.py_lines.specs.declared.mode.Mode.TheVariants as opens
-use Rattle.py_lines.specs.Private.FieldMachine.{FieldMode, closing_move, text_place}
+use Rattle.py_lines.specs.declared.string_text.TextMove.{TextMove}
+use Rattle.py_lines.specs.declared.string_text.TextMove.TheVariants as text_moves
+use Rattle.py_lines.specs.Private.FieldMachine.{At, FieldMode, after_brace, after_name, after_slash, between, between_move, body, body_move, closing_move, escape_move, field_move, grows, is_barred_escape, text_place}
 use Rattle.py_lines.specs.Private.Run.{BeginsWith}
-use Rattle.py_lines.specs.Private.Scan.{BreaksInText, GrowsInText, HasQuote, IsTextAt, QuotesInText, TextAlike, TextAs, TextGoes, WaitsInText, escape_in, is_part_of_text, is_pending, is_text, mode_from, quotes_in}
-use Rattle.py_lines.proofs.Text.CharacterTests.{the_one}
+use Rattle.py_lines.specs.Private.Scan.{BreaksInText, DoesText, GrowsInText, HasQuote, IsTextAt, QuotesInText, TextAlike, TextAs, TextGoes, WaitsInText, WouldDo, escape_in, host_in, region_in, is_part_of_text, is_pending, is_text, mode_from, quotes_in}
+use Rattle.py_lines.proofs.Text.CharacterTests.{not_quote, the_one}
 use Rattle.py_lines.proofs.Text.Utf8Prefixes.{nothing_bad}
+use Rattle.py_lines.proofs.FieldMachine.StringParts.{open_moves, slash_grows}
 use Rattle.py_lines.proofs.FieldScans.Bytes.{byte_len-one}
-use Rattle.py_lines.proofs.FieldScans.StringTexts.{EscapesBy, IsAtQuote, TakesQuotes, break_refused, other_grows, pending_text, quote_closes, quotes_apart, quotes_long, returned, slashed, text_as-self, text_at, text_mode, with_one}
+use Rattle.py_lines.proofs.FieldScans.StringTexts.{EscapesBy, HasNoName, IsAtQuote, TakesQuotes, body_alike, body_escapes, break_refused, not_barred, other_grows, pending_text, quote_closes, quotes_apart, quotes_long, returned, slashed, text_as-self, text_at, text_mode, the_low, waits_not, with_one}
 use Rattle.py_lines.proofs.LineScan.AsciiRuns.{is_low, is_low_from, low_encodes, low_is, quote_ascii, break_low}
 
 -- characters of ASCII by which the text grows
@@ -86,9 +91,11 @@ Comes mode bytes (Some n) = GrowsInText (mode_from mode) bytes mode n
 
 -- so quotes, three of which close a long string
 abbrev pub QuotesCome : OpenMode → List ℕ → Option ℕ → Type 0
-QuotesCome mode bytes None = WaitsInText (mode_from mode) bytes
-QuotesCome mode bytes (Some n) =
-    ((n ≡ 3) × QuotesInText (mode_from mode) bytes n (closing_move (text_place (mode_from mode)))) ⊎ ((n ≡ 3 → ⊥) × GrowsInText (mode_from mode) bytes mode n)
+QuotesCome mode bytes o =
+    (o ≡ Some 3 → QuotesInText (mode_from mode) bytes 3 (closing_move (text_place (mode_from mode)))) × ((o ≡ Some 3 → ⊥) → Comes mode bytes o)
+
+fewer_come : (mode : OpenMode) (bytes : List ℕ) (o : Option ℕ) → (o ≡ Some 3 → ⊥) → Comes mode bytes o → QuotesCome mode bytes o
+fewer_come mode bytes o other come = (λ three. absurd (other three), λ none. come)
 
 module _ (mode : OpenMode) (q : ℕ) (quotes : is_quote q ≡ true) (at : IsTextAt (mode_from mode) q true q) where
   abbrev m : FieldMode
@@ -107,25 +114,31 @@ module _ (mode : OpenMode) (q : ℕ) (quotes : is_quote q ≡ true) (at : IsText
   goes_two : TextGoes m (q ∷ q ∷ []) (with_one (with_one m))
   goes_two = (with_one m, takes.first, (with_one (with_one m), takes.second, refl))
 
-  grows_by : (to : FieldMode) (run : List ℕ) → list_all is_low run ≡ true → 0 < length run → TextGoes m run to → (c : ℕ) (rest : List ℕ) → (length run ≡ 3 → ⊥) → TextAlike c to m
-      → QuotesCome mode (run ++ c ∷ rest) (Some (length run))
-  grows_by to run all some goes c rest other alike = inr (other, grows_low m to mode run (c ∷ rest) (text_mode mode q true q at quotes) all some goes alike)
+  grows_by : (to : FieldMode) (run : List ℕ) → list_all is_low run ≡ true → 0 < length run → TextGoes m run to → (c : ℕ) (rest : List ℕ)
+      → (Some (length run) ≡ Some 3 → ⊥) → TextAlike c to m → QuotesCome mode (run ++ c ∷ rest) (Some (length run))
+  grows_by to run all some goes c rest other alike =
+      fewer_come mode _ _ other (grows_low m to mode run (c ∷ rest) (text_mode mode q true q at quotes) all some goes alike)
 
-  waits_by : (to : FieldMode) (run : List ℕ) → list_all is_low run ≡ true → TextGoes m run to → is_part_of_text true q run ≡ true → WaitsInText m (run ++ [])
-  waits_by to run all goes part = waits_low m to run [] all nothing_bad goes (λ other same. pending_text other m q true q run at part same)
+  waits_by : (to : FieldMode) (run : List ℕ) → list_all is_low run ≡ true → TextGoes m run to
+      → is_part_of_text true q run ≡ true → QuotesCome mode (run ++ []) None
+  waits_by to run all goes part = fewer_come mode _ None (λ is. absurd (cc))
+      (waits_low m to run [] all nothing_bad goes (λ other same. pending_text other m q true q run at part same))
 
   come_so : (more : List ℕ) → QuotesCome mode (q ∷ more) (quotes_in (q ∷ more))
   come_so = let one : list_all is_low (q ∷ []) ≡ true = and_from _ _ low refl in
       let two : list_all is_low (q ∷ q ∷ []) ≡ true = and_from _ _ low one in let same : q == q ≡ true = eq-eqb q q refl in
       by_quotes q (QuotesCome mode) (waits_by (with_one m) (q ∷ []) one goes_one (or_right (is_backslash q) _ same))
       (waits_by (with_one (with_one m)) (q ∷ q ∷ []) two goes_two (or_right _ _ (and_from _ _ same same)))
-      (λ c rest other. grows_by (with_one m) (q ∷ []) one (omega arith) goes_one c rest (λ is. omega (arith, is)) (quotes_apart m q c at quotes other).0)
-      (λ c rest other. grows_by (with_one (with_one m)) (q ∷ q ∷ []) two (omega arith) goes_two c rest (λ is. omega (arith, is)) (quotes_apart m q c at quotes other).1)
-      (λ rest. inl (refl, closes_by m (with_one (with_one m)) q (q ∷ q ∷ []) rest quotes (inr refl) goes_two takes.third))
+      (λ c rest other. grows_by (with_one m) (q ∷ []) one (omega arith) goes_one c rest (λ is. absurd (cc)) (quotes_apart m q c at quotes other).0)
+      (λ c rest other. grows_by (with_one (with_one m)) (q ∷ q ∷ []) two (omega arith) goes_two c rest (λ is. absurd (cc))
+      (quotes_apart m q c at quotes other).1)
+      (λ rest. (λ is. closes_by m (with_one (with_one m)) q (q ∷ q ∷ []) rest quotes (inr refl) goes_two takes.third, λ other. absurd (other refl)))
 
-pub quotes_come : (mode : OpenMode) (q : ℕ) (bytes : List ℕ) → is_quote q ≡ true → BeginsWith bytes q → IsTextAt (mode_from mode) q true (slice_index bytes 0) → QuotesCome mode bytes (quotes_in bytes)
-quotes_come mode q bytes quotes next at =
-    subst (λ t. QuotesCome mode t (quotes_in t)) (first_is bytes q (quote_ascii q quotes) next) (come_so mode q quotes (text_at (mode_from mode) q true bytes q next at) (drop 1 bytes))
+pub quotes_come : (mode : OpenMode) (q c : ℕ) (long : Bool) (bytes : List ℕ) → is_quote q ≡ true → BeginsWith bytes c → c ≡ q → long ≡ true
+    → IsTextAt (mode_from mode) q long (slice_index bytes 0) → QuotesCome mode bytes (quotes_in bytes)
+quotes_come mode q c long bytes quotes next same is at = let first : BeginsWith bytes q = subst (BeginsWith bytes) same next in
+    subst (λ t. QuotesCome mode t (quotes_in t)) (first_is bytes q (quote_ascii q quotes) first)
+    (come_so mode q quotes (text_at (mode_from mode) q true bytes q first (rw (← is) at)) (drop 1 bytes))
 
 -- a backslash and what it escapes
 module _ (mode : OpenMode) (q : ℕ) (long : Bool) (text : (is_text mode ≡ true) × HasQuote mode) (pending : (run : List ℕ) → is_part_of_text long q run ≡ true → (other : OpenMode) → mode_from other ≡ mode_from mode → is_pending other run ≡ true) where
@@ -176,3 +189,132 @@ grows_other mode q long c bytes quotes next other slash break at = let here = te
       goes,
       text_as-self (drop (len_utf8 c) bytes) (mode_from mode),
     )
+
+-- In a string with fields: a `{` of the literal part, which bytes follow that tell no character, or another one
+module _ (h : StringWithFields) (quotes : is_quote h.quote ≡ true) where
+  opened : FieldMode
+  opened = body (host_in h) literal false after_brace
+
+  opens_so : field_move (text_in h regions.Literal false) [] 123 ≡ grows opened
+  unfolding field_move body_move opened
+  opens_so = open_moves (host_in h) literal between quotes
+
+  pending_brace : (mode : OpenMode) → mode_from mode ≡ text_in h regions.Literal false → is_pending mode (123 ∷ []) ≡ true
+  pending_brace (opens.Fields own regions.Literal false) same = refl
+  pending_brace other same = absurd (cc)
+
+  pub waits_brace : (rest : List ℕ) → StartsWithNoChar rest → WaitsInText (text_in h regions.Literal false) (123 ∷ rest)
+  waits_brace rest none = waits_low (text_in h regions.Literal false) opened (123 ∷ []) rest refl none (opened, opens_so, refl) pending_brace
+
+  pub grows_braces : (rest : List ℕ) → GrowsInText (text_in h regions.Literal false) (123 ∷ 123 ∷ rest) (opens.Fields h regions.Literal false) 2
+  unfolding field_move body_move opened
+  grows_braces rest = let text = text_in h regions.Literal false in
+      grows_low text text (opens.Fields h regions.Literal false) (123 ∷ 123 ∷ []) rest (refl, quotes) refl (omega arith)
+      (opened, opens_so, (text, refl, refl)) (text_as-self rest text)
+
+-- a `}` that stands for itself
+pub end_grows : (h : StringWithFields) (region : Region) (named : Bool) (bytes : List ℕ) → is_quote h.quote ≡ true → slice_index bytes 0 ≡ 125
+    → (region ≡ regions.Specification → ⊥) ⊎ (named ≡ true) → GrowsInText (text_in h region named) bytes (opens.Fields h region false) 1
+unfolding field_move body_move between_move is_backslash is_break is_quote
+end_grows h region named bytes quotes first stays = let text = text_in h region false in
+    subst (λ t. GrowsInText (text_in h region named) t (opens.Fields h region false) 1) (first_byte_at bytes 125 first (omega arith))
+    (grows_low (text_in h region named) text (opens.Fields h region false) (125 ∷ []) (drop 1 bytes) (refl, quotes) refl (omega arith)
+    (text, ends region stays, refl) (text_as-self (drop 1 bytes) text))
+  where
+    ends : (region : Region) → (region ≡ regions.Specification → ⊥) ⊎ (named ≡ true)
+        → field_move (text_in h region named) [] 125 ≡ grows (text_in h region false)
+    ends regions.Literal stays = rw (not_quote 125 h.quote quotes refl)
+    ends regions.Specification (inl other) = absurd (other refl)
+    ends regions.Specification (inr is) = rw (is, not_quote 125 h.quote quotes refl)
+
+-- where what would close a string does
+pub does_so : (m : FieldMode) (bytes : List ℕ) (r : TextMove) → ((n : ℕ) → r ≡ text_moves.Closes n → text_place m ≡ literal) → WouldDo m bytes r
+    → DoesText m bytes r
+does_so m bytes (text_moves.Closes n) place does = subst (λ p. QuotesInText m bytes n (closing_move p)) (place n refl) does
+does_so m bytes r place does = does
+
+-- where a line end may stand after a backslash
+may_escape : (h : StringWithFields) (region : Region) (c : ℕ) → (is_break c ≡ true → region ≡ regions.Specification → h.is_long ≡ true)
+    → is_barred_escape (host_in h) (region_in region) c ≡ false
+may_escape h regions.Literal c long = refl
+may_escape h regions.Specification c long = let long_so : is_break c ≡ true → h.is_long ≡ true = λ is. long is refl in grind arith
+
+-- in the text of this string, where a backslash stands first
+module _ (h : StringWithFields) (region : Region) (named : Bool) (bytes : List ℕ) (slash : is_backslash (slice_index bytes 0) ≡ true)
+    (quotes : is_quote h.quote ≡ true) where
+  abbrev mode : OpenMode
+  mode = opens.Fields h region named
+
+  abbrev at : At → FieldMode
+  at place = body (host_in h) (region_in region) named place
+
+  goes : field_move (at between) [] 92 ≡ grows (at after_slash)
+  unfolding field_move body_move is_backslash
+  goes = slash_grows (host_in h) (region_in region) named between 92 quotes refl
+
+  one_byte : 92 ∷ drop 1 bytes ≡ bytes
+  unfolding is_backslash
+  one_byte = first_byte_at bytes 92 (the_one 92 (slice_index bytes 0) slash) (omega arith)
+
+  two_bytes : 2 ≤ length bytes → 92 ∷ slice_index bytes 1 ∷ drop 2 bytes ≡ bytes
+  two_bytes some = ap (λ t. 92 ∷ t) (sym (drop-cons bytes 1 0 some)) ∙ one_byte
+
+  -- what doesn't tell yet
+  pending : (run : List ℕ) → is_part_of_text h.is_long h.quote run ≡ true
+      → (other : OpenMode) → mode_from other ≡ at between → is_pending other run ≡ true
+  unfolding is_backslash
+  pending run part other same = pending_text other (at between) h.quote h.is_long 0 run (refl, refl, refl, refl, refl) part same
+
+  -- before a brace, which keeps its meaning
+  pub grows_slash : 2 ≤ length bytes → slice_index bytes 1 < 128 → is_brace (slice_index bytes 1) ≡ true → GrowsInText (at between) bytes mode 1
+  unfolding body_move escape_move
+  grows_slash some low brace = subst (λ t. GrowsInText (at between) t mode 1) (two_bytes some)
+      (grows_low (at between) (at after_slash) mode (92 ∷ []) (slice_index bytes 1 ∷ drop 2 bytes) (refl, quotes) refl (omega arith)
+      (at after_slash, goes, refl) (body_alike (slice_index bytes 1) (host_in h) (region_in region) named after_slash refl
+      (λ c first. rw (ap is_brace (the_low (slice_index bytes 1) c low first) ∙ brace) refl)))
+
+  -- before a line end, where none may stand
+  pub breaks_escape : 2 ≤ length bytes → is_brace (slice_index bytes 1) ≡ false → is_break (slice_index bytes 1) ≡ true
+      → region ≡ regions.Specification → h.is_long ≡ false → BreaksInText (at between) bytes
+  unfolding field_move body_move escape_move
+  breaks_escape some brace break same long = record {
+    run = 92 ∷ [];
+    c = slice_index bytes 1;
+    after = drop 2 bytes;
+    spell = two_bytes some;
+    first = inr refl;
+    breaking = break;
+    to = at after_slash;
+    goes = (at after_slash, goes, refl);
+    does = rw (brace, same, break, long) refl;
+    waits = waits_not (host_in h) (region_in region) named after_slash refl;
+  }
+
+  -- before `N`
+  name_goes : h.is_raw ≡ false → field_move (at after_slash) [] 78 ≡ grows (at after_name)
+  unfolding field_move body_move escape_move is_brace is_break is_return
+  name_goes raw = rw (not_barred (host_in h) (region_in region) 78 refl, raw)
+
+  pub grows_name : 2 < length bytes → h.is_raw ≡ false → slice_index bytes 1 ≡ 78 → slice_index bytes 2 ≡ 123
+      → GrowsInText (at between) bytes (opens.Fields h region true) 3
+  unfolding body_move field_move
+  grows_name some raw name brace = let to = mode_from (opens.Fields h region true) in
+      let spell : 92 ∷ 78 ∷ 123 ∷ drop 3 bytes ≡ bytes = rw (← name, ← brace, ← drop-cons bytes 2 0 some) (two_bytes (omega (arith, some))) in
+      subst (λ t. GrowsInText (at between) t (opens.Fields h region true) 3) spell
+      (grows_low (at between) to (opens.Fields h region true) (92 ∷ 78 ∷ 123 ∷ []) (drop 3 bytes) (refl, quotes) refl (omega arith)
+      (at after_slash, goes, (at after_name, name_goes raw, (to, refl, refl))) (text_as-self (drop 3 bytes) to))
+
+  pub waits_name : 2 ≤ length bytes → length bytes < 3 → h.is_raw ≡ false → slice_index bytes 1 ≡ 78 → WaitsInText (at between) bytes
+  unfolding is_backslash
+  waits_name some fewer raw name =
+      let spell : 92 ∷ 78 ∷ [] ≡ bytes = rw (← name, ← drop_all 2 bytes (omega (arith, fewer))) (two_bytes some) in
+      subst (WaitsInText (at between)) spell (waits_low (at between) (at after_name) (92 ∷ 78 ∷ []) [] refl nothing_bad
+      (at after_slash, goes, (at after_name, name_goes raw, refl)) (pending (92 ∷ 78 ∷ []) refl))
+
+  -- before another byte, or none
+  pub escapes : (o : Option ℕ) → o ≡ escape_in bytes → is_brace (slice_index bytes 1) ≡ false
+      → (is_break (slice_index bytes 1) ≡ true → region ≡ regions.Specification → h.is_long ≡ true)
+      → HasNoName (host_in h) (slice_index bytes 1) (drop 2 bytes) → Comes mode bytes o
+  unfolding is_backslash
+  escapes o is brace long no_name = rw is (escapes_come mode h.quote h.is_long 0 bytes (refl, refl, refl, refl, refl) quotes slash
+      (body_escapes (host_in h) (region_in region) named _ (drop 2 bytes) quotes brace (may_escape h region (slice_index bytes 1) long) no_name))

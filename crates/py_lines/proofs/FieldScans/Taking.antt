@@ -18,11 +18,11 @@ use Rattle.py_lines.specs.Character.{is_line_feed, is_break, is_return}
 use Rattle.py_lines.specs.LogicalLine.{byte_len}
 use Rattle.py_lines.specs.Private.Mode as modes
 use Rattle.py_lines.specs.Private.Machine.{move_of, Mode, Start, Start as starts, start_of}
-use Rattle.py_lines.specs.Private.FieldMachine.{FieldMode, FieldScanned, Level, field_move, field_state, frames, plain, room_step, FieldMove, closes, body, field_fresh, field_moved, before, has_room_at, roomy, grows, breaks, field_class_of, field_closed, field_started, text_place, field_pieces}
+use Rattle.py_lines.specs.Private.FieldMachine.{FieldMode, FieldScanned, Level, field_move, field_state, frames, plain, room_step, FieldMove, closes, field_fresh, field_moved, before, has_room_at, roomy, grows, breaks, field_class_of, field_closed, field_started, text_place, field_pieces}
 use Rattle.py_lines.specs.Private.FieldFaults.{here, cause_in, cause_place}
-use Rattle.py_lines.specs.Private.Scan.{ComesTo, EndsThere, EndsWithFeed, Follows, GoAlike, Goes, IsFirstByte, IsOneItem, IsWrongIn, Rests, StandsAs, Steps, IsFieldFault, ends_line, has_returned, is_return_at, mode_from, FramesFollow, GoesOver, HasQuote, HoldsCode, IsPlaced, TakesOne, is_line_ending, is_ending}
+use Rattle.py_lines.specs.Private.Scan.{ComesTo, EndsThere, EndsWithFeed, Follows, GoAlike, Goes, IsFirstByte, IsOneItem, IsWrongIn, Rests, StandsAs, Steps, IsFieldFault, ends_line, has_returned, is_return_at, mode_from, FramesFollow, GoesOver, HasQuote, HoldsCode, TakesOne, is_line_ending, is_ending}
 use Rattle.py_lines.specs.Balance.{is_opening}
-use Rattle.py_lines.specs.FieldStrings.{literal, specification}
+use Rattle.py_lines.specs.FieldStrings.{literal}
 use Rattle.py_lines.specs.declared.frames.Frame.{Frame}
 use Rattle.py_lines.specs.Private.Run.{BeginsWith}
 use Rattle.py_lines.proofs.Text.CharacterTests.{operator_ascii, each_of}
@@ -265,7 +265,7 @@ freed old = record old { mode = opens.Free; start = old.stop }
 -- the innermost list goes on where the scan has come to
 pub follows_free : (made : Scan) (outer : List Level) (done : List Piece) (openers : List ℕ) → FramesFollow outer done openers made.frames → made.stop ≡ byte_len (before literal outer ++ spelled done) → Follows (freed made) (field_fresh outer done openers)
 follows_free made outer done openers follow at =
-    record { mode = refl; holds = refl; no_list = tt; quote = tt; placed = tt; start = at; frames = follow; stop = at ∙ ap (λ x. byte_len (before literal outer ++ x)) (sym (append-nil (spelled done))) }
+    record { mode = refl; holds = refl; no_list = tt; quote = tt; start = at; frames = follow; stop = at ∙ ap (λ x. byte_len (before literal outer ++ x)) (sym (append-nil (spelled done))) }
 
 -- the byte after one more piece, of one character
 pub piece_after : (stop : ℕ) (outer : List Level) (done : List Piece) (class : Class) (c : ℕ) → stop ≡ byte_len (before literal outer ++ spelled done) → stop + len_utf8 c ≡ byte_len (before literal outer ++ spelled (done ++ piece class (c ∷ []) ∷ []))
@@ -293,19 +293,13 @@ pub stands_at : (scan : Scan) (t : FieldScanned) → Follows scan t → text_pla
 stands_at scan t follow place = let ends = follow.stop ∙ ap (λ p. byte_len (before p t.outer ++ (spelled t.done ++ t.held))) place in
     search (place, follow.frames, follow.start ∙ ap (λ p. byte_len (before p t.outer ++ spelled t.done)) place, ends)
 
--- the text of a specification stands in its field, wherever its text is
-pub placed_at : (m n : FieldMode) (fs : List Frame) → text_place n ≡ text_place m → IsPlaced m fs → IsPlaced n fs
-placed_at (body h specification b a) (body host specification named at) fs same placed = placed
-placed_at m (body host specification named at) fs same placed = absurd (cc)
-placed_at m n fs same placed = tt
-
 -- the scan that follows there
 pub follows_at : (t : FieldScanned) (fs : List Frame) (start stop : ℕ) (code : OpenMode) → StandsAt t fs start stop → mode_from code ≡ t.mode → HoldsCode t.mode t.held → HasQuote code
     → Follows (record { mode = code; start = start; frames = fs; stop = stop }) t
 follows_at t fs start stop code at mode holds quote =
     let begins = at.begins ∙ ap (λ p. byte_len (before p t.outer ++ spelled t.done)) (sym at.place) in
     let ends = at.ends ∙ ap (λ p. byte_len (before p t.outer ++ (spelled t.done ++ t.held))) (sym at.place) in
-    search (mode, holds, quote, at.frames, list_at (plain modes.Free) t.mode t.done t.openers at.place tt, placed_at (plain modes.Free) (mode_from code) fs (ap text_place mode ∙ at.place) tt, begins, ends)
+    search (mode, holds, quote, at.frames, list_at (plain modes.Free) t.mode t.outer t.done t.openers at.place tt, begins, ends)
 
 module _ (t : FieldScanned) (fs : List Frame) (start stop : ℕ) (at : StandsAt t fs start stop) (c : ℕ) where
   -- the open piece grows

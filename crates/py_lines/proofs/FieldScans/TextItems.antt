@@ -13,13 +13,13 @@ use Rattle.py_lines.specs.Private.Mode as modes
 use Rattle.py_lines.specs.Private.Machine.{move_of, short_move, long_move, Move as moves}
 use Rattle.py_lines.specs.Private.FieldMachine.{after_slash, between_move, body_move, escape_move, FieldMode, FieldMove, FieldScanned, Level, plain, body, grows, closes, breaks, ends_field, before, field_class_of, field_closed, field_move, field_moved, field_state, frames, has_room_at, room_step, roomy, text_place, refused}
 use Rattle.py_lines.specs.Private.FieldFaults.{cause_in, cause_place, here, piece_start, field_start}
-use Rattle.py_lines.specs.Private.Scan.{GoAlike, Goes, IsFirstByte, IsOneItem, StandsAs, TextAs, TextGoes, is_break_move, is_line_ending, is_return_at, is_shut, is_text, mode_from, BreaksInText, Follows, GoesOver, GoesOverAll, GrowsInText, HasPending, HasQuote, HoldsCode, IsFieldFault, IsPlaced, IsWrongIn, QuotesInText, Rests, WaitsInText, has_returned, passed}
+use Rattle.py_lines.specs.Private.Scan.{GoAlike, Goes, IsFirstByte, IsOneItem, StandsAs, TextAs, TextGoes, is_break_move, is_line_ending, is_return_at, is_shut, is_text, mode_from, BreaksInText, Follows, GoesOver, GoesOverAll, GrowsInText, HasPending, HasQuote, HoldsCode, IsFieldFault, IsWrongIn, QuotesInText, Rests, WaitsInText, has_returned, passed}
 use Rattle.py_lines.specs.declared.mode.Mode.{Mode as OpenMode}
 use Rattle.py_lines.specs.declared.mode.Mode.TheVariants as opens
 use Rattle.py_lines.proofs.Pieces.PieceLists.{piece}
 use Rattle.py_lines.proofs.FieldMachine.Runs.{room_grows}
 use Rattle.py_lines.proofs.FieldScans.Moves.{list_at}
-use Rattle.py_lines.proofs.FieldScans.Taking.{Shut, placed_at, StandsAt, by_line, by_room, free_at, goes_on, steps, no_step, stands_at, stands_shut, rests_exact}
+use Rattle.py_lines.proofs.FieldScans.Taking.{Shut, StandsAt, by_line, by_room, free_at, goes_on, steps, no_step, stands_at, stands_shut, rests_exact}
 use Rattle.std.specs.Char.{len_utf8}
 use Rattle.std.specs.List.{list_all}
 use Rattle.std.proofs.lemmas.List.Folds.{list_all-append}
@@ -28,9 +28,7 @@ use Rattle.std.specs.Str.{all_scalars}
 use Rattle.std.proofs.Math.Utf8.{low_scalar}
 use Rattle.std.proofs.lemmas.Str.{encode_ascii, len_utf8_ascii}
 use Rattle.py_lines.specs.Balance.{is_closing, is_opening}
-use Rattle.py_lines.specs.Private.Frames.{InField}
 use Rattle.py_lines.specs.declared.fault.FaultKind.TheVariants as fault_kind
-use Rattle.py_lines.specs.declared.frames.Frame.{Frame}
 use Rattle.py_lines.specs.declared.scan.LineFault.{LineFault}
 use Rattle.py_lines.specs.declared.scan.Scan.{Scan}
 use Rattle.py_lines.proofs.Text.CharacterTests.{none_of}
@@ -227,10 +225,6 @@ quote-not-others : (q : ℕ) → is_quote q ≡ true → (is_break q ≡ false) 
 unfolding is_quote is_break is_closing is_opening
 quote-not-others q is = (none_of is_break (39 ∷ 34 ∷ []) q refl is, none_of is_closing (39 ∷ 34 ∷ []) q refl is, none_of is_opening (39 ∷ 34 ∷ []) q refl is)
 
-pub field_placed : (m : FieldMode) (fs : List Frame) → text_place m ≡ specification → IsPlaced m fs → InField fs
-field_placed (body host specification named at) fs is placed = placed
-field_placed m fs is placed = absurd (cc)
-
 -- the text of a string is open where the machine stands
 module _ (old : Scan) (t : FieldScanned) (follow : Follows old t) (is : is_text old.mode ≡ true) where
   pub text_open : InText t.mode
@@ -245,9 +239,8 @@ module _ (old : Scan) (t : FieldScanned) (follow : Follows old t) (is : is_text 
   text_follows mode run len text quote place size = record {
     mode = refl;
     holds = text_holds (mode_from mode) (t.held ++ run) (text_mode mode text);
-    no_list = list_at t.mode (mode_from mode) t.done t.openers place follow.no_list;
+    no_list = list_at t.mode (mode_from mode) t.outer t.done t.openers place follow.no_list;
     quote = quote;
-    placed = placed_at (mode_from old.mode) (mode_from mode) old.frames (place ∙ ap text_place (sym follow.mode)) follow.placed;
     start = follow.start ∙ ap (λ p. byte_len (before p t.outer ++ spelled t.done)) (sym place);
     frames = follow.frames;
     stop = more_bytes (before (text_place t.mode) t.outer) (spelled t.done) t.held run old.stop len follow.stop size ∙ ap (λ p. byte_len (before p t.outer ++ (spelled t.done ++ (t.held ++ run)))) (sym place);
@@ -326,6 +319,3 @@ module _ (old : Scan) (t : FieldScanned) (follow : Follows old t) (is : is_text 
   ends_specification_there bytes len place f q there at is_f = let other = quote-not-others q.quote q.is_one in
       refused_in bytes q.run (drop len bytes) q.quote q.to ends_specification f (quotes_low q.quote q.run q.is_one q.low) (quote_ascii q.quote q.is_one) q.spell q.goes q.does
       (rw (q.waits, other.0, q.apart, other.1, other.2, q.specified, there)) (ap (λ (g : LineFault). g.kind) is_f) (ap (λ (g : LineFault). g.place) is_f ∙ at)
-
-  pub in_field : text_place t.mode ≡ specification → InField old.frames
-  in_field there = field_placed (mode_from old.mode) old.frames (ap text_place follow.mode ∙ there) follow.placed

@@ -16,7 +16,7 @@ use Rattle.py_lines.specs.Private.FieldMachine.{At, FieldMode, between, after_br
 use Rattle.py_lines.specs.Private.Scan.{Goes, KeepsOpen, has_returned, is_return_at, is_shut}
 use Rattle.py_lines.specs.Private.FieldText.{is_apart_mode, is_escaped, InText, AtBrace, AtCode, InCode, StandsInCode, AtSpecification, Leads, level_after, is_code_mode, is_code_bracket}
 use Rattle.py_lines.specs.Private.Marks.{is_plain}
-use Rattle.py_lines.specs.Private.Run.{is_ascii_word, is_text_byte, is_body_byte, is_literal_byte, is_code_sign, is_code_byte}
+use Rattle.py_lines.specs.Private.Run.{is_ascii_word, is_text_byte, is_body_byte, is_line_byte, is_literal_byte, is_code_sign, is_code_byte}
 use Rattle.py_lines.proofs.Pieces.PieceLists.{piece}
 use Rattle.py_lines.proofs.Text.CharacterTests.{each_of, none_of, not_quote, operator_ascii, excluded}
 use Rattle.py_lines.proofs.Machine.Starts.{opens_no, start-word, start-space, start-operator, start-quote}
@@ -26,11 +26,11 @@ use Rattle.py_lines.proofs.FieldMachine.PieceRuns.{operator_stays}
 use Rattle.py_lines.proofs.FieldMachine.ListBrackets.{opening_pushes, closing_pops, others_keep}
 use Rattle.py_lines.proofs.FieldMachine.StringParts.{open_moves, other_escaped, second_brace, slash_grows}
 use Rattle.py_lines.proofs.FieldMachine.CodeRuns.{brace_ends, code_moves, colon_opens, end_moves}
-use Rattle.py_lines.proofs.FieldScans.PlainCode.{code_result, code_results, operator_is, plain_low, plain_operator, space_is, word_is}
+use Rattle.py_lines.proofs.FieldScans.PlainCode.{code_result, code_results, operator_is, plain_operator, space_is, word_is}
 use Rattle.py_lines.proofs.FieldScans.Returns.{no_line_end}
 use Rattle.py_lines.proofs.FieldScans.Taking.{goes_on, no_opening, some_level, steps}
 use Rattle.py_lines.proofs.FieldScans.Takes.{goes-append}
-use Rattle.py_lines.proofs.LineScan.AsciiRuns.{run_low, operator-no_break, word_starts, is_low, is_low_from, low_is, quote_ascii, quote-no_break, space-not-quote, word-no_break}
+use Rattle.py_lines.proofs.LineScan.AsciiRuns.{all_also, line_byte, operator-no_break, word_starts, low_is, quote_ascii, quote-no_break, space-not-quote, word-no_break}
 use Rattle.py_lines.proofs.LineScan.Runs.{body_parts}
 use Rattle.py_lines.proofs.FieldMachine.WholeRuns.{roomy_parts}
 use Rattle.py_lines.proofs.LogicalLines.Cuts.{break-return}
@@ -72,7 +72,7 @@ open-append t u v a b first second = (goes-append t u v a b first.0 second.0, ke
 
 pub leads-append : (quote : ℕ) (P Q R : Spot) (a b : List ℕ) → Leads quote P a Q → Leads quote Q b R → Leads quote P (a ++ b) R
 leads-append quote P Q R a b first second = record {
-  low = list_all-append is_low a b ∙ and_from _ _ first.low second.low;
+  low = list_all-append is_line_byte a b ∙ and_from _ _ first.low second.low;
   goes = λ outer l t same quotes room at.
       let (u, goes, keeps, to) = first.goes outer l t same quotes room at in let (v, on, more, end) = second.goes outer l u same quotes room to in
       let all = open-append t u v a b (goes, keeps) (on, more) in (v, all.0, all.1, end);
@@ -82,7 +82,7 @@ leads-append quote P Q R a b first second = record {
 abbrev Few : ℕ → List Level → Level → Type 0
 Few quote outer l = (l.host.quote ≡ quote) × (is_quote quote ≡ true) × (length l.openers + levels_open outer ≤ 100)
 
-leads_by : (quote : ℕ) (P Q : Spot) (run : List ℕ) → list_all is_low run ≡ true
+leads_by : (quote : ℕ) (P Q : Spot) (run : List ℕ) → list_all is_line_byte run ≡ true
     → ((outer : List Level) (l : Level) (t : FieldScanned) → Few quote outer l → P outer l t → (u : FieldScanned) × GoesOpen t run u × Q outer l u)
     → Leads quote P run Q
 leads_by quote P Q run low by = record {
@@ -90,8 +90,11 @@ leads_by quote P Q run low by = record {
   goes = λ outer l t same quotes room at. let (u, goes, to) = by outer l t (same, quotes, room) at in (u, goes.0, goes.1, to);
 }
 
-one_low : (c : ℕ) → c < 128 → list_all is_low (c ∷ []) ≡ true
-one_low c low = and_from _ _ (is_low_from c low) refl
+one_low : (c : ℕ) → c < 128 → is_break c ≡ false → list_all is_line_byte (c ∷ []) ≡ true
+one_low c low none = and_from _ _ (line_byte c low none) refl
+
+operator_line : (c : ℕ) → is_operator c ≡ true → list_all is_line_byte (c ∷ []) ≡ true
+operator_line c h = one_low c (operator_ascii c h) (operator-no_break c h)
 
 -- a run of characters each of which leads back
 leads-run : (passes : ℕ → Bool) (quote : ℕ) (P : Spot) → ((c : ℕ) → passes c ≡ true → Leads quote P (c ∷ []) P) → (run : List ℕ)
@@ -137,7 +140,7 @@ part_leads : (quote c : ℕ) (a b : At) → c < 128 → is_break c ≡ false
     → ((host : Host) (held : List ℕ) → host.quote ≡ quote → is_quote host.quote ≡ true → field_move (body host literal false a) held c ≡ grows (body host literal false b))
     → Leads quote (InPart a) (c ∷ []) (InPart b)
 part_leads quote c a b low none moves =
-    leads_by quote (InPart a) (InPart b) (c ∷ []) (one_low c low) (λ outer l t few (held, is).
+    leads_by quote (InPart a) (InPart b) (c ∷ []) (one_low c low none) (λ outer l t few (held, is).
     subst (λ x. (u : FieldScanned) × GoesOpen x (c ∷ []) u × InPart b outer l u) (sym is) (
       field_state outer l.done l.openers (body l.host literal false b) (held ++ c ∷ []),
       grows_to (field_state outer l.done l.openers (body l.host literal false a) held) c (body l.host literal false b) refl none (λ outside. refl) (moves l.host held few.0 (ap is_quote few.0 ∙ few.1)),
@@ -195,7 +198,7 @@ code_after quote Q c cs other leads =
 abbrev in_code : List Level → Level → List ℕ → List Piece → List ℕ → Mode → List ℕ → FieldScanned
 in_code outer l front done openers m held = field_state (level_after l front ∷ outer) done openers (plain m) held
 
-from_code : (passes : Mode → Bool) (os : List ℕ) (quote : ℕ) (run : List ℕ) (Q : Spot) → list_all is_low run ≡ true
+from_code : (passes : Mode → Bool) (os : List ℕ) (quote : ℕ) (run : List ℕ) (Q : Spot) → list_all is_line_byte run ≡ true
     → ((outer : List Level) (l : Level) (front : List ℕ) (done : List Piece) (held : List ℕ) (m : Mode) → passes m ≡ true → Few quote outer l → (u : FieldScanned) × GoesOpen (in_code outer l front done os m held) run u × Q outer l u)
     → Leads quote (StandsInCode passes os) run Q
 from_code passes os quote run Q low from =
@@ -226,6 +229,10 @@ operator_breaks m held c simple h = let is = operator_is c h in code_results m h
 pub code_plain : (c : ℕ) → is_code_byte c ≡ true → (is_plain c ≡ true) × (c == 58 ≡ false)
 unfolding is_plain is_ascii_word is_code_sign is_space is_operator is_opening is_closing
 code_plain c h = (grind (arith, nat_tests), grind (arith, nat_tests))
+
+code_line : (c : ℕ) → is_code_byte c ≡ true → is_line_byte c ≡ true
+unfolding is_ascii_word is_code_sign is_break
+code_line c h = grind (arith, nat_tests)
 
 -- the modes of code where a word may be open, or where none is
 abbrev pub passing : Bool → Mode → Bool
@@ -335,7 +342,8 @@ codes_go outer l front os word ps m held (c ∷ cs) simple all =
 pub codes_lead : (os : List ℕ) (quote : ℕ) (run : List ℕ) → list_all is_code_byte run ≡ true
     → Leads quote (AtCode os) run (StandsInCode (passing (ends_in_word false run)) os)
 codes_lead os quote run all =
-    from_code is_apart_mode os quote run (StandsInCode (passing (ends_in_word false run)) os) (run_low is_code_byte run (λ c h. plain_low c (code_plain c h).0) all) (λ outer l front done held m simple few.
+    from_code is_apart_mode os quote run (StandsInCode (passing (ends_in_word false run)) os) (all_also is_code_byte is_line_byte code_line run all)
+    (λ outer l front done held m simple few.
     let k = codes_go outer l front os false done m held run simple all in
     (in_code outer l front k.done os k.mode k.held, k.goes, record { front = front; done = k.done; mode = k.mode; held = k.held; is = refl; simple = k.simple }))
 
@@ -384,11 +392,13 @@ quote_breaks : (m : Mode) (held : List ℕ) (q : ℕ) → is_apart_mode m ≡ tr
 unfolding field_move move_of
 quote_breaks m held q apart quotes = grind (arith, excluded is_quote is_space q (space-not-quote q) quotes)
 
-string_low : (q : ℕ) (run : List ℕ) → is_quote q ≡ true → list_all (is_text_byte q) run ≡ true → list_all is_low (q ∷ (run ++ q ∷ [])) ≡ true
+string_low : (q : ℕ) (run : List ℕ) → is_quote q ≡ true → list_all (is_text_byte q) run ≡ true → list_all is_line_byte (q ∷ (run ++ q ∷ [])) ≡ true
 string_low q run quotes all =
-    let one = is_low_from q (quote_ascii q quotes) in
-    let text = run_low (is_text_byte q) run (λ c h. low_is c (and_parts (is_body_byte q c) (is_low c) h).1) all in
-    and_from _ _ one (list_all-append is_low run (q ∷ []) ∙ and_from _ _ text (and_from _ _ one refl))
+    let one = line_byte q (quote_ascii q quotes) (quote-no_break q quotes) in
+    let by : (c : ℕ) → is_text_byte q c ≡ true → is_line_byte c ≡ true = λ c h.
+    let is = and_parts (is_body_byte q c) (nat_lt c 128) h in line_byte c (low_is c is.1) (body_parts q c is.0).2 in
+    let text = all_also (is_text_byte q) is_line_byte by run all in
+    and_from _ _ one (list_all-append is_line_byte run (q ∷ []) ∙ and_from _ _ text (and_from _ _ one refl))
 
 pub string_leads : (os : List ℕ) (quote q : ℕ) (run : List ℕ) → is_quote q ≡ true → IsFull run → list_all (is_text_byte q) run ≡ true
     → Leads quote (AtCode os) (q ∷ (run ++ q ∷ [])) (AtCode os)
@@ -408,7 +418,7 @@ string_leads os quote q (d ∷ ds) quotes full all =
 operator_leads : (os after : List ℕ) (quote c : ℕ) → is_operator c ≡ true → openers_with os c ≡ Some after → (c == 58) && (length os == 0) ≡ false
     → ((n : ℕ) → n ≤ 101 → has_room_at (length os + n) c breaks ≡ true) → Leads quote (InCode os) (c ∷ []) (AtCode after)
 operator_leads os after quote c h stands colon rooms =
-    from_code is_code_mode os quote (c ∷ []) (AtCode after) (one_low c (operator_ascii c h)) (λ outer l front done held m simple few. (
+    from_code is_code_mode os quote (c ∷ []) (AtCode after) (operator_line c h) (λ outer l front done held m simple few. (
       field_fresh (level_after l front ∷ outer) (closed m done held ++ piece operator (c ∷ []) ∷ []) after,
       operator_goes outer l front os done m held simple c after h stands colon (rooms (length l.openers + levels_open outer + 1) (let room = few.2 in omega (arith, room))),
       record { front = front; done = closed m done held ++ piece operator (c ∷ []) ∷ []; mode = modes.Free; held = []; is = refl; simple = refl },
@@ -439,7 +449,7 @@ end_leads : (quote c : ℕ) (Q : Spot) (to : Level → List Level → List Piece
     → ((outer : List Level) (l : Level) (front : List ℕ) (ps : List Piece) → Q outer l (to (level_after l front) outer ps))
     → Leads quote (InCode []) (c ∷ []) Q
 end_leads quote c Q to h opens ends still there =
-    from_code is_code_mode [] quote (c ∷ []) Q (one_low c (operator_ascii c h)) (λ outer l front done held m simple few.
+    from_code is_code_mode [] quote (c ∷ []) Q (operator_line c h) (λ outer l front done held m simple few.
     let level = level_after l front in
     let ps : List Piece = closed m done held in (
       to level outer ps,
@@ -466,7 +476,7 @@ specified outer l front held = field_state (level_after l front ∷ outer) [] []
 specified_leads : (quote c : ℕ) → is_literal_byte quote c ≡ true → Leads quote AtSpecification (c ∷ []) AtSpecification
 specified_leads quote c h =
     let own = literal_parts quote c h in
-    leads_by quote AtSpecification AtSpecification (c ∷ []) (one_low c own.low) (λ outer l t few (front, held, is).
+    leads_by quote AtSpecification AtSpecification (c ∷ []) (one_low c own.low own.none) (λ outer l t few (front, held, is).
     subst (λ x. (u : FieldScanned) × GoesOpen x (c ∷ []) u × AtSpecification outer l u) (sym is) (
       specified outer l front (held ++ c ∷ []),
       grows_to (specified outer l front held) c (body l.host specification false between) refl own.none (λ outside. refl) (text_grows l.host quote c few.0 own held specification),

@@ -1,15 +1,14 @@
 -- Runs of bytes of ASCII, and what they begin.
 use Rattle.std.proofs.Common.{◌≡◌, ℕ, zero, suc, ◌<◌, ◌≤◌, Bool, true, false, List, [], ◌∷◌, ◌++◌, length, take, slice_index, refl, leb, ap, ◌∙◌, ◌||◌, ◌&&◌, ◌==◌, sym, arith, Fits, w8}
-use Rattle.std.specs.Prelude.{encode_utf8_all, codes, nat_lt, nat_le}
+use Rattle.std.specs.Prelude.{encode_utf8_all, codes, not, nat_lt, nat_le}
 use Rattle.std.specs.Str.{all_scalars}
 use Rattle.std.specs.List.{list_all}
 use Rattle.std.proofs.lemmas.Bool.{and_parts, and_from, leb-false, lt-ltb, ltb-true}
 use Rattle.std.proofs.lemmas.Str.{encode_ascii}
 use Rattle.std.proofs.Math.Utf8.{low_scalar}
 use Rattle.py_lines.specs.Character.{is_space, is_word_start, is_word_character, is_digit, is_quote, is_operator, is_break}
-use Rattle.py_lines.specs.declared.mode.Spelling.{Spelling}
-use Rattle.py_lines.specs.Private.Machine.{first_spelling, spelling_with, spelling_on, IsFull}
-use Rattle.py_lines.specs.Private.Run.{is_ascii_word, word_spelling}
+use Rattle.py_lines.specs.Private.Machine.{IsFull}
+use Rattle.py_lines.specs.Private.Run.{is_ascii_word, is_line_byte}
 use Rattle.py_lines.proofs.Text.CharacterTests.{none_of, excluded}
 use Rattle.unicode_ident.proofs.IdentLemmas.{is_xid_continue-ascii, is_xid_start-ascii}
 use Rattle.std.proofs.Math.Bool.{or_assoc, or_comm}
@@ -58,15 +57,7 @@ all_pass passes [] (suc n) within each = refl
 all_pass passes (b ∷ bs) (suc n) within each = and_from (passes b) (list_all passes (take n bs)) (each 0 (omega arith))
     (all_pass passes bs n (omega (arith, within)) (λ i less. each (suc i) (omega (arith, less))))
 
--- the spelling of a word with one more character
-pub spelling_push : (cs : List ℕ) (c : ℕ) → IsFull cs → word_spelling (cs ++ c ∷ []) ≡ spelling_with (word_spelling cs) c
-spelling_push [] c full = absurd full
-spelling_push (b ∷ bs) c full = go (first_spelling b) bs
-  where
-    go : (s : Spelling) (xs : List ℕ) → spelling_on s (xs ++ c ∷ []) ≡ spelling_with (spelling_on s xs) c
-    go s [] = refl
-    go s (x ∷ xs) = go (spelling_with s x) xs
-
+-- which holds some
 pub full_take : (bytes : List ℕ) (n : ℕ) → 1 ≤ n → n < length bytes → IsFull (take n bytes)
 full_take bytes zero some within = absurd (omega (arith, some))
 full_take [] (suc n) some within = absurd (omega (arith, within))
@@ -125,8 +116,15 @@ low_is c h = ltb-true c 128 h
 pub is_low_from : (c : ℕ) → c < 128 → nat_lt c 128 ≡ true
 is_low_from c h = lt-ltb c 128 h
 
-pub run_low : (passes : ℕ → Bool) (run : List ℕ) → ((c : ℕ) → passes c ≡ true → c < 128) → list_all passes run ≡ true → list_all is_low run ≡ true
-run_low passes [] low all = refl
-run_low passes (c ∷ cs) low all =
-    let parts = and_parts (passes c) (list_all passes cs) all in
-    and_from _ _ (is_low_from c (low c parts.0)) (run_low passes cs low parts.1)
+-- what passes one test passes another, where each number does
+pub all_also : (p q : ℕ → Bool) → ((c : ℕ) → p c ≡ true → q c ≡ true) → (cs : List ℕ) → list_all p cs ≡ true → list_all q cs ≡ true
+all_also p q each [] all = refl
+all_also p q each (c ∷ cs) all =
+    let parts = and_parts (p c) (list_all p cs) all in and_from (q c) (list_all q cs) (each c parts.0) (all_also p q each cs parts.1)
+
+-- ASCII on one line
+pub line_byte : (c : ℕ) → c < 128 → is_break c ≡ false → is_line_byte c ≡ true
+line_byte c low none = and_from _ _ (is_low_from c low) (ap not none)
+
+pub line_byte_low : (c : ℕ) → is_line_byte c ≡ true → c < 128
+line_byte_low c h = low_is c (and_parts (is_low c) (not (is_break c)) h).0

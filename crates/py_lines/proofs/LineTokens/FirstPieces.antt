@@ -1,46 +1,39 @@
 -- The piece that bytes begin with, where it is no string, as its line takes it: how long it is, and what tells a word from a prefix.
-use Rattle.std.proofs.Common.{◌≡◌, ℕ, zero, suc, ◌≤◌, Bool, true, false, Option, None, Some, List, [], ◌∷◌, ◌++◌, length, refl, ap, ◌∙◌, arith, zero-add, ⊎_elim, ◌+◌, ◌<◌, ◌⊎◌, inl, inr, ◌&&◌, drop, slice_index, sym, subst, take, append_assoc}
+use Rattle.std.proofs.Common.{◌≡◌, ℕ, zero, suc, ◌≤◌, Bool, true, false, List, [], ◌∷◌, ◌++◌, length, refl, ap, ◌∙◌, arith, zero-add, ⊎_elim, ◌+◌, ◌<◌, ◌⊎◌, inl, inr, ◌&&◌, drop, slice_index, sym, subst, take, append_assoc}
 use Rattle.std.specs.Prelude.{encode_utf8_all, not, codes, nat_le}
 use Rattle.std.specs.List.{list_all, list_any}
 use Rattle.std.specs.Char.{is_ascii_digit}
-use Rattle.std.specs.Option.{unwrap_or}
-use Rattle.std.proofs.lemmas.Bool.{and_from, and_parts, both_ways, cases_lt, false_from_ne_true, or_parts, or_cases}
-use Rattle.std.proofs.lemmas.List.{length-take-le, take-append-drop}
+use Rattle.std.proofs.lemmas.Bool.{and_from, and_parts, both_ways, cases_lt, or_parts, or_cases}
 use Rattle.std.proofs.Math.Utf8.{encode}
 use Rattle.std.proofs.lemmas.Bool.Decides.{nat_tests}
 use Rattle.std.proofs.lemmas.Str.{encodes-append}
-use Rattle.std.proofs.Math.Seq.{take-append_seam, drop-append_seam}
-use Rattle.py_lines.specs.Piece.{begins, Class, space, operator, comment, join, line_end, Piece, ends, spelled, word, string}
+use Rattle.std.proofs.Math.Seq.{take-append_seam, drop-append_seam, drop-cons}
+use Rattle.py_lines.specs.Piece.{begins, Class, is_mark_class, mark, space, operator, comment, join, line_end, Piece, ends, spelled, word, string}
 use Rattle.py_lines.specs.Character.{is_break, is_line_feed, is_return, is_space, is_digit, is_quote, is_word_character, is_word_start}
 use Rattle.py_lines.specs.PieceGrammar.{IsLineEnd, feed, return_feed, return}
 use Rattle.py_lines.specs.Fields.{InClass, MayPrecede, fielded}
 use Rattle.py_lines.specs.LogicalLine.{byte_len, first_or_zero, line_ends}
 use Rattle.py_lines.specs.declared.token.TokKind.TheVariants as kind
 use Rattle.py_lines.specs.declared.line_tokens.Role.TheVariants as roles
-use Rattle.py_lines.specs.declared.line_tokens.LinePiece.{LinePiece}
+use Rattle.py_lines.specs.declared.line_tokens.Role.{Role}
 use Rattle.py_lines.specs.declared.class.Class.TheVariants as class
 use Rattle.py_lines.specs.declared.token.TokKind.{TokKind}
 use Rattle.py_lines.specs.Private.Run.{IsRunOf, is_comment_byte, is_ascii_word, is_wide_word, word_spelling}
-use Rattle.py_lines.specs.Private.LineTokens.{BeginWithPiece, IsTakenFor, line_end_len, role_of, token_piece, ends_prefix, word_kind}
-use Rattle.py_lines.specs.Private.LineEnds.{BeginOther, HasOuterEnd, IsOuterEnd}
+use Rattle.py_lines.specs.Private.LineTokens.{BeginWithPiece, IsTakenFor, ends_in, line_end_len, role_of, word_kind}
 use Rattle.py_lines.specs.Private.Machine.{begins_string}
 use Rattle.py_lines.proofs.Text.CharacterTests.{feed_is, operator_ascii, none_of}
 use Rattle.py_lines.proofs.Text.HighBytes.{IsEvenAbove, encoded_begins, encoded_passes, low_even}
-use Rattle.py_lines.proofs.Text.LineEnds.{unbroken}
+use Rattle.py_lines.proofs.Text.LineEnds.{line_ends-encoded, unbroken}
 use Rattle.py_lines.proofs.Text.Utf8Shapes.{one}
 use Rattle.py_lines.proofs.LineTokens.Spellings.{fielded_spelling, prefix_encoded}
 use Rattle.py_lines.proofs.Lexings.LineEnds.{line_text}
 use Rattle.py_lines.proofs.FieldScans.Ends.{slash_only}
+use Rattle.py_lines.proofs.Fields.Prefixes.{none_in}
+use Rattle.py_lines.proofs.WordBreaks.{word-unbroken}
 use Rattle.py_lines.proofs.FieldScans.TextLengths.{rest_is, rest_of}
 use Rattle.py_lines.proofs.LogicalLines.NextLine.{begins-prefix}
-use Rattle.py_lines.proofs.LineScan.AsciiRuns.{break_low, space_low, quote_ascii, word_byte_continues, word_byte_starts, operator-no_break}
+use Rattle.py_lines.proofs.LineScan.AsciiRuns.{all_also, break_low, space_low, quote_ascii, word_byte_continues, word_byte_starts, operator-no_break}
 use Rattle.py_lines.proofs.LineTokens.FirstCharacters.{hash_is, spelled_bytes, IsQuoted, class_told, first_of, prefix_is_word, quoted, word_ends}
-
--- what passes one test passes another, where each number does
-pub all_also : (p q : ℕ → Bool) → ((c : ℕ) → p c ≡ true → q c ≡ true) → (cs : List ℕ) → list_all p cs ≡ true → list_all q cs ≡ true
-all_also p q each [] all = refl
-all_also p q each (c ∷ cs) all =
-    let parts = and_parts (p c) (list_all p cs) all in and_from (q c) (list_all q cs) (each c parts.0) (all_also p q each cs parts.1)
 
 -- a run that ends where it may not go on
 pub run_length : (passes : ℕ → Bool) (xs ys : List ℕ) (n : ℕ) → IsRunOf passes (xs ++ ys) n → list_all passes xs ≡ true
@@ -66,64 +59,32 @@ encoded_length passes cs rest n even run all ends =
 comment_even : IsEvenAbove is_comment_byte
 comment_even c b one two = ap not (low_even is_break break_low c b one two)
 
-space_unbroken : (c : ℕ) → is_space c ≡ true → not (is_break c) ≡ true
-unfolding is_space is_break
-space_unbroken c h = ap not (none_of is_break (codes " \t" ++ 12 ∷ []) c refl h)
-
 all_other : (cs : List ℕ) → list_any is_break cs ≡ false → list_all is_comment_byte cs ≡ true
 all_other [] none = refl
 all_other (c ∷ cs) none =
     let parts = or_parts (is_break c) (list_any is_break cs) none in and_from (is_comment_byte c) (list_all is_comment_byte cs)
     (ap not parts.0) (all_other cs parts.1)
 
-after_feed : (bytes : List ℕ) → line_end_len (10 ∷ bytes) ≡ 1
-unfolding is_return
-after_feed [] = refl
-after_feed (d ∷ ds) = refl
-
 after_return : (bytes : List ℕ) → begins is_line_feed bytes ≡ false → line_end_len (13 ∷ bytes) ≡ 1
-unfolding is_return
+unfolding is_line_feed
 after_return [] none = refl
-after_return (d ∷ ds) none = rw none
+after_return (d ∷ ds) none = grind (arith, nat_tests)
 
 -- how long a line end is, and that it is one
-one_end : (end rest after : List ℕ) → IsLineEnd end → ends is_return end && begins is_line_feed (rest ++ after) ≡ false
-    → (line_end_len (encode_utf8_all end ++ encode_utf8_all rest) ≡ byte_len end) × (line_ends end ≡ 1)
-unfolding is_return is_line_feed encode
-one_end end rest after (feed is) uncut = rw is (after_feed (encode_utf8_all rest), refl)
-one_end end rest after (return_feed is) uncut = rw is (refl, refl)
-one_end end rest after (return is) uncut =
+end_len : (end rest after : List ℕ) → IsLineEnd end → ends is_return end && begins is_line_feed (rest ++ after) ≡ false
+    → line_end_len (encode_utf8_all end ++ encode_utf8_all rest) ≡ byte_len end
+unfolding is_return encode
+end_len end rest after (feed is) uncut = rw is refl
+end_len end rest after (return_feed is) uncut = rw is refl
+end_len end rest after (return is) uncut =
     let same = encoded_begins is_line_feed (low_even is_line_feed (λ c h. omega (arith, feed_is c h))) rest in
-    rw is (after_return (encode_utf8_all rest) (same ∙ begins-prefix is_line_feed rest after (rw is at uncut)), refl)
+    rw is (after_return (encode_utf8_all rest) (same ∙ begins-prefix is_line_feed rest after (rw is at uncut)))
 
-no_feed : (bytes : List ℕ) → BeginOther bytes → begins is_line_feed bytes ≡ false
-no_feed [] other = refl
-no_feed (c ∷ cs) other = false_from_ne_true _ (λ feeds. other (feed_is c feeds))
-
--- the line end outside strings that bytes begin with is as long, and CR at their end is one too
-pub outer_len : (bytes : List ℕ) (found : Option ℕ) → HasOuterEnd bytes found → begins is_break bytes ≡ true → unwrap_or found 1 ≡ line_end_len bytes
+one_end : (end : List ℕ) → IsLineEnd end → 1 ≡ line_ends end
 unfolding is_return is_line_feed
-outer_len bytes None alone breaks = rw (alone breaks) refl
-outer_len bytes (Some len) ends breaks = by ends.is
-  where
-    after : List ℕ
-    after = drop len bytes
-
-    whole : (text : List ℕ) → take len bytes ≡ text → line_end_len (text ++ after) ≡ length text → len ≡ line_end_len bytes
-    whole text is same =
-        sym (length-take-le len bytes ends.within) ∙ ap length is ∙ sym same
-        ∙ ap line_end_len (ap (λ t. t ++ after) (sym is) ∙ take-append-drop len bytes)
-
-    by : IsOuterEnd (take len bytes) after → len ≡ line_end_len bytes
-    by (inl (true, is)) = whole (13 ∷ 10 ∷ []) is refl
-    by (inl (false, is)) = whole (10 ∷ []) is (after_feed after)
-    by (inr (is, other)) = whole (13 ∷ []) is (after_return after (no_feed after other))
-
-end_breaks : (end after : List ℕ) → IsLineEnd end → begins is_break (encode_utf8_all end ++ after) ≡ true
-unfolding is_break encode
-end_breaks end after (feed is) = rw is refl
-end_breaks end after (return_feed is) = rw is refl
-end_breaks end after (return is) = rw is refl
+one_end end (feed is) = rw is refl
+one_end end (return_feed is) = rw is refl
+one_end end (return is) = rw is refl
 
 ends_later : (slash : ℕ) (end : List ℕ) → IsLineEnd end → ends is_return (slash ∷ end) ≡ ends is_return end
 ends_later slash end is = let (c, cs, shape) = line_text end is in rw shape
@@ -138,13 +99,8 @@ module _ {bytes : List ℕ} {p : Piece} (b : BeginWithPiece bytes p) where
   pub precedes : (class : Class) → p.class ≡ class → MayPrecede class p.text (spelled b.others ++ b.text.after)
   precedes class is = subst (λ (k : Class). MayPrecede k p.text (spelled b.others ++ b.text.after)) is b.text.fit.1
 
-  pub taken : (class : Class) (piece : LinePiece) → p.class ≡ class → piece.role ≡ role_of class p.text → piece.len ≡ byte_len p.text
-      → piece.line_ends ≡ line_ends p.text → IsTakenFor p piece
-  taken class piece is role len counted = record {
-    role = role ∙ ap (λ (k : Class). role_of k p.text) (sym is);
-    len = len;
-    line_ends = counted;
-  }
+  pub taken : (class : Class) {role : Role} {len : ℕ} → p.class ≡ class → role ≡ role_of class p.text → len ≡ byte_len p.text → IsTakenFor p role len
+  taken class is role len = (role ∙ ap (λ (k : Class). role_of k p.text) (sym is), len)
 
   -- the run of bytes that the piece is
   pub run_taken : (passes : ℕ → Bool) (n : ℕ) → IsEvenAbove passes → IsRunOf passes bytes n → list_all passes p.text ≡ true
@@ -152,16 +108,10 @@ module _ {bytes : List ℕ} {p : Piece} (b : BeginWithPiece bytes p) where
   run_taken passes n even run all none =
       encoded_length passes p.text rest n even (subst (λ (t : List ℕ). IsRunOf passes t n) (spelled_bytes bytes p b) run) all none
 
-  pub space_taken : (n : ℕ) → p.class ≡ space → IsRunOf is_space bytes n → IsTakenFor p (record {
-    role = roles.Space;
-    len = n;
-    line_ends = 0;
-  })
+  pub space_taken : (n : ℕ) → p.class ≡ space → IsRunOf is_space bytes n → IsTakenFor p roles.Space n
   space_taken n is run =
-      let all : list_all is_space p.text ≡ true = (in_class space is).3 in
-      taken space _ is refl
-      (run_taken is_space n (low_even is_space space_low) run all (begins-prefix is_space rest b.text.after (precedes space is)))
-      (unbroken p.text (all_also is_space (λ d. not (is_break d)) space_unbroken p.text all))
+      taken space is refl (run_taken is_space n (low_even is_space space_low) run (in_class space is).3
+      (begins-prefix is_space rest b.text.after (precedes space is)))
 
   -- the bytes after the first, which is ASCII
   pub after_first : (c : ℕ) (cs : List ℕ) → p.text ≡ c ∷ cs → c < 128 → bytes ≡ c ∷ (encode_utf8_all cs ++ encode_utf8_all rest)
@@ -174,41 +124,33 @@ module _ {bytes : List ℕ} {p : Piece} (b : BeginWithPiece bytes p) where
       let whole : byte_len p.text ≡ length (c ∷ encode_utf8_all cs) = ap byte_len is ∙ ap (λ t. length (t ++ encode_utf8_all cs)) (one c low) in
       omega (arith, whole, same)
 
-  pub operator_taken : p.class ≡ operator → IsTakenFor p (token_piece (kind.Op (slice_index bytes 0)) 1)
+  pub operator_taken : p.class ≡ operator → IsTakenFor p (roles.Token (kind.Op (slice_index bytes 0))) 1
   operator_taken is =
       let shape = in_class operator is in
       let c : ℕ = shape.0 in
       let low = operator_ascii c shape.2 in
-      taken operator _ is
+      taken operator is
       (ap (λ d. roles.Token (kind.Op d)) (ap (λ t. slice_index t 0) (after_first c [] shape.1 low) ∙ ap first_or_zero (sym shape.1)))
-      (longer c [] 0 shape.1 low refl) (unbroken p.text
-      (ap (list_all (λ d. not (is_break d))) shape.1 ∙ and_from (not (is_break c)) true (ap not (operator-no_break c shape.2)) refl))
+      (longer c [] 0 shape.1 low refl)
 
   comment_ends : (text after : List ℕ) → (text ++ after ≡ []) ⊎ (begins is_break (text ++ after) ≡ true) → begins is_comment_byte text ≡ false
   comment_ends [] after h = refl
   comment_ends (c ∷ cs) after (inl none) = absurd (cc)
   comment_ends (c ∷ cs) after (inr breaks) = ap not breaks
 
-  pub comment_taken : (n : ℕ) → p.class ≡ comment → IsRunOf is_comment_byte (rest_of bytes 1) n → IsTakenFor p (token_piece kind.Remark (1 + n))
-  unfolding is_break
+  pub comment_taken : (n : ℕ) → p.class ≡ comment → IsRunOf is_comment_byte (rest_of bytes 1) n → IsTakenFor p (roles.Token kind.Remark) (1 + n)
   comment_taken n is run =
       let shape = in_class comment is in
       let body : List ℕ = shape.1 in
       let text : p.text ≡ 35 ∷ body = shape.2 ∙ ap (λ (c : ℕ). c ∷ body) (hash_is shape.0 shape.3) in
-      let all = all_other body shape.4 in
-      let len : n ≡ byte_len body = encoded_length is_comment_byte body rest n comment_even
-      (subst (λ (t : List ℕ). IsRunOf is_comment_byte t n) (rest_is bytes 1 ∙ ap (drop 1) (after_first 35 body text (omega arith))) run) all
-      (comment_ends rest b.text.after (precedes comment is)) in
-      taken comment _ is refl (longer 35 body n text (omega arith) len)
-      (unbroken p.text (ap (list_all is_comment_byte) text ∙ and_from (is_comment_byte 35) (list_all is_comment_byte body) refl all))
+      taken comment is refl (longer 35 body n text (omega arith) (encoded_length is_comment_byte body rest n comment_even
+      (subst (λ (t : List ℕ). IsRunOf is_comment_byte t n) (rest_is bytes 1 ∙ ap (drop 1) (after_first 35 body text (omega arith))) run)
+      (all_other body shape.4) (comment_ends rest b.text.after (precedes comment is))))
 
-  pub line_end_taken : p.class ≡ line_end → IsTakenFor p (record { role = roles.LineEnd; len = line_end_len bytes; line_ends = 1 })
+  pub line_end_taken : p.class ≡ line_end → IsTakenFor p roles.LineEnd (line_end_len bytes)
   line_end_taken is =
-      let e = one_end p.text rest b.text.after (in_class line_end is) (precedes line_end is) in
-      taken line_end _ is refl (ap line_end_len (spelled_bytes bytes p b) ∙ e.0) (sym e.1)
-
-  pub line_end_breaks : p.class ≡ line_end → begins is_break bytes ≡ true
-  line_end_breaks is = ap (begins is_break) (spelled_bytes bytes p b) ∙ end_breaks p.text (encode_utf8_all rest) (in_class line_end is)
+      taken line_end is refl
+      (ap line_end_len (spelled_bytes bytes p b) ∙ end_len p.text rest b.text.after (in_class line_end is) (precedes line_end is))
 
   -- a join, and the line end in it
   record Joined : Type 0 where
@@ -223,19 +165,13 @@ module _ {bytes : List ℕ} {p : Piece} (b : BeginWithPiece bytes p) where
       let text : p.text ≡ 92 ∷ shape.1 = shape.2 ∙ ap (λ (c : ℕ). c ∷ shape.1) (slash_only shape.0 shape.3) in
       record { end = shape.1; text = text; is = shape.4; later = rest_is bytes 1 ∙ ap (drop 1) (after_first 92 shape.1 text (omega arith)) }
 
-  pub join_breaks : p.class ≡ join → begins is_break (rest_of bytes 1) ≡ true
-  join_breaks is = let j = joined is in ap (begins is_break) j.later ∙ end_breaks j.end (encode_utf8_all rest) j.is
-
-  pub join_taken : p.class ≡ join → IsTakenFor p (record { role = roles.Join; len = 1 + line_end_len (rest_of bytes 1); line_ends = 1 })
-  unfolding is_line_feed is_return
+  pub join_taken : p.class ≡ join → IsTakenFor p roles.Join (1 + line_end_len (rest_of bytes 1))
   join_taken is =
       let j = joined is in
       let uncut : ends is_return j.end && begins is_line_feed (rest ++ b.text.after) ≡ false
       = ap (λ t. t && begins is_line_feed (rest ++ b.text.after)) (sym (ends_later 92 j.end j.is) ∙ ap (ends is_return) (sym j.text))
       ∙ precedes join is in
-      let e = one_end j.end rest b.text.after j.is uncut in
-      taken join _ is refl (longer 92 j.end _ j.text (omega arith) (ap line_end_len j.later ∙ e.0))
-      (sym (ap line_ends j.text ∙ zero-add (line_ends j.end) ∙ e.1))
+      taken join is refl (longer 92 j.end _ j.text (omega arith) (ap line_end_len j.later ∙ end_len j.end rest b.text.after j.is uncut))
 
 -- the characters of a word are bytes of words, or not ASCII
 wide_even : IsEvenAbove is_wide_word
@@ -253,17 +189,17 @@ quote_not_wide : (q : ℕ) → is_quote q ≡ true → is_wide_word q ≡ false
 unfolding is_quote is_ascii_word
 quote_not_wide q h = none_of is_wide_word (codes "'\"") q refl h
 
-break_not_wide : (c : ℕ) → is_break c ≡ true → is_wide_word c ≡ false
-unfolding is_break is_ascii_word
-break_not_wide c h = none_of is_wide_word (codes "\n\r") c refl h
+-- what begins the bytes after so many
+pub begins_at : (passes : ℕ → Bool) (bytes : List ℕ) (n : ℕ) → begins passes (drop n bytes) ≡ true
+    → (n < length bytes) × (passes (slice_index bytes n) ≡ true)
+begins_at passes [] zero h = absurd (both_ways _ refl h)
+begins_at passes [] (suc n) h = absurd (both_ways _ refl h)
+begins_at passes (b ∷ bs) zero h = (omega arith, h)
+begins_at passes (b ∷ bs) (suc n) h = let (within, is) = begins_at passes bs n h in (omega (arith, within), is)
 
-wide_unbroken : (cs : List ℕ) → list_all is_wide_word cs ≡ true → list_all (λ d. not (is_break d)) cs ≡ true
-wide_unbroken =
-    all_also is_wide_word (λ d. not (is_break d)) (λ c wide. ap not (false_from_ne_true _ (λ breaks. both_ways _ (break_not_wide c breaks) wide)))
-
-pub first_byte : (passes : ℕ → Bool) (bytes : List ℕ) → begins passes bytes ≡ true → passes (slice_index bytes 0) ≡ true
-first_byte passes [] none = absurd (both_ways _ refl none)
-first_byte passes (b ∷ bs) h = h
+-- the first bytes, so many of them, are the prefix of a string, whose quote follows
+abbrev EndsPrefix : List ℕ → ℕ → Type 0
+EndsPrefix bytes n = (n < length bytes) × (is_quote (slice_index bytes n) ≡ true) × (begins_string (word_spelling (take n bytes)) ≡ true)
 
 -- where bytes are cut that begin with these
 cut_at : (bytes xs ys : List ℕ) (n : ℕ) → bytes ≡ xs ++ ys → n ≡ length xs → (take n bytes ≡ xs) × (drop n bytes ≡ ys)
@@ -283,7 +219,7 @@ digit_told b c low high =
 module _ {bytes : List ℕ} {p : Piece} (b : BeginWithPiece bytes p) where
   pub word_or_string : begins is_wide_word bytes ≡ true → (p.class ≡ word) ⊎ (p.class ≡ string)
   word_or_string wide = ⊎_elim (class_told bytes p class.Word b) (λ high. inl (class_told bytes p class.Wide b high))
-      (or_cases (is_ascii_word (slice_index bytes 0)) (nat_le 128 (slice_index bytes 0)) (first_byte is_wide_word bytes wide))
+      (or_cases (is_ascii_word (slice_index bytes 0)) (nat_le 128 (slice_index bytes 0)) (begins_at is_wide_word bytes 0 wide).1)
 
   -- a word is the run of its bytes
   text_wide : p.class ≡ word → list_all is_wide_word p.text ≡ true
@@ -294,7 +230,7 @@ module _ {bytes : List ℕ} {p : Piece} (b : BeginWithPiece bytes p) where
       run_taken b is_wide_word n wide_even run (text_wide is) (word_ends b.others b.text.after b.text.fit.3 b.text.fit.2 (precedes b word is).0)
 
   pub word_taken : (n : ℕ) (k : TokKind) → p.class ≡ word → IsRunOf is_wide_word bytes n → k ≡ word_kind (is_ascii_digit (slice_index bytes 0))
-      → IsTakenFor p (token_piece k n)
+      → IsTakenFor p (roles.Token k) n
   word_taken n k is run told =
       let shape = in_class b word is in
       let f = first_of bytes p b in
@@ -302,24 +238,23 @@ module _ {bytes : List ℕ} {p : Piece} (b : BeginWithPiece bytes p) where
       let digit : is_ascii_digit (slice_index bytes 0) ≡ begins is_digit p.text
       = digit_told (slice_index bytes 0) shape.0 (λ low. sym first ∙ f.low low) (λ high. subst (λ c. 128 ≤ c) first (f.high high))
       ∙ ap (begins is_digit) (sym shape.2) in
-      taken b word _ is (ap roles.Token (told ∙ ap word_kind digit)) (word_len n is run) (unbroken p.text (wide_unbroken p.text (text_wide is)))
+      taken b word is (ap roles.Token (told ∙ ap word_kind digit)) (word_len n is run)
 
   -- which is no prefix before a quote
-  pub word_no_prefix : (n : ℕ) → p.class ≡ word → IsRunOf is_wide_word bytes n → ends_prefix bytes n ≡ true → ⊥
-  word_no_prefix n is run told =
+  word_no_prefix : (n : ℕ) → p.class ≡ word → IsRunOf is_wide_word bytes n → EndsPrefix bytes n → ⊥
+  word_no_prefix n is run (within, quote, told) =
       let shape = in_class b word is in
       let rest = spelled b.others in
-      let parts = and_parts (begins is_quote (drop n bytes)) (begins_string (word_spelling (take n bytes))) told in
       let (front, later) = cut_at bytes (encode_utf8_all p.text) (encode_utf8_all rest) n (spelled_bytes bytes p b) (word_len n is run) in
       let quotes : begins is_quote rest ≡ true
-      = sym (encoded_begins is_quote (low_even is_quote quote_ascii) rest) ∙ ap (begins is_quote) (sym later) ∙ parts.0 in
+      = sym (encoded_begins is_quote (low_even is_quote quote_ascii) rest) ∙ ap (begins is_quote) (sym later ∙ drop-cons bytes n 0 within) ∙ quote in
       let prefix : fielded.is_prefix p.text ≡ true
-      = sym (prefix_told p.text shape.0 shape.1 shape.2) ∙ ap (λ t. begins_string (word_spelling t)) (sym front) ∙ parts.1 in
+      = sym (prefix_told p.text shape.0 shape.1 shape.2) ∙ ap (λ t. begins_string (word_spelling t)) (sym front) ∙ told in
       let follows = ap (λ d. d && begins is_quote (rest ++ b.text.after)) (sym prefix) ∙ (precedes b word is).1 in
       both_ways _ (begins-prefix is_quote rest b.text.after follows) quotes
 
   -- and a string's prefix is one
-  pub string_prefix : (n : ℕ) → p.class ≡ string → begins is_wide_word bytes ≡ true → IsRunOf is_wide_word bytes n → ends_prefix bytes n ≡ true
+  string_prefix : (n : ℕ) → p.class ≡ string → begins is_wide_word bytes ≡ true → IsRunOf is_wide_word bytes n → EndsPrefix bytes n
   string_prefix n is wide run = ⊎_elim (λ none. absurd (no_prefix none)) some q.begun
     where
       q : IsQuoted p.text
@@ -341,7 +276,7 @@ module _ {bytes : List ℕ} {p : Piece} (b : BeginWithPiece bytes p) where
           both_ways _ (quote_not_wide q.quote q.opens)
           (ap (begins is_wide_word) (sym (bytes_are ∙ ap (λ t. encode_utf8_all t ++ q.quote ∷ after) none)) ∙ wide)
 
-      some : fielded.is_prefix q.prefix ≡ true → ends_prefix bytes n ≡ true
+      some : fielded.is_prefix q.prefix ≡ true → EndsPrefix bytes n
       some begun =
           let (first, others, shape, starts, low, word_run) = prefix_is_word q.prefix begun in
           let all : list_all is_wide_word q.prefix ≡ true = ap (list_all is_wide_word) shape ∙ word_wide first others starts word_run in
@@ -349,12 +284,40 @@ module _ {bytes : List ℕ} {p : Piece} (b : BeginWithPiece bytes p) where
           (subst (λ (t : List ℕ). IsRunOf is_wide_word t n) bytes_are run) (encoded_passes is_wide_word wide_even q.prefix all)
           (quote_not_wide q.quote q.opens) in
           let (front, later) = cut_at bytes (encode_utf8_all q.prefix) (q.quote ∷ after) n bytes_are len in
-          and_from (begins is_quote (drop n bytes)) _ (ap (begins is_quote) later ∙ q.opens)
-          (ap (λ t. begins_string (word_spelling t)) front ∙ prefix_told q.prefix first others shape ∙ begun)
+          let (within, quote) = begins_at is_quote bytes n (ap (begins is_quote) later ∙ q.opens) in
+          (within, quote, ap (λ t. begins_string (word_spelling t)) front ∙ prefix_told q.prefix first others shape ∙ begun)
 
   -- so what follows the run tells which it is
-  pub is_string : (n : ℕ) → begins is_wide_word bytes ≡ true → IsRunOf is_wide_word bytes n → ends_prefix bytes n ≡ true → p.class ≡ string
+  pub is_string : (n : ℕ) → begins is_wide_word bytes ≡ true → IsRunOf is_wide_word bytes n → EndsPrefix bytes n → p.class ≡ string
   is_string n wide run told = ⊎_elim (λ is. absurd (word_no_prefix n is run told)) (λ is. is) (word_or_string wide)
 
-  pub is_word : (n : ℕ) → begins is_wide_word bytes ≡ true → IsRunOf is_wide_word bytes n → ends_prefix bytes n ≡ false → p.class ≡ word
-  is_word n wide run told = ⊎_elim (λ is. is) (λ is. absurd (both_ways _ told (string_prefix n is wide run))) (word_or_string wide)
+  pub is_word : (n : ℕ) → begins is_wide_word bytes ≡ true → IsRunOf is_wide_word bytes n → (EndsPrefix bytes n → ⊥) → p.class ≡ word
+  is_word n wide run other = ⊎_elim (λ is. is) (λ is. absurd (other (string_prefix n is wide run))) (word_or_string wide)
+
+  -- how many line ends it holds
+  pub lines_told : {role : Role} {len : ℕ} → IsTakenFor p role len → ends_in role (take len bytes) ≡ line_ends p.text
+  unfolding is_break is_line_feed is_return is_space
+  lines_told {len = len} (role_is, len_is) =
+      rw (role_is, (cut_at bytes (encode_utf8_all p.text) (encode_utf8_all (spelled b.others)) len (spelled_bytes bytes p b) len_is).0)
+      (go p.class refl)
+    where
+      words : (digit : Bool) → ends_in (roles.Token (word_kind digit)) (encode_utf8_all p.text) ≡ 0
+      words true = refl
+      words false = refl
+
+      go : (k : Class) → p.class ≡ k → ends_in (role_of k p.text) (encode_utf8_all p.text) ≡ line_ends p.text
+      go mark is = absurd (both_ways _ b.unmarked (ap is_mark_class is))
+      go space is =
+          unbroken p.text (all_other p.text (none_in is_space is_break (λ d. none_of is_space (10 ∷ 13 ∷ []) d refl) p.text (in_class b space is).3))
+      go word is = words (begins is_digit p.text) ∙ unbroken p.text (all_other p.text (word-unbroken p.text (in_class b word is)))
+      go string is = line_ends-encoded p.text
+      go operator is =
+          let shape = in_class b operator is in
+          unbroken p.text (ap (list_all is_comment_byte) shape.1 ∙ and_from _ true (ap not (operator-no_break shape.0 shape.2)) refl)
+      go comment is =
+          let shape = in_class b comment is in
+          let first = ap (λ (c : ℕ). c ∷ shape.1) (hash_is shape.0 shape.3) in
+          unbroken p.text (ap (list_all is_comment_byte) (shape.2 ∙ first) ∙ all_other shape.1 shape.4)
+      go join is =
+          let j = joined b is in one_end j.end j.is ∙ sym (ap line_ends j.text ∙ zero-add (line_ends j.end))
+      go line_end is = one_end p.text (in_class b line_end is)

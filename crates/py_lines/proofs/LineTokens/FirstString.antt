@@ -1,10 +1,9 @@
 -- The string that bytes begin with: the scan goes through it, item after item, and stops after it.
-use Rattle.std.proofs.Common.{◌≡◌, ℕ, ◌+◌, ◌<◌, ◌≤◌, ◌==◌, ⊎_elim, true, false, None, Some, List, [], ◌∷◌, ◌++◌, length, take, drop, refl, sym, ap, ◌∙◌, subst, append_assoc, append-nil, arith, length-append}
+use Rattle.std.proofs.Common.{◌≡◌, ℕ, ◌+◌, ◌<◌, ◌≤◌, ⊎_elim, not, true, false, None, Some, List, [], ◌∷◌, ◌++◌, length, drop, refl, sym, ap, ◌∙◌, subst, append_assoc, append-nil, arith, length-append}
 use Rattle.std.specs.Prelude.{encode_utf8, encode_utf8_all}
 use Rattle.std.specs.Char.{IsScalar}
 use Rattle.std.specs.Str.{all_scalars}
-use Rattle.std.proofs.Math.Seq.{take-append_seam}
-use Rattle.std.proofs.lemmas.Bool.{and_from, and_left, and_parts, both_ways, eqb-true}
+use Rattle.std.proofs.lemmas.Bool.{and_from, and_left, and_parts, both_ways}
 use Rattle.std.proofs.lemmas.List.{append_cancel_left, nil_from_length}
 use Rattle.std.proofs.lemmas.Str.{encodes-append, len_utf8_bounds, length-encode, length-le-encodes}
 use Rattle.py_lines.specs.Character.{is_line_feed, is_return}
@@ -19,11 +18,13 @@ use Rattle.py_lines.specs.declared.scan.Scan.{Scan}
 use Rattle.py_lines.specs.Private.Mode as modes
 use Rattle.py_lines.specs.Private.Machine.{start_of}
 use Rattle.py_lines.specs.Private.FieldMachine.{FieldMode, FieldScanned, breaks, field_move, field_moved, field_pieces, field_started, plain}
-use Rattle.py_lines.specs.Private.Scan.{ComesOver, ComesTo as Comes, EndsWithFeed, EndsWithReturn, Follows, Goes, GoesOver, GoesOverAll, HoldsRun, IsOneItem, IsWrongIn, KeepsOpen, Rests, StandsAs, Steps, has_returned, is_break_move, is_free_mode, is_return_at, is_settled, is_shut, mode_from}
+use Rattle.py_lines.specs.Private.Scan.{ComesOver, ComesTo as Comes, EndsWithFeed, EndsWithReturn, Follows, Goes, GoesOver, GoesOverAll, HoldsRun, IsOneItem, IsWrongIn, KeepsOpen, Rests, StandsAs, Steps, has_returned, is_break_move, is_free_mode, is_return_at, is_in_code, is_shut, mode_from}
+use Rattle.py_lines.specs.Private.Frames.{has_field}
 use Rattle.py_lines.specs.Private.LineScan.{HasBegun, IsUnderWay, Reached}
 use Rattle.py_lines.specs.Private.LineTokens.{BeginWithPiece}
 use Rattle.py_lines.proofs.FieldMachine.OuterLists.{outer_alone, started_outer}
-use Rattle.py_lines.proofs.FieldScans.Frames.{frames-length, none_outside}
+use Rattle.py_lines.proofs.FieldScans.Frames.{frames-length}
+use Rattle.py_lines.proofs.FieldScans.PlainCode.{outside_fields}
 use Rattle.py_lines.proofs.FieldScans.Taking.{comes_real, first_byte, first_real, goes_real}
 use Rattle.py_lines.proofs.FieldSoundness.WholeTexts.{two_hundred}
 use Rattle.py_lines.proofs.Lexings.LineEnds.{return_returns}
@@ -35,6 +36,7 @@ use Rattle.py_lines.proofs.LineTokens.FirstCharacters.{spelled_bytes}
 use Rattle.py_lines.proofs.LineTokens.StringRuns.{BeginsString, IsShutAlone, along, begins_string, breaks_there, goes_one, kept, runs_left, shut_there}
 use Rattle.py_lines.proofs.LogicalLines.Cuts.{ends-last, no_bytes}
 use Rattle.py_lines.proofs.Machine.PieceSteps.{some_is}
+use Rattle.py_lines.proofs.PassedPieces.Ends.{in_code}
 use Rattle.py_lines.proofs.Pieces.PieceLists.{piece}
 use Rattle.py_lines.proofs.Text.Incomplete.{text_none}
 use Rattle.py_lines.proofs.Text.Splits.{Either, either}
@@ -44,9 +46,6 @@ use Rattle.py_lines.proofs.Text.Utf8Prefixes.{all_scalars-parts, prefix_chars}
 pub string_within : (bytes : List ℕ) (p : Piece) → BeginWithPiece bytes p → byte_len p.text ≤ length bytes
 string_within bytes p b =
     omega (arith, ap length (spelled_bytes bytes p b), length-append (encode_utf8_all p.text) (encode_utf8_all (spelled b.others)))
-
-pub string_text : (bytes : List ℕ) (p : Piece) (len : ℕ) → BeginWithPiece bytes p → len ≡ byte_len p.text → encode_utf8_all p.text ≡ take len bytes
-string_text bytes p len b is = sym (rw (spelled_bytes bytes p b, is) (take-append_seam (encode_utf8_all p.text) (encode_utf8_all (spelled b.others))))
 
 -- no piece ends between the characters of an item
 item_at : (t x : FieldScanned) (z : List ℕ) (d : ℕ) (w : List ℕ) → 0 < length z → Goes t z x → IsOneItem t (z ++ d ∷ w)
@@ -75,13 +74,13 @@ shut_free : (m : OpenMode) → is_shut (mode_from m) ≡ true → is_free_mode m
 shut_free opens.Free shut = refl
 shut_free m shut = absurd (both_ways _ refl shut)
 
-shut_settled : (scan : Scan) (u : FieldScanned) → Follows scan u → IsShutAlone u → is_settled scan ≡ true
+shut_settled : (scan : Scan) (u : FieldScanned) → Follows scan u → IsShutAlone u → is_in_code scan ≡ true
 shut_settled scan u follows (shut, none) =
     and_from _ _ (shut_free scan.mode (ap is_shut follows.mode ∙ shut))
-    (ap (λ n. n == 0) (frames-length u.outer u.done u.openers scan.frames follows.frames ∙ none))
+    (ap (λ fs. not (has_field fs)) (nil_from_length scan.frames (frames-length u.outer u.done u.openers scan.frames follows.frames ∙ none)))
 
 -- so the scan has nothing open where such a state is the machine's
-settled_at : (t : FieldScanned) {scan : Scan} {rest : List ℕ} → IsShutAlone t → Rests scan t rest → is_settled scan ≡ true
+settled_at : (t : FieldScanned) {scan : Scan} {rest : List ℕ} → IsShutAlone t → Rests scan t rest → is_in_code scan ≡ true
 settled_at t {scan} {rest} shut rests = shut_settled scan rests.as_if rests.follows (by rest rests.stands)
   where
     by : (bytes : List ℕ) → StandsAs bytes t rests.as_if → IsShutAlone rests.as_if
@@ -94,25 +93,18 @@ shut_unreturned (plain modes.Return) shut = absurd (both_ways _ refl shut)
 shut_unreturned m shut = refl
 
 -- where the scan has nothing open, the machine's piece ends before the next character
-free_open : (m : OpenMode) → is_free_mode m ≡ true → mode_from m ≡ plain modes.Free
-free_open opens.Free free = refl
-free_open m free = absurd (both_ways _ refl free)
-
-settled_ends : (t : FieldScanned) {scan : Scan} {rest : List ℕ} → Rests scan t rest → is_settled scan ≡ true → (d : ℕ) (y : List ℕ) → IsScalar d
+settled_ends : (t : FieldScanned) {scan : Scan} {rest : List ℕ} → Rests scan t rest → is_in_code scan ≡ true → (d : ℕ) (y : List ℕ) → IsScalar d
     → encode_utf8_all (d ∷ y) ≡ rest → (t.outer ≡ []) × (field_move t.mode t.held d ≡ breaks)
 settled_ends t {scan} {rest} rests settled d y scalar spell = by rest spell rests.stands
   where
     u : FieldScanned
     u = rests.as_if
 
-    parts : (is_free_mode scan.mode ≡ true) × ((length scan.frames == 0) ≡ true)
-    parts = and_parts (is_free_mode scan.mode) (length scan.frames == 0) settled
-
     by : (bytes : List ℕ) → encode_utf8_all (d ∷ y) ≡ bytes → StandsAs bytes t u → (t.outer ≡ []) × (field_move t.mode t.held d ≡ breaks)
     by [] is stands = absurd (omega (arith, ap length is, length-append (encode_utf8 d) (encode_utf8_all y), length-encode d, len_utf8_bounds d))
     by (b ∷ bytes) is stands =
-        let none = none_outside u.outer u.done u.openers scan.frames rests.follows.frames (eqb-true _ 0 parts.1) in
-        let there = stands.free (sym rests.follows.mode ∙ free_open scan.mode parts.0) none.0 in
+        let (free, none) = in_code scan settled in
+        let there = stands.free (sym rests.follows.mode ∙ ap mode_from free) (outside_fields u.outer u.done u.openers scan.frames rests.follows.frames none) in
         (there.outside, there.ends d (first_byte d b (encode_utf8_all y) bytes scalar is))
 
 -- pieces that are found, of which the string is the first
@@ -331,7 +323,7 @@ module _ {bytes : List ℕ} {scan : Scan} {rest : List ℕ} (at : InFirst bytes 
       left = item_within p is begin over.run (drop len rest) over.spell over.one
 
       -- where nothing is open after it, it ends the string
-      pub passed_with : is_settled new ≡ true → new.stop ≡ byte_len p.text
+      pub passed_with : is_in_code new ≡ true → new.stop ≡ byte_len p.text
       passed_with settled = by left.0 left.1
         where
           by : (k : List ℕ) → z p is begin ≡ over.run ++ k → new.stop ≡ byte_len p.text
@@ -348,7 +340,7 @@ module _ {bytes : List ℕ} {scan : Scan} {rest : List ℕ} (at : InFirst bytes 
               (omega (arith, some_run over.run len over.size over.some, length-append read over.run)) ends_so.0 ends_so.1)
 
       -- else the string goes on
-      still_within : is_settled new ≡ false → IsWithin (read ++ over.run) p.text
+      still_within : is_in_code new ≡ false → IsWithin (read ++ over.run) p.text
       still_within on_in = by left.0 left.1
         where
           by : (k : List ℕ) → z p is begin ≡ over.run ++ k → IsWithin (read ++ over.run) p.text
@@ -357,7 +349,7 @@ module _ {bytes : List ℕ} {scan : Scan} {rest : List ℕ} (at : InFirst bytes 
               (subst IsShutAlone (sym (later p is begin over.run [] over.to before over.goes)) (shut_there (b p is begin))) over.rests))
           by (d ∷ ds) before = (d ∷ ds, text_on p is begin over.run (d ∷ ds) before, omega arith)
 
-    pub step_on : is_settled new ≡ false → InFirst bytes new (drop len rest)
+    pub step_on : is_in_code new ≡ false → InFirst bytes new (drop len rest)
     step_on on_in = record { reached = on; within = λ p is begin. still_within p is begin on_in }
 
 -- so does a run that is held

@@ -1,5 +1,5 @@
 -- How a line begins, with its mark and its indentation, and how its pieces are read one after another.
-use Rattle.std.proofs.Common.{◌≡◌, ℕ, ◌+◌, ◌<◌, ◌≤◌, Bool, true, false, cond, ◌||◌, List, [], ◌∷◌, ◌++◌, length, drop, refl, sym, ap, ◌∙◌, subst, append_assoc, append-nil, arith, length-drop, zero, suc, ◌⊎◌, inl, inr, ⊎_elim, zero-add, add-zero}
+use Rattle.std.proofs.Common.{◌≡◌, ℕ, ◌+◌, ◌<◌, ◌≤◌, Bool, true, false, cond, ◌||◌, List, [], ◌∷◌, ◌++◌, length, take, drop, refl, sym, ap, ◌∙◌, subst, append_assoc, append-nil, arith, length-drop, zero, suc, ◌⊎◌, inl, inr, ⊎_elim, zero-add, add-zero}
 use Rattle.std.specs.Prelude.{encode_utf8_all, if◌then◌else◌, nat_eq}
 use Rattle.std.specs.List.{list_any, starts_with}
 use Rattle.std.proofs.Math.Bool.{or-false, or_assoc}
@@ -15,13 +15,13 @@ use Rattle.py_lines.specs.Piece.{Class, mark, word, Piece, begins, spelled, spac
 use Rattle.py_lines.specs.Balance.{depth_after}
 use Rattle.py_lines.specs.LogicalLine.{byte_len, is_code_class, is_comment_class, line_ends, tokens_of_piece, indent_of, kind_of, space_len, tokens_from}
 use Rattle.py_lines.specs.Fields.{AreReadBefore, InClass}
-use Rattle.py_lines.specs.declared.line_tokens.LinePiece.{LinePiece}
+use Rattle.py_lines.specs.declared.line_tokens.Role.{Role}
 use Rattle.py_lines.specs.declared.line_tokens.LineTokens.{LineTokens}
 use Rattle.py_lines.specs.declared.line_tokens.Role.TheVariants as roles
 use Rattle.py_lines.specs.declared.unit.UnitKind.{UnitKind}
 use Rattle.py_lines.specs.declared.unit.UnitKind.TheVariants as unit_kind
 use Rattle.py_lines.specs.declared.class.Class.TheVariants as class
-use Rattle.py_lines.specs.Private.LineTokens.{AddsPiece, AreTextAt, AreTokensOf, BeginWithPiece, HaveReadOf, IsTakenFor, kind_on, kind_with, role_of, token_in, word_kind, AreLineText, HaveRead, mark_len}
+use Rattle.py_lines.specs.Private.LineTokens.{AddsPiece, AreTextAt, AreTokensOf, BeginWithPiece, HaveReadOf, IsTakenFor, ends_in, kind_on, kind_with, role_of, token_in, word_kind, AreLineText, HaveRead}
 use Rattle.py_lines.specs.Private.Run.{IsRunOf}
 use Rattle.py_lines.proofs.FieldScans.TextLengths.{rest_is, rest_of}
 use Rattle.py_lines.proofs.Text.Utf8Prefixes.{all_scalars-parts, prefix_chars}
@@ -33,7 +33,7 @@ use Rattle.py_lines.proofs.Text.HighBytes.{low_even}
 use Rattle.py_lines.proofs.LogicalLines.NextLine.{begins-prefix, line_ends-spelled}
 use Rattle.py_lines.proofs.LineScan.AsciiRuns.{space_low}
 use Rattle.py_lines.proofs.LineTokens.FirstCharacters.{begins_so, class_told, unmarked_first}
-use Rattle.py_lines.proofs.LineTokens.FirstPieces.{in_class, precedes, run_taken}
+use Rattle.py_lines.proofs.LineTokens.FirstPieces.{in_class, lines_told, precedes, run_taken}
 
 -- what a line holds, with code or without, and with comments or without: with one more piece, and with more of them
 abbrev kind_by : Bool → Bool → UnitKind
@@ -80,12 +80,12 @@ text_after depth bytes p ps is = record {
 }
 
 -- a piece that was taken there: there is room for it, and the line is read so far
-pub record IsTakenNext (text : List ℕ) (pieces : List Piece) (first start line : ℕ) (t : LineTokens) (piece : LinePiece) : Type 0 where
-  pub some : 0 < piece.len
-  pub within : start + piece.len ≤ length text
-  pub lines : line + piece.line_ends ≤ first + length text
-  pub more : (u : LineTokens) → AddsPiece t piece start line u
-      → (left : List Piece) × HaveReadOf text pieces left first (start + piece.len) (line + piece.line_ends) u
+pub record IsTakenNext (text : List ℕ) (pieces : List Piece) (first start line : ℕ) (t : LineTokens) (role : Role) (len : ℕ) : Type 0 where
+  pub some : 0 < len
+  pub within : start + len ≤ length text
+  pub lines : line + ends_in role (take len (rest_of text start)) ≤ first + length text
+  pub more : (u : LineTokens) → AddsPiece t role start (start + len) line u
+      → (left : List Piece) × HaveReadOf text pieces left first (start + len) (line + ends_in role (take len (rest_of text start))) u
 
 -- the line ends of pieces are those of the first and of the others
 line_ends-first : (p : Piece) (ps : List Piece) (after : List ℕ) → AreReadBefore (p ∷ ps) after
@@ -93,47 +93,46 @@ line_ends-first : (p : Piece) (ps : List Piece) (after : List ℕ) → AreReadBe
 line_ends-first p ps after fit = omega (arith, line_ends-spelled (p ∷ ps) after fit, line_ends-spelled ps after fit.3)
 
 -- the next piece of a line that isn't read to its end
-pub record HasNext (text : List ℕ) (pieces : List Piece) (first start line : ℕ) (t : LineTokens) : Type 0 where
-  pub p : Piece
-  pub begin : BeginWithPiece (rest_of text start) p
-  pub taken : (piece : LinePiece) → IsTakenFor p piece → IsTakenNext text pieces first start line t piece
-
 pub has_next : {text : List ℕ} {pieces : List Piece} {first start line : ℕ} {t : LineTokens} (left : List Piece) → AreLineText text pieces
-    → HaveReadOf text pieces left first start line t → start < length text → HasNext text pieces first start line t
+    → HaveReadOf text pieces left first start line t → start < length text
+    → (p : Piece) × BeginWithPiece (rest_of text start) p
+    × ((role : Role) (len : ℕ) → IsTakenFor p role len → IsTakenNext text pieces first start line t role len)
 has_next {text = text} {start = start} [] is h inside = absurd (omega (arith, inside, ap length h.are.spell, length-drop start text))
 has_next {text = text} {pieces = pieces} {first = first} {start = start} {line = line} {t = t} (p ∷ qs) is h inside =
     let lines : line_ends (spelled (p ∷ qs)) ≡ line_ends p.text + line_ends (spelled qs) = line_ends-first p qs h.are.after h.are.fit in
     let some : 0 < byte_len p.text = omega (arith, piece_some p.class p.text h.are.fit.0, length-le-encodes p.text) in
     let within : start + byte_len p.text ≤ length text
     = omega (arith, inside, ap length h.are.spell, byte_len-append p.text (spelled qs), length-drop start text) in
-    record {
-      p = p;
-      begin = subst (λ (l : List ℕ). BeginWithPiece l p) (sym (rest_is text start)) (record {
-        unmarked = h.unmarked;
-        others = qs;
-        depth = h.depth;
-        text = h.are;
-      });
-      taken = λ piece taken. record {
-        some = omega (arith, some, taken.len);
-        within = omega (arith, within, taken.len);
-        lines = omega (arith, h.lines, lines, taken.line_ends, line_ends-bytes (spelled pieces), ap length is.spell);
-        more = λ u adds. (
-          qs,
+    let begin : BeginWithPiece (rest_of text start) p = subst (λ (l : List ℕ). BeginWithPiece l p) (sym (rest_is text start)) (record {
+      unmarked = h.unmarked;
+      others = qs;
+      depth = h.depth;
+      text = h.are;
+    }) in (
+      p,
+      begin,
+      λ role len taken.
+          let counted = lines_told begin taken in
           record {
-            unmarked = h.are.fit.2;
-            depth = depth_after h.depth p;
-            are = subst (λ (l : List ℕ). AreTextAt (depth_after h.depth p) l qs)
-                (drop-drop (byte_len p.text) start text ∙ ap (λ (n : ℕ). drop (start + n) text) (sym taken.len))
-                (text_after h.depth (drop start text) p qs h.are);
-            lines = omega (arith, h.lines, lines, taken.line_ends);
-            kind = h.kind ∙ ap (λ k. kind_on k qs) (sym (adds.kind ∙ ap (λ r. kind_with t.kind r) taken.role));
-            indent = adds.indent ∙ h.indent;
-            tokens = h.tokens ∙ rw (adds.tokens, taken.role, taken.len, taken.line_ends, append_assoc, own_token p.class p.text);
+            some = omega (arith, some, taken.1);
+            within = omega (arith, within, taken.1);
+            lines = omega (arith, h.lines, lines, counted, line_ends-bytes (spelled pieces), ap length is.spell);
+            more = λ u adds. (
+              qs,
+              record {
+                unmarked = h.are.fit.2;
+                depth = depth_after h.depth p;
+                are = subst (λ (l : List ℕ). AreTextAt (depth_after h.depth p) l qs)
+                    (drop-drop (byte_len p.text) start text ∙ ap (λ (n : ℕ). drop (start + n) text) (sym taken.1))
+                    (text_after h.depth (drop start text) p qs h.are);
+                lines = omega (arith, h.lines, lines, counted);
+                kind = h.kind ∙ ap (λ k. kind_on k qs) (sym (adds.kind ∙ ap (λ r. kind_with t.kind r) taken.0));
+                indent = adds.indent ∙ h.indent;
+                tokens = h.tokens ∙ rw (adds.tokens, counted, taken.0, taken.1, append_assoc, own_token p.class p.text);
+              },
+            );
           },
-        );
-      };
-    }
+    )
 
 -- a line that is read to its end
 pub whole_read : {text : List ℕ} {pieces : List Piece} {first start line : ℕ} {t : LineTokens} (left : List Piece)
@@ -147,6 +146,10 @@ whole_read {text = text} {start = start} (p ∷ qs) h end =
 -- the mark in UTF-8
 abbrev mark_bytes : List ℕ
 mark_bytes = 0xEF ∷ 0xBB ∷ 0xBF ∷ []
+
+-- how many of it the text begins with
+abbrev mark_len : List ℕ → ℕ
+mark_len text = if starts_with nat_eq text mark_bytes then 3 else 0
 
 mark_encoded : encode_utf8_all (0xFEFF ∷ []) ≡ mark_bytes
 unfolding encode

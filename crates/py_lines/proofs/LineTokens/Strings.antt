@@ -1,10 +1,10 @@
 -- A string without fields and without escapes, which is passed at once, is the first piece of the bytes.
-use Rattle.std.proofs.Common.{◌≡◌, ℕ, ◌+◌, ◌<◌, ◌≤◌, inl, inr, true, false, List, [], ◌∷◌, ◌++◌, length, drop, refl, sym, ap, ◌∙◌, subst, append_assoc, append-nil, arith, length-append, ⊎_elim, take}
+use Rattle.std.proofs.Common.{◌≡◌, ℕ, ◌+◌, ◌<◌, inl, inr, true, false, List, [], ◌∷◌, ◌++◌, length, drop, refl, sym, ap, ◌∙◌, subst, append_assoc, append-nil, arith, length-append, take}
 use Rattle.std.specs.Prelude.{encode_utf8_all}
 use Rattle.std.specs.List.{list_all}
-use Rattle.std.proofs.lemmas.Bool.{and_from, and_parts, both_ways, cases_lt}
+use Rattle.std.proofs.lemmas.Bool.{and_from, and_parts}
 use Rattle.std.proofs.lemmas.Bool.Decides.{nat_tests}
-use Rattle.std.proofs.lemmas.List.{length-take-le, same_from_push, take-append-drop, drop_all}
+use Rattle.std.proofs.lemmas.List.{length-take, same_from_push, take-append-drop}
 use Rattle.std.proofs.lemmas.Str.{encodes-append}
 use Rattle.py_lines.specs.Character.{is_backslash, is_barred, is_quote}
 use Rattle.py_lines.specs.Piece.{string, Piece, spelled, begins}
@@ -23,6 +23,7 @@ use Rattle.py_lines.proofs.FieldSoundness.BodyMoves.{quoted_prefix}
 use Rattle.py_lines.proofs.Machine.Spellings.{other_begins, prefix_spelling, word_tells}
 use Rattle.py_lines.proofs.LineScan.AsciiRuns.{is_low, low_encodes, low_is, quote_ascii}
 use Rattle.py_lines.proofs.Text.Utf8Shapes.{one}
+use Rattle.py_lines.proofs.LineTokens.FirstPieces.{begins_at}
 use Rattle.py_lines.proofs.LineTokens.Spellings.{fielded_spelling, prefix_low}
 use Rattle.py_lines.proofs.FieldScans.TextLengths.{rest_is, rest_of}
 
@@ -62,11 +63,6 @@ plain_prefix (c ∷ cs) is plain = record {
   any = inr (fielded_spelling c cs ∙ is);
   low = (low_encodes is_low (c ∷ cs) low_is (prefix_low (c ∷ cs) is)).0;
 }
-
--- a quote after so many bytes
-quote_within : (bs : List ℕ) (k : ℕ) → begins is_quote (drop k bs) ≡ true → k ≤ length bs
-quote_within bs k h =
-    ⊎_elim (λ over. absurd (both_ways _ (ap (begins is_quote) (drop_all k bs (omega (arith, over)))) h)) (λ within. within) (cases_lt (length bs) k)
 
 -- of two lists that are compared, with one piece in the first, the first pieces are the same
 first_same : (w p : Piece) (others : List Piece) → Compared Piece (w ∷ []) (p ∷ others) → w ≡ p
@@ -147,7 +143,8 @@ plain_taken bytes n len quotes prefix plain has p is b =
       arith,
       size word s.q s.run w s.quote s.full s.all,
       s.size,
-      length-take-le n bytes (quote_within bytes n quotes),
+      (begins_at is_quote bytes n quotes).0,
+      length-take n bytes,
       ap length (low word s.q s.run w s.quote s.full s.all),
       ap (λ (x : Piece). byte_len x.text) (is_first word s.q s.run w s.quote s.full s.all bytes s.after p spell b),
     )

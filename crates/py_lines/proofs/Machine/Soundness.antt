@@ -2,12 +2,13 @@
 use Rattle.std.proofs.Common.{◌≡◌, ℕ, true, false, eqb, List, [], ◌∷◌, ◌++◌, refl, sym, ap, ◌∙◌, subst, inl, inr, append_assoc, arith}
 use Rattle.std.proofs.lemmas.Bool.{cond_both, and_from, and_left, and_right, eqb-true}
 use Rattle.std.proofs.lemmas.Bool.Decides.{nat_tests}
+use Rattle.std.proofs.lemmas.List.Sums.{fold-append}
 use Rattle.py_lines.specs.Character.{is_mark, is_space, is_word_character, is_quote, is_line_feed, is_return, is_break}
 use Rattle.py_lines.specs.Piece.{string, operator, line_end, Piece, ends}
 use Rattle.py_lines.specs.PieceGrammar.{feed, return_feed, return, InPlainClass, is_prefix, joined, MayPrecedePlain, AreReadPlain}
 use Rattle.py_lines.specs.Private.Machine.{Spelling, Mode, Move, Start, Holds, HoldsShort, HoldsSome, HoldsQuotes, HoldsPrefix, HoldsLong, class_of, closed, move_of, short_move, long_move, start_of, first_spelling, spelling_with, is_prefix_spelling, is_final}
 use Rattle.py_lines.proofs.Machine.Starts.{StartsSo, starts_so}
-use Rattle.py_lines.proofs.Machine.Spellings.{spelling_on-push, prefix_spelling}
+use Rattle.py_lines.proofs.Machine.Spellings.{prefix_spelling}
 use Rattle.py_lines.proofs.Text.CharacterTests.{feed_is, return_is, barred, feed-not-others}
 use Rattle.py_lines.proofs.Machine.OpenPieces.{list_all-push, list_any-push, push, same_quotes, something, long_something, short_push, prefix_push, opening_none, opening_one, opening_two, none_yet, one_more_quote, short_string, long_string}
 
@@ -36,7 +37,7 @@ MoveHolds m held c Move.Refused = Unit {0}
 -- a word that goes on
 pub word_on : (s : Spelling) (held : List ℕ) (c : ℕ) → Holds (Mode.Word s) [] held → is_word_character c ≡ true → Holds (Mode.Word (spelling_with s c)) [] (held ++ c ∷ [])
 word_on s held c (first, others, is, opens, run, so) passes =
-    (first, others ++ c ∷ [], push held c is, opens, list_all-push is_word_character others c run passes, ap (λ t. spelling_with t c) so ∙ sym (spelling_on-push (first_spelling first) others c))
+    (first, others ++ c ∷ [], push held c is, opens, list_all-push is_word_character others c run passes, ap (λ t. spelling_with t c) so ∙ sym (fold-append spelling_with (first_spelling first) others (c ∷ [])))
 
 -- a character in a short string, between two items
 short_holds : (m : Mode) (held : List ℕ) (q c : ℕ) → HoldsShort q held → eqb c q ≡ false → MoveHolds m held c (short_move q c)

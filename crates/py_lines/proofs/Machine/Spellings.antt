@@ -1,24 +1,15 @@
 -- A word's spelling, as the machine keeps it, says whether the word is the prefix of a string, with fields or without.
-use Rattle.std.proofs.Common.{◌≡◌, ℕ, List, [], ◌∷◌, ◌++◌, refl, ◌⊎◌, arith, true, false}
+use Rattle.std.proofs.Common.{◌≡◌, ℕ, List, [], ◌∷◌, refl, arith, true, false}
 use Rattle.py_lines.specs.PieceGrammar.{is_prefix}
 use Rattle.py_lines.specs.Private.Machine.{Spelling, first_spelling, spelling_with, is_prefix_spelling, is_field_spelling, is_raw_spelling, begins_string, spelling_on, Mode, Holds}
-use Rattle.py_lines.proofs.Text.CharacterTests.{digit-not-letter, r-not-others, t-not-u, b-not-others}
+use Rattle.py_lines.proofs.Text.CharacterTests.{r-not-others, t-not-u, b-not-others}
+use Rattle.std.proofs.lemmas.List.Folds.{fold_stays}
 use Rattle.std.specs.List.{list_any}
 use Rattle.py_lines.specs.Character.{is_r}
 use Rattle.py_lines.specs.FieldStrings.{is_field_prefix}
 
-pub name_stays : (cs : List ℕ) → spelling_on Spelling.Name cs ≡ Spelling.Name
-unfolding spelling_with
-name_stays [] = refl
-name_stays (c ∷ cs) = name_stays cs
-
-pub number_stays : (cs : List ℕ) → spelling_on Spelling.Number cs ≡ Spelling.Number
-unfolding spelling_with
-number_stays [] = refl
-number_stays (c ∷ cs) = number_stays cs
-
 -- a word of three characters is no prefix
-pub third : (s : Spelling) (b c : ℕ) → (spelling_with (spelling_with s b) c ≡ Spelling.Number) ⊎ (spelling_with (spelling_with s b) c ≡ Spelling.Name)
+pub third : (s : Spelling) (b c : ℕ) → spelling_with (spelling_with s b) c ≡ Spelling.Name
 unfolding spelling_with
 third s b c = grind arith
 
@@ -31,14 +22,15 @@ TellsAll word s = (is_prefix word ≡ is_prefix_spelling s) × Tells word s
 
 one_letter : (a : ℕ) → TellsAll (a ∷ []) (first_spelling a)
 unfolding first_spelling
-one_letter a = grind (arith, digit-not-letter a, r-not-others a, b-not-others a, t-not-u a)
+one_letter a = grind (arith, r-not-others a, b-not-others a, t-not-u a)
 
 two_letters : (a b : ℕ) → TellsAll (a ∷ b ∷ []) (spelling_with (first_spelling a) b)
 unfolding first_spelling spelling_with
-two_letters a b = grind (arith, digit-not-letter a, r-not-others a, b-not-others a, b-not-others b)
+two_letters a b = grind (arith, r-not-others a, b-not-others a, b-not-others b)
 
 more_letters : (first b c : ℕ) (cs : List ℕ) → TellsAll (first ∷ b ∷ c ∷ cs) (spelling_on (spelling_with (spelling_with (first_spelling first) b) c) cs)
-more_letters first b c cs = grind (arith, third (first_spelling first) b c, number_stays cs, name_stays cs)
+unfolding spelling_with
+more_letters first b c cs = grind (arith, third (first_spelling first) b c, fold_stays spelling_with Spelling.Name (λ x. refl) cs)
 
 all_told : (first : ℕ) (others : List ℕ) → TellsAll (first ∷ others) (spelling_on (first_spelling first) others)
 all_told first [] = one_letter first
@@ -60,7 +52,3 @@ word_told s held (first, others, is, opens, run, spells) = rw (is, spells) (word
 pub other_begins : (s : Spelling) → is_field_spelling s ≡ false → begins_string s ≡ is_prefix_spelling s
 other_begins Spelling.F h = grind arith
 other_begins s h = grind arith
-
-pub spelling_on-push : (s : Spelling) (cs : List ℕ) (c : ℕ) → spelling_on s (cs ++ c ∷ []) ≡ spelling_with (spelling_on s cs) c
-spelling_on-push s [] c = refl
-spelling_on-push s (d ∷ cs) c = spelling_on-push (spelling_with s d) cs c

@@ -1,9 +1,9 @@
 -- Line ends that are counted as bytes are passed.
-use Rattle.std.proofs.Common.{◌≡◌, ℕ, zero, suc, ◌+◌, ◌-◌, ◌<◌, ◌≤◌, ◌==◌, true, false, List, [], ◌∷◌, ◌++◌, take, drop, length, length-drop, slice_index, refl, sym, ap, ◌∙◌, subst, arith, ⊎_elim, get_or-drop}
+use Rattle.std.proofs.Common.{◌≡◌, ℕ, zero, suc, ◌+◌, ◌-◌, ◌<◌, ◌≤◌, ◌==◌, true, false, List, [], ◌∷◌, ◌++◌, take, drop, length, length-drop, slice_index, refl, sym, ap, ◌∙◌, subst, arith, ⊎_elim, inl, inr, get_or-drop, drop-cons}
 use Rattle.std.proofs.lemmas.Bool.{both_ways, cases_lt, false_from_ne_true, or_parts}
 use Rattle.std.proofs.lemmas.List.Folds.{list_any-append}
 use Rattle.std.proofs.lemmas.List.Sums.{sum_by-append, sum_by-cons}
-use Rattle.std.proofs.lemmas.List.{drop-drop}
+use Rattle.std.proofs.lemmas.List.{drop-drop, get_or-take}
 use Rattle.std.proofs.Math.Seq.{take-add}
 use Rattle.std.specs.List.{count_by, list_any}
 use Rattle.std.specs.Prelude.{codes, cond, encode_utf8_all}
@@ -12,8 +12,9 @@ use Rattle.py_lines.specs.declared.marks.Marks.{Marks}
 use Rattle.py_lines.specs.LogicalLine.{line_ends}
 use Rattle.py_lines.specs.declared.passing.Passing.{Passing}
 use Rattle.py_lines.specs.Balance.{is_closing, is_opening}
+use Rattle.py_lines.specs.Private.LineEnds.{BeginsOuterEnd}
 use Rattle.py_lines.specs.Private.Marks.{FindsNext, is_plain}
-use Rattle.py_lines.specs.Private.Passing.{CountsOn, nothing_passed, passed_line_end}
+use Rattle.py_lines.specs.Private.Passing.{CountsOn, nothing_passed}
 use Rattle.py_lines.specs.Private.Run.{is_ascii_word}
 use Rattle.py_lines.proofs.PassedPieces.FirstBytes.{first_later, taken_one}
 use Rattle.py_lines.proofs.Text.CharacterTests.{excluded, feed_is, none_of, return_is}
@@ -29,6 +30,11 @@ between-append bytes a b c first second =
     let there : a + (b - a) ≡ b = omega (arith, first) in
     ap (λ (n : ℕ). take n (drop a bytes)) size ∙ take-add (b - a) (c - b) (drop a bytes)
     ∙ ap (λ x. between bytes a b ++ take (c - b) x) (drop-drop (b - a) a bytes ∙ ap (λ (n : ℕ). drop n bytes) there)
+
+pub bytes_from : (bytes : List ℕ) (at : ℕ) → at < length bytes → drop at bytes ≡ slice_index bytes at ∷ drop (at + 1) bytes
+bytes_from bytes at within =
+    let next : suc at ≡ at + 1 = omega arith in
+    drop-cons bytes at 0 within ∙ ap (λ (n : ℕ). slice_index bytes at ∷ drop n bytes) next
 
 -- one byte
 pub one_between : (bytes : List ℕ) (end : ℕ) → end < length bytes → between bytes end (end + 1) ≡ slice_index bytes end ∷ []
@@ -106,6 +112,27 @@ counts_on bytes old mid new first second =
           omega (arith, later, before, sum);
     }
 
+-- over a line end that is LF, where none is said to be CR
+pub counts_end : (bytes : List ℕ) (old new : Passing) (len : ℕ) → BeginsOuterEnd (drop old.all bytes) len → new.all ≡ old.all + len
+    → new.feeds ≡ old.feeds + 1 → (new.returned ≡ false → (old.returned ≡ false) × (slice_index bytes old.all == 13 ≡ false)) → CountsOn bytes old new
+unfolding is_return is_line_feed
+counts_end bytes old new len ends all feeds returned =
+    let line : new.returned ≡ false → between bytes old.all new.all ≡ 10 ∷ [] = λ no.
+    let size : new.all - old.all ≡ len = omega (arith, all) in
+    let first = get_or-take len (drop old.all bytes) 0 0 ends.some ∙ first_later bytes old.all in
+    let other : slice_index (take len (drop old.all bytes)) 0 ≡ 13 → ⊥ = λ is. both_ways _ (returned no).1 (ap (λ c. c == 13) (sym first ∙ is)) in
+    ap (λ (n : ℕ). take n (drop old.all bytes)) size ∙ elim ends.is [
+      | inl (false, is) ↦ is
+      | inl (true, is) ↦ absurd (other (ap (λ xs. slice_index xs 0) is))
+      | inr (is, more) ↦ absurd (other (ap (λ xs. slice_index xs 0) is))
+    ] in
+    record {
+      further = omega (arith, all);
+      few = λ few. omega (arith, few, all, feeds, ends.some);
+      unreturned = λ no. ((returned no).0, ap (list_any is_return) (line no));
+      feeds = λ no. feeds ∙ ap (λ xs. old.feeds + count_by is_line_feed xs) (sym (line no));
+    }
+
 -- over plain bytes and a piece that isn't plain
 module _ (bytes : List ℕ) (at : ℕ) (old new : Passing) (next : FindsNext bytes old.all at old.marks) where
   pub counts_piece : (end : ℕ) → at < end → is_break (slice_index bytes at) ≡ false → Unbroken bytes (at + 1) end → new.all ≡ end
@@ -116,34 +143,6 @@ module _ (bytes : List ℕ) (at : ℕ) (old new : Passing) (next : FindsNext byt
 
   pub counts_byte : is_break (slice_index bytes at) ≡ false → new.all ≡ at + 1 → new.feeds ≡ old.feeds → new.returned ≡ old.returned → CountsOn bytes old new
   counts_byte first = counts_piece (at + 1) (omega arith) first (λ i from upto. absurd (omega (arith, from, upto)))
-
-  -- LF
-  pub counts_feed : at < length bytes → slice_index bytes at ≡ 10 → new ≡ passed_line_end old (at + 1) → CountsOn bytes old new
-  unfolding is_return is_line_feed
-  counts_feed within is passed =
-      let one = one_between bytes at within ∙ ap (λ (c : ℕ). c ∷ []) is in
-      let mid : Passing = record old { all = at } in
-      let before = counts_over bytes old mid next.after (plain_unbroken next) refl refl in
-      subst (CountsOn bytes old) (sym passed) (counts_on bytes old mid (passed_line_end old (at + 1)) before (record {
-        further = omega arith;
-        few = λ few. omega (arith, few);
-        unreturned = λ no. (no, ap (list_any is_return) one);
-        feeds = λ no. ap (λ xs. old.feeds + count_by is_line_feed xs) (sym one);
-      }))
-
-  -- what may be CR
-  pub counts_return : (mid : Passing) (len : ℕ) → 0 < len → mid.feeds ≡ old.feeds → mid.returned ≡ true
-      → new ≡ passed_line_end mid (at + len) → CountsOn bytes old new
-  counts_return mid len some feeds returned passed =
-      let returns = ap (λ (p : Passing). p.returned) passed ∙ returned in
-      let all = ap (λ (p : Passing). p.all) passed in
-      let more = ap (λ (p : Passing). p.feeds) passed in
-      record {
-        further = omega (arith, next.after, all);
-        few = λ few. omega (arith, few, next.after, some, all, more, feeds);
-        unreturned = λ no. absurd (both_ways _ no returns);
-        feeds = λ no. absurd (both_ways _ no returns);
-      }
 
 -- the line ends of all that were passed
 pub ends_counted : (bytes : List ℕ) {marks : Marks} (p : Passing) → CountsOn bytes (nothing_passed marks) p → p.returned ≡ false → (characters : List ℕ)

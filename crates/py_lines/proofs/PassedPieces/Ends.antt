@@ -1,30 +1,30 @@
 -- A piece that ends before the next byte is passed with the bytes before it.
 use Rattle.std.proofs.Common.{◌≡◌, ℕ, ◌+◌, ◌<◌, true, false, List, [], ◌∷◌, ◌++◌, length, drop, refl, sym, ap, ◌∙◌, subst, arith, append-nil}
 use Rattle.std.specs.Prelude.{encode_utf8_all}
-use Rattle.std.proofs.lemmas.Bool.{both_ways}
+use Rattle.std.proofs.lemmas.Bool.{and_parts, both_ways, not-true}
 use Rattle.std.proofs.Math.Seq.{drop-append_seam}
-use Rattle.py_lines.specs.FieldStrings.{literal}
-use Rattle.py_lines.specs.Piece.{spelled}
-use Rattle.py_lines.specs.Private.Mode as modes
 use Rattle.py_lines.specs.LogicalLine.{byte_len}
+use Rattle.py_lines.specs.declared.mode.Mode.{Mode as OpenMode}
 use Rattle.py_lines.specs.declared.mode.Mode.TheVariants as opens
 use Rattle.py_lines.specs.declared.scan.Scan.{Scan}
-use Rattle.py_lines.specs.Private.FieldMachine.{FieldMode, FieldScanned, before, field_fresh, field_move, field_state, plain, text_place}
-use Rattle.py_lines.specs.Private.Scan.{ComesOver, Follows, HoldsCode, IsFirstByte, Rests, Takes, ends_before, is_ending, is_text, mode_from, passed}
+use Rattle.py_lines.specs.Private.FieldMachine.{FieldMode, FieldScanned, field_move, text_place}
+use Rattle.py_lines.specs.Private.Frames.{has_field}
+use Rattle.py_lines.specs.Private.Scan.{ComesOver, Follows, IsFirstByte, Rests, Takes, ends_before, is_ending, is_free_mode, is_in_code, is_text, mode_from, passed}
 use Rattle.py_lines.proofs.FieldScans.LineEnds.{breaks_mode, code_place}
-use Rattle.py_lines.proofs.FieldScans.Taking.{follows_open, follows_free, free_at, rests_ended, stands_at}
+use Rattle.py_lines.proofs.FieldScans.Runs.{free_start}
+use Rattle.py_lines.proofs.FieldScans.Taking.{follows_open, free_at, rests_ended, stands_at}
+
+-- in code no piece is open and no field
+pub in_code : (scan : Scan) → is_in_code scan ≡ true → (scan.mode ≡ opens.Free) × (has_field scan.frames ≡ false)
+in_code scan code = let parts = and_parts (is_free_mode scan.mode) _ code in (free scan.mode parts.0, not-true _ parts.1)
+  where
+    free : (m : OpenMode) → is_free_mode m ≡ true → m ≡ opens.Free
+    free opens.Free is = refl
+    free m is = absurd (both_ways _ refl is)
 
 -- where no piece is open, none is passed
 pub passes_none : (old : Scan) (bytes : List ℕ) → old.mode ≡ opens.Free → Takes old bytes 0 (passed old 0)
-passes_none old bytes free t follow =
-    let mode : plain modes.Free ≡ t.mode = sym (ap mode_from free) ∙ follow.mode in
-    let held : [] ≡ t.held = sym (subst (λ (m : FieldMode). HoldsCode m t.held) (sym mode) follow.holds) in
-    let same : field_fresh t.outer t.done t.openers ≡ t = λ i. field_state t.outer t.done t.openers (mode i) (held i) in
-    let more : old.stop + 0 ≡ old.stop = omega arith in
-    let stop : old.stop + 0 ≡ byte_len (before literal t.outer ++ spelled t.done) = more ∙ (stands_at old t follow (sym (ap text_place mode))).ends
-    ∙ ap (λ x. byte_len (before literal t.outer ++ (spelled t.done ++ x))) (sym held) ∙ ap (λ x. byte_len (before literal t.outer ++ x)) (append-nil (spelled t.done)) in
-    let follows = follows_free (record old { stop = old.stop + 0 }) t.outer t.done t.openers follow.frames stop in
-    record { run = []; spell = refl; scalars = refl; size = refl; comes = subst (Follows (passed old 0)) same follows }
+passes_none old bytes free t follow = record { run = []; spell = refl; scalars = refl; size = refl; comes = free_start old t follow free }
 
 -- what is open after these bytes may end, and ends before another
 pub record EndsBefore (scan : Scan) (b : ℕ) : Type 0 where

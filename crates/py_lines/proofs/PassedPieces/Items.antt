@@ -1,6 +1,6 @@
--- What a byte that isn't plain begins, after plain bytes, as the scan would take it: a bracket, a line end, a short string of ASCII, or a
--- comment.
-use Rattle.std.proofs.Common.{◌≡◌, ℕ, ◌+◌, ◌<◌, ◌==◌, ◌&&◌, not, nat_lt, Bool, true, false, Option, None, Some, List, [], ◌∷◌, ◌++◌, length, slice_index, refl, sym, ap, ◌∙◌, subst, arith, append_assoc, length-append}
+-- What a byte that isn't plain begins, after plain bytes, as the scan would take it: a bracket, a line end, a join of two lines, a short string
+-- of ASCII, or a comment.
+use Rattle.std.proofs.Common.{◌≡◌, ℕ, ◌+◌, ◌<◌, ◌==◌, not, nat_lt, Bool, true, false, Option, None, Some, List, [], ◌∷◌, ◌++◌, length, drop, refl, sym, ap, ◌∙◌, subst, arith, append_assoc, length-append}
 use Rattle.std.specs.Prelude.{codes}
 use Rattle.std.specs.Char.{len_utf8}
 use Rattle.std.specs.List.{list_all}
@@ -11,24 +11,26 @@ use Rattle.std.proofs.Math.Seq.{drop-append_seam}
 use Rattle.py_lines.specs.Balance.{is_closing, is_opening}
 use Rattle.py_lines.specs.Character.{is_backslash, is_break, is_hash, is_operator, is_quote}
 use Rattle.py_lines.specs.declared.frames.Frame.{Frame}
+use Rattle.py_lines.specs.declared.frames.Frame.TheVariants as frame
 use Rattle.py_lines.specs.declared.mode.Mode.{Mode as OpenMode}
 use Rattle.py_lines.specs.declared.mode.Mode.TheVariants as opens
 use Rattle.py_lines.specs.declared.mode.Spelling.{Spelling}
 use Rattle.py_lines.specs.declared.mode.Spelling.TheVariants as spellings
 use Rattle.py_lines.specs.declared.scan.Progress.TheVariants as progress
 use Rattle.py_lines.specs.declared.scan.Scan.{Scan}
-use Rattle.py_lines.specs.Private.Frames.{ClosesBracket, OpensBracket}
-use Rattle.py_lines.specs.Private.FieldMachine.{FieldScanned, closes, field_move, plain}
+use Rattle.py_lines.specs.Private.Frames.{IsClosedBy, OpensFrame}
+use Rattle.py_lines.specs.Private.FieldMachine.{FieldScanned, closes, closing_move, field_move, plain, text_place}
 use Rattle.py_lines.specs.Private.LineEnds.{BeginsOuterEnd}
 use Rattle.py_lines.specs.Private.Machine.{begins_string, is_field_spelling, move_of, short_move}
 use Rattle.py_lines.specs.Private.Mode as modes
 use Rattle.py_lines.specs.Private.Passing.{EndsAfter, tail_of, with_frames}
-use Rattle.py_lines.specs.Private.Run.{is_body_byte, is_text_byte}
-use Rattle.py_lines.specs.Private.Scan.{ComesTo, Follows, GoesOver, GrowsInText, QuotesInText, Steps, Takes, TakesOperator, TextGoes, begun_at, ends_before, grown, is_text, line_end_progress, mode_from, passed, quotes_in, string_mode, with_bytes}
+use Rattle.py_lines.specs.Private.Run.{is_body_byte, is_line_byte, is_text_byte}
+use Rattle.py_lines.specs.Private.Scan.{ComesTo, Follows, GoesOver, GrowsInText, IsTextAt, QuotesInText, Steps, Takes, TakesOperator, TextGoes, begun_at, ends_before, grown, is_text, line_end_progress, mode_from, passed, quotes_in, string_mode, with_bytes}
 use Rattle.py_lines.specs.Private.Marks.{is_plain}
 use Rattle.py_lines.proofs.Machine.LiveTexts.{closing-operator}
 use Rattle.py_lines.proofs.Machine.Starts.{opening_operator, start-hash}
-use Rattle.py_lines.proofs.FieldScans.CodeItems.{comment_begins, line_end_comes, operator_comes, piece_grows, StringBegun, after_piece, after_prefix, other_word, quotes_open}
+use Rattle.py_lines.proofs.FieldScans.CodeItems.{comment_begins, line_end_comes, operator_comes, piece_grows, StringBegun, after_piece, after_prefix, other_word, quotes_empty, quotes_open}
+use Rattle.py_lines.proofs.FieldScans.LineEnds.{joins}
 use Rattle.py_lines.proofs.FieldScans.PlainCode.{over_code}
 use Rattle.py_lines.proofs.FieldScans.Operators.{bracket_opens, closes_bracket}
 use Rattle.py_lines.proofs.FieldScans.StringBytes.{closes_short, grows_low, grows_other}
@@ -41,7 +43,7 @@ use Rattle.py_lines.proofs.LineScan.Runs.{body_parts}
 use Rattle.py_lines.proofs.LogicalLines.Cuts.{break-return}
 use Rattle.py_lines.proofs.PassedPieces.Ends.{EndsBefore, takes_ended}
 use Rattle.py_lines.proofs.PassedPieces.PlainBytes.{IsTail, PlainTo, low_first, tail_ends}
-use Rattle.py_lines.proofs.Text.CharacterTests.{each_of, operator_ascii}
+use Rattle.py_lines.proofs.Text.CharacterTests.{each_of, operator_ascii, the_one}
 use Rattle.py_lines.proofs.Text.FirstBytes.{first_low}
 
 -- where this mode is open, these bytes leave it so, whatever follows them
@@ -71,13 +73,10 @@ stays_run m passes each (c ∷ cs) all =
     let parts = and_parts (passes c) (list_all passes cs) all in
     stays_on m (c ∷ []) cs (each c parts.0) (stays_run m passes each cs parts.1)
 
--- what may stand in a comment of ASCII
-abbrev pub is_remark : ℕ → Bool
-is_remark c = nat_lt c 128 && not (is_break c)
-
-pub remark_byte : (c : ℕ) → is_remark c ≡ true → Stays opens.Comment (c ∷ [])
-remark_byte c remark old mode rest =
-    let parts = and_parts (nat_lt c 128) (not (is_break c)) remark in
+-- ASCII that ends no line stays in a comment
+pub comment_byte : (c : ℕ) → is_line_byte c ≡ true → Stays opens.Comment (c ∷ [])
+comment_byte c is old mode rest =
+    let parts = and_parts (nat_lt c 128) (not (is_break c)) is in
     let low = ltb-true c 128 parts.0 in
     takes_step old (with_bytes old 1) (c ∷ rest) 1 (λ t follow.
     subst (λ m. GoesOver t (c ∷ rest) 1 (record old { mode = m; stop = old.stop + 1 })) (sym mode)
@@ -121,14 +120,6 @@ module _ (q : ℕ) (quote : is_quote q ≡ true) where
       (text_as-self rest (plain (modes.Inside q)))))
       (ap (λ m. record old { mode = m; stop = old.stop + 2 }) mode))
 
-  quote_closes : (old : Scan) (rest : List ℕ) → old.mode ≡ opens.Short q → Takes old (q ∷ rest) 1 (passed old 1)
-  quote_closes old rest mode =
-      let first = low_first q rest (quote_ascii q quote) in
-      takes_step old (passed old 1) (q ∷ rest) 1 (λ t follow.
-      closes_over old t follow (ap is_text mode) (q ∷ rest) 1 (passed old 1)
-      (subst (λ m. QuotesInText m (q ∷ rest) 1 closes) (sym (ap mode_from mode) ∙ follow.mode)
-      (closes_short (plain (modes.Inside q)) q q (q ∷ rest) quote first refl (refl, refl))) refl)
-
 -- no word ends there, or the prefix of a string without fields
 abbrev pub PlainBefore : Option Spelling → Type 0
 PlainBefore None = Unit {0}
@@ -162,15 +153,15 @@ module _ {scan : Scan} {run : List ℕ} (p : PlainTo scan run) (c : ℕ) (rest :
       over 1 more (takes_step mid (passed (with_frames mid more) 1) (c ∷ rest) 1 (λ t follow.
       operator_comes mid t (c ∷ rest) c follow (low_first c rest low) (ends_it low) stands (progress.Going 1) (passed (with_frames mid more) 1) takes))
 
-  pub opening_over : (more : List Frame) → is_opening c ≡ true → OpensBracket mid.frames c mid.stop true more → Over 1 more
+  pub opening_over : (more : List Frame) → is_opening c ≡ true → OpensFrame mid.frames (frame.Bracket c mid.stop) true more → Over 1 more
   opening_over more opens met =
       let stands = opening_operator c opens in
-      bracket_over more stands (λ u follows ends. bracket_opens mid c u follows ends stands opens true refl more met (with_frames mid more) _ refl refl)
+      bracket_over more stands (λ u follows ends. bracket_opens mid c u follows ends stands opens more met _ refl)
 
-  pub closing_over : (more : List Frame) → is_closing c ≡ true → ClosesBracket mid.frames c true more → Over 1 more
+  pub closing_over : (more : List Frame) → is_closing c ≡ true → IsClosedBy mid.frames c more → Over 1 more
   closing_over more shuts met =
       let stands = closing-operator c shuts in
-      bracket_over more stands (λ u follows ends. closes_bracket mid c u follows ends stands shuts true refl more met (with_frames mid more) _ refl refl)
+      bracket_over more stands (λ u follows ends. closes_bracket mid c u follows ends stands shuts more met _ refl)
 
   -- a line end goes on with the line, or ends it
   module _ (len : ℕ) (ends : is_break c ≡ true) (begins : BeginsOuterEnd (c ∷ rest) len) where
@@ -190,55 +181,78 @@ module _ {scan : Scan} {run : List ℕ} (p : PlainTo scan run) (c : ℕ) (rest :
       ends = transport (λ i. Steps mid (sym (drop-append_seam run (c ∷ rest)) i) (progress.LineEnded len) (passed_as len mid.frames i)) (break_comes true none);
     }
 
--- a short string, before whose quote no word stands, or the prefix of one without fields
+  -- a join of two lines
+  pub join_over : (len : ℕ) → is_backslash c ≡ true → BeginsOuterEnd rest len → Over (1 + len) mid.frames
+  unfolding is_backslash
+  join_over len slash begins =
+      let is : 92 ≡ c = sym (the_one 92 c slash) in
+      over (1 + len) mid.frames (takes_step mid (passed mid (1 + len)) (c ∷ rest) (1 + len) (λ t follow.
+      subst (λ (b : ℕ). GoesOver t (b ∷ rest) (1 + len) (passed mid (1 + len))) is
+      (joins mid t follow (ap (ends_before mid.mode) is ∙ ends_it (omega (arith, is))) rest len begins)))
+
+-- a short string
 module _ {scan : Scan} {run : List ℕ} (p : PlainTo scan run) (q : ℕ) (special : is_plain q ≡ false) (quote : is_quote q ≡ true) where
   abbrev before_it : Scan
   before_it = over_code scan run
 
-  abbrev Opened : ℕ → Scan
-  Opened start = record before_it { mode = opens.Short q; start = start; stop = before_it.stop + 1 }
+  before_quote : ends_before before_it.mode q ≡ true
+  before_quote = tail_ends (tail_of run) before_it.mode q p.tail (quote_ascii q quote) special
 
-  first_quote : (d : ℕ) (rest : List ℕ) → (d ≡ q → ⊥) → PlainBefore (tail_of run) → (start : ℕ) × Takes before_it (q ∷ d ∷ rest) 1 (Opened start)
-  first_quote d rest other = go (tail_of run) p.tail
-    where
-      bytes : List ℕ
-      bytes = q ∷ d ∷ rest
+  -- it begins with such a word before its quote
+  abbrev Begins : Spelling → ℕ → Type 0
+  Begins s start = (t : FieldScanned) → Follows before_it t → StringBegun before_it t q s start
 
-      after : ends_before before_it.mode q ≡ true
-      after = tail_ends (tail_of run) before_it.mode q p.tail (quote_ascii q quote) special
+  pub with_prefix : (s : Spelling) → IsTail (Some s) before_it.mode → begins_string s ≡ true → Begins s before_it.start
+  with_prefix s is begins t follow = after_prefix before_it t q follow quote before_quote s is begins
 
-      alone : (more : List ℕ) → Some 1 ≡ quotes_in (q ∷ d ∷ more)
-      alone [] = rw (ne_eqb d q other) refl
-      alone (e ∷ es) = rw (ne_eqb d q other) refl
+  -- its text is open
+  abbrev pub Opened : OpenMode → ℕ → Scan
+  Opened m start = record before_it { mode = m; start = start; stop = before_it.stop + 1 }
 
-      by : (s : Spelling) (start : ℕ) → is_field_spelling s ≡ false → ((t : FieldScanned) → Follows before_it t → StringBegun before_it t q s start)
-          → (start : ℕ) × Takes before_it bytes 1 (Opened start)
-      by s start simple begun = (
-        start,
-        takes_step before_it (Opened start) bytes 1 (λ t follow.
-            let mode : string_mode s q (1 == 3) ≡ opens.Short q = rw simple refl in
-            subst (λ (m : OpenMode). GoesOver t bytes 1 (record before_it { mode = m; start = start; stop = before_it.stop + 1 })) mode
-            (quotes_open before_it t bytes follow quote after 1 s start (begun t follow) (alone rest) (λ two. omega (arith, two)))),
-      )
-
-      go : (o : Option Spelling) → IsTail o before_it.mode → PlainBefore o → (start : ℕ) × Takes before_it bytes 1 (Opened start)
-      go (Some s) is (begins, simple) = by s before_it.start simple (λ t follow. after_prefix before_it t q follow quote after s is begins)
-      go None is none = by spellings.Name before_it.stop refl (λ t follow. after_piece before_it t q follow quote after (other_word before_it (λ s same. subst (IsTail None) same is)))
-
-  pub string_over : (text rest : List ℕ) → 0 < length text → (slice_index text 0 ≡ q → ⊥) → Stays (opens.Short q) text → PlainBefore (tail_of run)
-      → Over p q (text ++ q ∷ rest) special (1 + (length text + 1)) before_it.frames
-  string_over [] rest some other inside before = absurd (omega (arith, some))
-  string_over (d ∷ ds) rest some other inside before =
-      let n : ℕ = length (d ∷ ds) in
-      let text : List ℕ = d ∷ (ds ++ q ∷ rest) in
-      let (start, opened) = first_quote d (ds ++ q ∷ rest) other before in
-      let begun : Scan = Opened start in
-      let last : Scan = with_bytes begun n in
-      let closed = takes_on begun last (passed last 1) text n 1 (inside begun refl (q ∷ rest))
-      (subst (λ bytes. Takes last bytes 1 (passed last 1)) (sym (drop-append_seam (d ∷ ds) (q ∷ rest))) (quote_closes q quote last rest refl)) in
+  -- its first quote, text that leaves it open, and its last quote are taken
+  pub string_taken : (s : Spelling) (start : ℕ) (m : OpenMode) (n : ℕ) (bytes rest : List ℕ) → Begins s start → string_mode s q false ≡ m
+      → Some 1 ≡ quotes_in (q ∷ bytes) → is_text m ≡ true → closing_move (text_place (mode_from m)) ≡ closes → IsTextAt (mode_from m) q false q
+      → drop n bytes ≡ q ∷ rest → Takes (Opened m start) bytes n (with_bytes (Opened m start) n)
+      → Over p q bytes special (1 + (n + 1)) before_it.frames
+  string_taken s start m n bytes rest begun mode alone text closing at last held =
+      let first : Scan = Opened m start in
+      let end : Scan = with_bytes first n in
+      let opened = takes_step before_it first (q ∷ bytes) 1 (λ t follow.
+      subst (λ (o : OpenMode). GoesOver t (q ∷ bytes) 1 (Opened o start)) mode
+      (quotes_open before_it t (q ∷ bytes) follow quote before_quote 1 s start (begun t follow) alone (λ two. omega (arith, two)))) in
+      let closed = takes_step end (passed end 1) (q ∷ rest) 1 (λ t follow.
+      closes_over end t follow text (q ∷ rest) 1 (passed end 1)
+      (transport (λ i. QuotesInText (follow.mode i) (q ∷ rest) 1 (closing i))
+      (closes_short (mode_from m) q q (q ∷ rest) quote (low_first q rest (quote_ascii q quote)) refl at)) refl) in
       let far : before_it.stop + 1 + n + 1 ≡ before_it.stop + (1 + (n + 1)) = omega arith in
-      over p q text special (1 + (n + 1)) before_it.frames
-      (subst (Takes before_it (q ∷ text) (1 + (n + 1))) (ap (λ (k : ℕ). free_at before_it.frames k) far) (takes_on before_it begun (passed last 1) (q ∷ text) 1 (n + 1) opened closed))
+      over p q bytes special (1 + (n + 1)) before_it.frames
+      (subst (Takes before_it (q ∷ bytes) (1 + (n + 1))) (ap (λ (k : ℕ). free_at before_it.frames k) far)
+      (takes_on before_it first (passed end 1) (q ∷ bytes) 1 (n + 1) opened
+      (takes_on first end (passed end 1) bytes n 1 held (subst (λ xs. Takes end xs 1 (passed end 1)) (sym last) closed))))
+
+  -- an empty one
+  pub empty_over : (rest : List ℕ) → Some 2 ≡ quotes_in (q ∷ rest) → Over p q rest special 2 before_it.frames
+  empty_over rest two =
+      over p q rest special 2 before_it.frames
+      (takes_step before_it (passed before_it 2) (q ∷ rest) 2 (λ t follow. quotes_empty before_it t (q ∷ rest) follow quote before_quote 2 two refl))
+
+  -- one without fields, before whose quote no word stands, or its prefix
+  pub string_over : (text rest : List ℕ) → Some 1 ≡ quotes_in (q ∷ (text ++ q ∷ rest)) → Stays (opens.Short q) text → PlainBefore (tail_of run)
+      → Over p q (text ++ q ∷ rest) special (1 + (length text + 1)) before_it.frames
+  string_over text rest alone inside before = go (tail_of run) p.tail before
+    where
+      by : (s : Spelling) (start : ℕ) → is_field_spelling s ≡ false → Begins s start
+          → Over p q (text ++ q ∷ rest) special (1 + (length text + 1)) before_it.frames
+      by s start simple begun =
+          string_taken s start (opens.Short q) (length text) (text ++ q ∷ rest) rest begun (rw simple refl) alone
+          refl refl (refl, refl) (drop-append_seam text (q ∷ rest)) (inside (Opened (opens.Short q) start) refl (q ∷ rest))
+
+      go : (o : Option Spelling) → IsTail o before_it.mode → PlainBefore o
+          → Over p q (text ++ q ∷ rest) special (1 + (length text + 1)) before_it.frames
+      go (Some s) is (begins, simple) = by s before_it.start simple (with_prefix s is begins)
+      go None is none =
+          let no_word = other_word before_it (λ s same. subst (IsTail None) same is) in
+          by spellings.Name before_it.stop refl (λ t follow. after_piece before_it t q follow quote before_quote no_word)
 
 -- a comment of ASCII, before a line end
 hash_low : (c : ℕ) → is_hash c ≡ true → c < 128

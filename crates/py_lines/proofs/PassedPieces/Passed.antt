@@ -1,22 +1,24 @@
 -- What stands at the next byte that isn't plain is passed, with the plain bytes before it.
-use Rattle.std.proofs.Common.{◌≡◌, ℕ, suc, ◌+◌, ◌-◌, ◌<◌, ◌≤◌, ◌==◌, true, false, Bool, List, ◌∷◌, ◌++◌, length, take, drop, slice_index, refl, sym, ap, ◌∙◌, subst, arith, length-drop, get_or-drop, inl, inr, drop-cons, take-append-drop}
+use Rattle.std.proofs.Common.{◌≡◌, ℕ, ◌+◌, ◌-◌, ◌<◌, ◌≤◌, ◌==◌, true, false, Bool, List, ◌∷◌, ◌++◌, length, take, drop, slice_index, refl, sym, ap, ◌∙◌, subst, arith, length-drop, get_or-drop, inl, take-append-drop}
 use Rattle.std.specs.List.{list_all}
 use Rattle.std.proofs.Math.Path.{transport}
-use Rattle.std.proofs.lemmas.List.{drop-drop, length-take-le}
+use Rattle.std.proofs.lemmas.Bool.{eqb-true}
+use Rattle.std.proofs.lemmas.List.{drop-drop, length-take-le, nil_from_length}
 use Rattle.py_lines.specs.Balance.{is_closing, is_opening}
 use Rattle.py_lines.specs.Character.{is_break}
 use Rattle.py_lines.specs.declared.frames.Frame.{Frame}
+use Rattle.py_lines.specs.declared.frames.Frame.TheVariants as frame
 use Rattle.py_lines.specs.declared.marks.Marks.{Marks}
 use Rattle.py_lines.specs.declared.passing.Passing.{Passing}
-use Rattle.py_lines.specs.declared.passing.Special.{Special}
 use Rattle.py_lines.specs.declared.scan.Scan.{Scan}
-use Rattle.py_lines.specs.Private.Frames.{ClosesBracket, OpensBracket, has_field}
+use Rattle.py_lines.specs.Private.Frames.{IsClosedBy, OpensFrame, has_field}
 use Rattle.py_lines.specs.Private.LineEnds.{BeginsOuterEnd}
 use Rattle.py_lines.specs.Private.Marks.{FindsNext, HasMarks, is_plain}
-use Rattle.py_lines.specs.Private.Passing.{EndsAfter, EndsLineSo, PassesSo, PassesSpecial, StandsFree, line_end_special, passed_line_end, with_frames}
+use Rattle.py_lines.specs.Private.Passing.{CountsOn, EndsAfter, PassesSo, PassesSpecial, StandsFree, line_end_special, passed_line_end, with_frames}
 use Rattle.py_lines.specs.Private.Scan.{Takes, passed}
 use Rattle.py_lines.proofs.LineScan.AsciiRuns.{all_pass}
 use Rattle.py_lines.proofs.FieldScans.PlainCode.{over_code}
+use Rattle.py_lines.proofs.PassedPieces.CountedEnds.{bytes_from, counts_end, counts_on, counts_over, plain_unbroken}
 use Rattle.py_lines.proofs.PassedPieces.Items.{Over, break_ends, break_over, closing_over, opening_over}
 use Rattle.py_lines.proofs.PassedPieces.PlainBytes.{PlainTo, plain_run}
 
@@ -25,10 +27,9 @@ pub cut : (bytes : List ℕ) (from at : ℕ) → from ≤ at → at < length byt
     → drop from bytes ≡ take (at - from) (drop from bytes) ++ slice_index bytes at ∷ drop (at + 1) bytes
 cut bytes from at more within =
     let there : from + (at - from) ≡ at = omega (arith, more) in
-    let next : suc at ≡ at + 1 = omega arith in
     sym (take-append-drop (at - from) (drop from bytes))
     ∙ ap (λ x. take (at - from) (drop from bytes) ++ x)
-    (drop-drop (at - from) from bytes ∙ ap (λ (n : ℕ). drop n bytes) there ∙ drop-cons bytes at 0 within ∙ ap (λ (n : ℕ). slice_index bytes at ∷ drop n bytes) next)
+    (drop-drop (at - from) from bytes ∙ ap (λ (n : ℕ). drop n bytes) there ∙ bytes_from bytes at within)
 
 pub cut-length : (bytes : List ℕ) (from at : ℕ) → from ≤ at → at ≤ length bytes → length (take (at - from) (drop from bytes)) ≡ at - from
 cut-length bytes from at more within = length-take-le (at - from) (drop from bytes) (omega (arith, more, within, length-drop from bytes))
@@ -80,13 +81,13 @@ module _ (bytes : List ℕ) (at : ℕ) (old : Passing) (next : FindsNext bytes o
 
   -- a bracket
   pub opening_passed : (new : Passing) (b c : List Frame) (place : ℕ) → new.all ≡ at + 1 → HasMarks bytes new.all new.marks
-      → is_opening first ≡ true → OpensBracket b first place true c → PassesSo bytes at place old b new c
+      → is_opening first ≡ true → OpensFrame b (frame.Bracket first place) true c → PassesSo bytes at place old b new c
   opening_passed new b c place all marked opening met =
       passes_so new b c 1 place (omega arith) (omega (arith, within)) all marked (λ outside. ap has_field met.1 ∙ outside)
       (λ scan p frames there. opening_over p first after special c opening (rw (frames, there) met))
 
   pub closing_passed : (new : Passing) (b c : List Frame) (place : ℕ) → new.all ≡ at + 1 → HasMarks bytes new.all new.marks
-      → is_closing first ≡ true → ClosesBracket b first true c → PassesSo bytes at place old b new c
+      → is_closing first ≡ true → IsClosedBy b first c → PassesSo bytes at place old b new c
   closing_passed new b c place all marked closing met =
       passes_so new b c 1 place (omega arith) (omega (arith, within)) all marked (λ outside. sym (ap has_field met.2) ∙ outside)
       (λ scan p frames there. closing_over p first after special c closing (rw frames met))
@@ -98,59 +99,43 @@ module _ (bytes : List ℕ) (at : ℕ) (old : Passing) (next : FindsNext bytes o
   passes_same new b k place some room all marked on =
       passes_so new b b k place some room all marked (λ outside. outside) (λ scan p frames there. subst (Over p first after special k) frames (on scan p frames))
 
-  -- a line end
-  module _ (len : ℕ) (ends : is_break first ≡ true) (begins : BeginsOuterEnd (first ∷ after) len) where
+  -- a line end, by whether something is open; where the bytes may hold CR, the other flag says so
+  module _ (len : ℕ) (ends : is_break first ≡ true) (begins : BeginsOuterEnd (drop at bytes) len) (r : Bool) (m : Marks)
+      (marked : HasMarks bytes (at + len) m) (b : List Frame) (place : ℕ) where
+    abbrev new : Passing
+    new = passed_line_end (record old { returned = r; marks = m }) (at + len)
+
+    there : BeginsOuterEnd (first ∷ after) len
+    there = subst (λ xs. BeginsOuterEnd xs len) (bytes_from bytes at within) begins
+
     room : at + len ≤ length bytes
-    room = omega (arith, begins.within, length-drop (at + 1) bytes, within)
+    room = omega (arith, begins.within, length-drop at bytes, within)
 
-    break_passed : (new : Passing) (b : List Frame) (place : ℕ) → new.all ≡ at + len → HasMarks bytes new.all new.marks → length b == 0 ≡ false
-        → PassesSo bytes at place old b new b
-    break_passed new b place all marked some =
-        passes_same new b len place begins.some room all marked (λ scan p frames. break_over p first after special len ends begins (ap (λ (fs : List Frame). length fs == 0) frames ∙ some))
+    by : (none : Bool) → length b == 0 ≡ none → PassesSpecial bytes at place old b (line_end_special none len) new b
+    by false some =
+        passes_same new b len place begins.some room refl marked
+        (λ scan p frames. break_over p first after special len ends there (ap (λ (fs : List Frame). length fs == 0) frames ∙ some))
+    by true none = record {
+      all = refl;
+      within = room;
+      marked = marked;
+      some = begins.some;
+      frames = nil_from_length b (eqb-true (length b) 0 none);
+      over = λ start scan stands.
+          let p = plain_to start b scan stands in
+          let frames = p.frames ∙ stands.frames in
+          let size : length run + len ≡ at + len - old.all = omega (arith, run-length, next.after) in
+          transport (λ i. EndsAfter scan (seen i) (run-length i) len (passed (with_frames scan (frames i)) (size i)))
+          (break_ends p first after special len ends there (ap (λ (fs : List Frame). length fs == 0) frames ∙ none));
+    }
 
-    break_ended : (new : Passing) (b : List Frame) → new.all ≡ at + len → HasMarks bytes new.all new.marks → length b == 0 ≡ true
-        → EndsLineSo bytes at old b len new b
-    break_ended new b all marked none =
-        record {
-          all = all;
-          within = omega (arith, all, room);
-          marked = marked;
-          some = begins.some;
-          over = λ start scan stands.
-              let p = plain_to start b scan stands in
-              let frames = p.frames ∙ stands.frames in
-              let size : length run + len ≡ new.all - old.all = omega (arith, all, run-length, next.after) in
-              transport (λ i. EndsAfter scan (seen i) (run-length i) len (passed (with_frames scan (frames i)) (size i)))
-              (break_ends p first after special len ends begins (ap (λ (fs : List Frame). length fs == 0) frames ∙ none));
-        }
+    pub line_end_passed : (r ≡ false → (old.returned ≡ false) × (first == 13 ≡ false))
+        → PassesSpecial bytes at place old b (line_end_special (length b == 0) len) new b × CountsOn bytes old new
+    line_end_passed returned =
+        let mid : Passing = record old { all = at } in
+        let plain = counts_over bytes old mid next.after (plain_unbroken next) refl refl in
+        (by (length b == 0) refl, counts_on bytes old mid new plain (counts_end bytes mid new len begins refl refl returned))
 
-    -- by whether something is open
-    pub line_end_passed : (mid new : Passing) (b : List Frame) (found : Special) (place : ℕ) → found ≡ line_end_special (length b == 0) len
-        → new ≡ passed_line_end mid (at + len) → HasMarks bytes (at + len) mid.marks
-        → PassesSpecial bytes at place old b found new b
-    line_end_passed mid new b found place found_is is marked = subst (λ (s : Special). PassesSpecial bytes at place old b s new b) (sym found_is) (by (length b == 0) refl)
-      where
-        all : new.all ≡ at + len
-        all = ap (λ (p : Passing). p.all) is
-
-        marks_there : HasMarks bytes new.all new.marks
-        marks_there = subst (λ (p : Passing). HasMarks bytes p.all p.marks) (sym is) marked
-
-        by : (none : Bool) → length b == 0 ≡ none → PassesSpecial bytes at place old b (line_end_special none len) new b
-        by true none = break_ended new b all marks_there none
-        by false some = break_passed new b place all marks_there some
-
--- a line end that begins there
-module _ (bytes : List ℕ) (at : ℕ) where
-  pub feed_begins : slice_index bytes at ≡ 10 → BeginsOuterEnd (slice_index bytes at ∷ drop (at + 1) bytes) 1
-  feed_begins is = rw is (record { some = omega arith; within = omega arith; is = inl (false, refl) })
-
-  module _ (more : at + 1 < length bytes) (is : slice_index bytes at ≡ 13) where
-    second : drop (at + 1) bytes ≡ slice_index bytes (at + 1) ∷ drop (suc (at + 1)) bytes
-    second = drop-cons bytes (at + 1) 0 more
-
-    pub both_begin : slice_index bytes (at + 1) ≡ 10 → BeginsOuterEnd (slice_index bytes at ∷ drop (at + 1) bytes) 2
-    both_begin feed = rw (is, second, feed) (record { some = omega arith; within = omega arith; is = inl (true, refl) })
-
-    pub return_begins : (slice_index bytes (at + 1) ≡ 10 → ⊥) → BeginsOuterEnd (slice_index bytes at ∷ drop (at + 1) bytes) 1
-    return_begins other = rw (is, second) (record { some = omega arith; within = omega arith; is = inr (refl, other) })
+-- LF is a line end
+pub feed_begins : (bytes : List ℕ) (at : ℕ) → at < length bytes → slice_index bytes at ≡ 10 → BeginsOuterEnd (drop at bytes) 1
+feed_begins bytes at within is = rw (bytes_from bytes at within, is) (record { some = omega arith; within = omega arith; is = inl (false, refl) })

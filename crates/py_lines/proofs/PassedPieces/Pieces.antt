@@ -13,11 +13,11 @@ use Rattle.py_lines.specs.declared.passing.Passing.{Passing}
 use Rattle.py_lines.specs.declared.scan.Scan.{Scan}
 use Rattle.py_lines.specs.Private.Frames.{has_field}
 use Rattle.py_lines.specs.Private.Marks.{FindsNext, is_plain}
-use Rattle.py_lines.specs.Private.Passing.{EndsLineSo, PassesSo, StandsFree, tail_of, with_frames}
+use Rattle.py_lines.specs.Private.Passing.{EndsAfter, EndsLineSo, PassesSo, StandsFree, tail_of, with_frames}
 use Rattle.py_lines.specs.Private.Run.{is_ascii_word}
 use Rattle.py_lines.specs.declared.scan.Progress.TheVariants as progress
 use Rattle.py_lines.specs.Private.Scan.{IsFirstByte, Steps, Takes, ends_before, is_ending, is_text, mode_from, passed}
-use Rattle.py_lines.specs.Private.TakenPieces.{IsOperatorEnd, IsWordStart, TakesLineEnd, TakesOn}
+use Rattle.py_lines.specs.Private.TakenPieces.{IsOperatorEnd, IsWordStart, TakesOn}
 use Rattle.py_lines.proofs.FieldScans.PlainCode.{over_code, over_operator}
 use Rattle.py_lines.proofs.FieldScans.Takes.{takes_on}
 use Rattle.py_lines.proofs.FieldScans.Taking.{free_at}
@@ -33,13 +33,12 @@ use Rattle.py_lines.proofs.Text.FirstBytes.{first_other}
 drop_to : (bytes : List ℕ) (a b : ℕ) → a ≤ b → drop (b - a) (drop a bytes) ≡ drop b bytes
 drop_to bytes a b more = let there : a + (b - a) ≡ b = omega (arith, more) in drop-drop (b - a) a bytes ∙ ap (λ (n : ℕ). drop n bytes) there
 
--- from one byte on to another, and from there to a third
-takes_further : (old mid new : Scan) (bytes : List ℕ) (a b c : ℕ) → a ≤ b → b ≤ c → Takes old (drop a bytes) (b - a) mid
-    → Takes mid (drop b bytes) (c - b) new → Takes old (drop a bytes) (c - a) new
-takes_further old mid new bytes a b c first second takes more =
-    let size : (b - a) + (c - b) ≡ c - a = omega (arith, first, second) in
-    subst (λ (n : ℕ). Takes old (drop a bytes) n new) size
-    (takes_on old mid new (drop a bytes) (b - a) (c - b) takes (subst (λ (xs : List ℕ). Takes mid xs (c - b) new) (sym (drop_to bytes a b first)) more))
+-- up to one byte, and from there on to another
+takes_further : (old mid new : Scan) (bytes : List ℕ) (a b : ℕ) → a ≤ b → Takes old bytes a mid → Takes mid (drop a bytes) (b - a) new
+    → Takes old bytes b new
+takes_further old mid new bytes a b more takes others =
+    let size : a + (b - a) ≡ b = omega (arith, more) in
+    subst (λ (n : ℕ). Takes old bytes n new) size (takes_on old mid new bytes a (b - a) takes others)
 
 -- space or no piece ends before a byte that is no space
 no_space : (m : OpenMode) (b c : ℕ) → IsTail None m → is_space b ≡ false → IsFirstByte b c → ends_before m c ≡ true
@@ -57,154 +56,137 @@ ends_there scan b tail other = record { code = (by scan.mode tail).0; may = (by 
     by opens.Space tail = (refl, refl)
     by m tail = absurd tail
 
--- The scan, which stood before the bytes after those that were passed first, has passed pieces of them, and the next byte that isn't plain
--- stands at `at`. Only its frames are kept.
-pub record HasPassed (old : Scan) (bytes : List ℕ) (first : Passing) (at : ℕ) (scan : Scan) (p : Passing) : Type 0 where
+-- The scan, which stood before the bytes, has passed pieces of them, and the next byte that isn't plain stands at `at`. Only its frames are
+-- kept.
+pub record HasPassed (old : Scan) (bytes : List ℕ) (at : ℕ) (scan : Scan) (p : Passing) : Type 0 where
   pub same : scan ≡ with_frames old scan.frames
   pub outside : has_field scan.frames ≡ false
-  pub further : first.all ≤ p.all
-  pub takes : Takes old (drop first.all bytes) (p.all - first.all) (passed scan (p.all - first.all))
+  pub takes : Takes old bytes p.all (passed scan p.all)
   pub next : FindsNext bytes p.all at p.marks
 
-pub begins_passing : (old : Scan) (bytes : List ℕ) (at : ℕ) (first p : Passing) → p.all ≡ first.all → old.mode ≡ opens.Free
-    → has_field old.frames ≡ false → FindsNext bytes p.all at p.marks
-    → HasPassed old bytes first at old p
-begins_passing old bytes at first p here free outside next =
-    let none : 0 ≡ p.all - first.all = omega (arith, here) in
-    record {
-      same = refl;
-      outside = outside;
-      further = omega (arith, here);
-      takes = subst (λ (n : ℕ). Takes old (drop first.all bytes) n (passed old n)) none (passes_none old (drop first.all bytes) free);
-      next = next;
-    }
-
-module _ (old : Scan) (bytes : List ℕ) (first : Passing) (at : ℕ) (scan : Scan) (p : Passing) (on : HasPassed old bytes first at scan p) where
-  abbrev from : ℕ
-  from = first.all
-
+module _ (old : Scan) (bytes : List ℕ) (at : ℕ) (scan : Scan) (p : Passing) (on : HasPassed old bytes at scan p) where
   -- the scan as if it stood there
   abbrev here : Scan
-  here = passed scan (p.all - from)
+  here = passed scan p.all
 
-  stands : StandsFree (scan.stop + (p.all - from)) scan.frames here
+  stands : StandsFree (scan.stop + p.all) scan.frames here
   stands = record { mode = refl; stop = refl; frames = refl; outside = on.outside }
 
   -- after what was passed there
-  pub passes_next : (c : List Frame) (q : Passing) (to : ℕ) (marks : Marks) → PassesSo bytes at (scan.stop + (at - from)) p scan.frames q c
-      → FindsNext bytes q.all to marks
-      → HasPassed old bytes first to (with_frames scan c) (record q { marks = marks })
+  pub passes_next : (c : List Frame) (q : Passing) (to : ℕ) (marks : Marks) → PassesSo bytes at (scan.stop + at) p scan.frames q c
+      → FindsNext bytes q.all to marks → HasPassed old bytes to (with_frames scan c) (record q { marks = marks })
   passes_next c q to marks so next =
       let more : p.all ≤ q.all = omega (arith, on.next.after, so.further) in
-      let far : scan.stop + (p.all - from) + (q.all - p.all) ≡ scan.stop + (q.all - from) = omega (arith, more, on.further) in
-      let place : scan.stop + (at - from) ≡ scan.stop + (p.all - from) + (at - p.all) = omega (arith, on.further, on.next.after) in
+      let far : scan.stop + p.all + (q.all - p.all) ≡ scan.stop + q.all = omega (arith, more) in
+      let place : scan.stop + at ≡ scan.stop + p.all + (at - p.all) = omega (arith, on.next.after) in
       record {
         same = ap (λ (s : Scan). with_frames s c) on.same;
         outside = so.outside on.outside;
-        further = omega (arith, more, on.further);
-        takes = takes_further old here (passed (with_frames scan c) (q.all - from)) bytes from p.all q.all on.further more on.takes
-            (subst (Takes here (drop p.all bytes) (q.all - p.all)) (ap (λ (n : ℕ). free_at c n) far) (so.over (scan.stop + (p.all - from)) place here stands));
+        takes = takes_further old here (passed (with_frames scan c) q.all) bytes p.all q.all more on.takes
+            (subst (Takes here (drop p.all bytes) (q.all - p.all)) (ap (λ (n : ℕ). free_at c n) far) (so.over (scan.stop + p.all) place here stands));
         next = next;
       }
 
   -- after a line end that ends the line
   pub passes_line : (len : ℕ) (new : Scan) (q : Passing) (c : List Frame) → EndsLineSo bytes at p scan.frames len q c
-      → new ≡ passed (with_frames scan c) (q.all - from) → TakesLineEnd bytes old first len new q
+      → new ≡ passed (with_frames scan c) q.all → EndsAfter old bytes at len new
   passes_line len new q c so set =
-      let ended = so.over (scan.stop + (p.all - from)) here stands in
-      let after : at ≤ q.all = omega (arith, so.all) in
-      let far : scan.stop + (p.all - from) + (q.all - p.all) ≡ scan.stop + (q.all - from) = omega (arith, on.next.after, on.further, after) in
-      let there : drop (at - p.all) (drop p.all bytes) ≡ drop (at - from) (drop from bytes) = drop_to bytes p.all at on.next.after ∙ sym (drop_to bytes from at (omega (arith, on.further, on.next.after))) in
+      let ended = so.over (scan.stop + p.all) here stands in
+      let far : scan.stop + p.all + (q.all - p.all) ≡ scan.stop + q.all = omega (arith, on.next.after, so.all) in
+      let there : drop (at - p.all) (drop p.all bytes) ≡ drop at bytes = drop_to bytes p.all at on.next.after in
       record {
-        before = at - from;
-        size = omega (arith, so.all, on.further, on.next.after);
-        within = so.within;
-        marked = so.marked;
-        stop = omega (arith, ap (λ (s : Scan). s.stop) set, ap (λ (s : Scan). s.stop) on.same, so.all, on.further, on.next.after);
-        ends = record {
-          mid = ended.mid;
-          takes = takes_further old here ended.mid bytes from p.all at on.further on.next.after on.takes ended.takes;
-          ends = transport (λ i. Steps ended.mid (there i) (progress.LineEnded len) ((ap (λ (n : ℕ). free_at c n) far ∙ sym set) i)) ended.ends;
-        };
+        mid = ended.mid;
+        takes = takes_further old here ended.mid bytes p.all at on.next.after on.takes ended.takes;
+        ends = transport (λ i. Steps ended.mid (there i) (progress.LineEnded len) ((ap (λ (n : ℕ). free_at c n) far ∙ sym set) i)) ended.ends;
       }
 
-  -- so many plain bytes more are passed
-  module _ (k : ℕ) (fits : k ≤ length (take (at - p.all) (drop p.all bytes))) (new : Scan) (set : new ≡ passed scan (p.all + k - from)) where
-    abbrev plain : List ℕ
-    plain = take (at - p.all) (drop p.all bytes)
+  -- after so many plain bytes more
+  pub passes_left : (k : ℕ) (new : Scan) → k ≤ length (take (at - p.all) (drop p.all bytes)) → Takes here (drop p.all bytes) k (passed here k)
+      → new ≡ passed scan (p.all + k) → TakesOn bytes old 0 new (p.all + k)
+  passes_left k new fits takes set =
+      let far : scan.stop + p.all + k ≡ scan.stop + (p.all + k) = omega arith in
+      let size : p.all + k ≡ p.all + k - 0 = omega arith in
+      record {
+        further = omega arith;
+        within = omega (arith, fits, cut-length bytes p.all at on.next.after on.next.within, on.next.after, on.next.within);
+        takes = transport (λ i. Takes old bytes (size i) ((ap (λ (n : ℕ). free_at scan.frames n) far ∙ sym set) i))
+            (takes_on old here (passed here k) bytes p.all k on.takes takes);
+      }
 
-    plain-length : length plain ≡ at - p.all
-    plain-length = cut-length bytes p.all at on.next.after on.next.within
+-- from where no piece is open and no field, over plain bytes
+module _ (here : Scan) (free : here.mode ≡ opens.Free) (outside : has_field here.frames ≡ false) (bytes : List ℕ) (from at : ℕ) (marks : Marks)
+    (next : FindsNext bytes from at marks) (k : ℕ) where
+  abbrev plain : List ℕ
+  plain = take (at - from) (drop from bytes)
 
-    abbrev After : Passing
-    After = record p { all = p.all + k }
+  abbrev rest : List ℕ
+  rest = drop from bytes
 
-    left : Takes here (drop p.all bytes) k (passed here k) → TakesOn bytes old first new After
-    left takes =
-        let far : scan.stop + (p.all - from) + k ≡ scan.stop + (p.all + k - from) = omega (arith, on.further) in
-        let size : k ≡ p.all + k - p.all = omega arith in
-        record {
-          further = omega (arith, on.further);
-          within = omega (arith, fits, plain-length, on.next.after, on.next.within);
-          takes = takes_further old here new bytes from p.all (p.all + k) on.further (omega arith) on.takes
-              (transport (λ i. Takes here (drop p.all bytes) (size i) ((ap (λ (n : ℕ). free_at scan.frames n) far ∙ sym set) i)) takes);
-        }
+  none_left : k ≤ 0 → Takes here rest k (passed here k)
+  none_left none = let same : 0 ≡ k = omega (arith, none) in subst (λ (n : ℕ). Takes here rest n (passed here n)) same (passes_none here rest free)
 
-    none_left : k ≤ 0 → TakesOn bytes old first new After
-    none_left none = let same : 0 ≡ k = omega (arith, none) in left (subst (λ (n : ℕ). Takes here (drop p.all bytes) n (passed here n)) same (passes_none here (drop p.all bytes) refl))
+  module _ (fits : k ≤ length plain) where
+    plain-length : length plain ≡ at - from
+    plain-length = cut-length bytes from at next.after next.within
 
     abbrev run : List ℕ
-    run = take k (drop p.all bytes)
+    run = take k rest
 
     run-length : length run ≡ k
-    run-length = length-take-le k (drop p.all bytes) (omega (arith, fits, plain-length, on.next.within, length-drop p.all bytes))
+    run-length = length-take-le k rest (omega (arith, fits, plain-length, next.within, length-drop from bytes))
 
     same_run : take k plain ≡ run
-    same_run = take-take k (at - p.all) (drop p.all bytes) (omega (arith, fits, plain-length))
+    same_run = take-take k (at - from) rest (omega (arith, fits, plain-length))
 
     plain_to : PlainTo here run
     plain_to =
-        let size : p.all + k - p.all ≡ k = omega arith in
-        plain_run here run refl on.outside (subst (λ (n : ℕ). list_all is_plain (take n (drop p.all bytes)) ≡ true) size
-        (plain_between bytes p.all at p.marks on.next (p.all + k) (omega arith) (omega (arith, fits, plain-length, on.next.after))))
+        let size : from + k - from ≡ k = omega arith in
+        plain_run here run free outside (subst (λ (n : ℕ). list_all is_plain (take n rest) ≡ true) size
+        (plain_between bytes from at marks next (from + k) (omega arith) (omega (arith, fits, plain-length, next.after))))
 
-    -- up to an operator
-    pub operator_left : IsOperatorEnd plain k → TakesOn bytes old first new After
-    operator_left ends = elim (cases_lt 0 k) [
-      | inl some ↦
-          let passes : over_code here run ≡ passed here k = ap (over_code here) (sym same_run) ∙ over_operator here plain k ends some in
-          left (transport (λ i. Takes here (take-append-drop k (drop p.all bytes) i) (run-length i) (passes i)) (plain_to.takes (drop k (drop p.all bytes))))
-      | inr none ↦ none_left none
+  -- up to an operator
+  pub operator_left : IsOperatorEnd plain k → Takes here rest k (passed here k)
+  operator_left ends = elim (cases_lt 0 k) [
+    | inl some ↦
+        let passes = ap (over_code here) (sym (same_run ends.0)) ∙ over_operator here plain k ends some in
+        transport (λ i. Takes here (take-append-drop k rest i) (run-length ends.0 i) (passes i)) ((plain_to ends.0).takes (drop k rest))
+    | inr none ↦ none_left none
+  ]
+
+  -- up to a word, or a byte that isn't plain
+  module _ (within : at < length bytes) (start : IsWordStart plain k) where
+    abbrev fits : k ≤ length plain
+    fits = start.within
+
+    abbrev b : ℕ
+    b = slice_index bytes (from + k)
+
+    no_word : tail_of (run fits) ≡ None
+    no_word = ap tail_of (sym (same_run fits)) ∙ none_before plain k start
+
+    no_space_there : is_space b ≡ false
+    no_space_there = elim (cases_lt k (at - from)) [
+      | inl less ↦
+          let there : slice_index plain k ≡ b = get_or-take (at - from) rest k 0 less ∙ get_or-drop from bytes k 0 in
+          excluded is_ascii_word is_space b (space-no_word b) (ap is_ascii_word (sym there) ∙ start.each k (omega arith) (omega (arith, less, plain-length fits)))
+      | inr all_plain ↦
+          let there : at ≡ from + k = omega (arith, all_plain, fits, plain-length fits, next.after) in
+          ap (λ (n : ℕ). is_space (slice_index bytes n)) (sym there) ∙ (others (slice_index bytes at) (next.special within)).1
     ]
 
-    -- up to a word, or a byte that isn't plain
-    module _ (within : at < length bytes) (start : IsWordStart plain k) where
-      abbrev b : ℕ
-      b = slice_index bytes (p.all + k)
-
-      no_word : tail_of run ≡ None
-      no_word = ap tail_of (sym same_run) ∙ none_before plain k (k - 1) start.within refl start.apart
-
-      no_space_there : is_space b ≡ false
-      no_space_there = elim (cases_lt k (at - p.all)) [
-        | inl less ↦
-            let there : slice_index plain k ≡ b = get_or-take (at - p.all) (drop p.all bytes) k 0 less ∙ get_or-drop p.all bytes k 0 in
-            excluded is_ascii_word is_space b (space-no_word b) (ap is_ascii_word (sym there) ∙ start.word (omega (arith, less, plain-length)))
-        | inr all_plain ↦
-            let there : at ≡ p.all + k = omega (arith, all_plain, fits, plain-length, on.next.after) in
-            ap (λ (n : ℕ). is_space (slice_index bytes n)) (sym there) ∙ (others (slice_index bytes at) (on.next.special within)).1
-      ]
-
-      pub word_left : TakesOn bytes old first new After
-      word_left = elim (cases_lt 0 k) [
-        | inl some ↦
-            let last : Scan = over_code here run in
-            let size : p.all + k - p.all ≡ k = omega arith in
-            let split : run ++ b ∷ drop (p.all + k + 1) bytes ≡ drop p.all bytes =
-            ap (λ (n : ℕ). take n (drop p.all bytes) ++ b ∷ drop (p.all + k + 1) bytes) (sym size) ∙ sym (cut bytes p.all (p.all + k) (omega arith) (omega (arith, fits, plain-length, on.next.after, within))) in
-            let far : last.stop + 0 ≡ here.stop + k = omega (arith, plain_to.stop, run-length) in
-            let tail : IsTail None last.mode = subst (λ o. IsTail o last.mode) no_word plain_to.tail in
-            let ended = takes_ended here last b (drop (p.all + k + 1) bytes) (ends_there last b tail no_space_there) run (omega (arith, run-length, some)) (plain_to.takes []) in
-            left (transport (λ i. Takes here (split i) (run-length i) (free_at (plain_to.frames i) (far i))) ended)
-        | inr none ↦ none_left none
-      ]
+    pub word_left : Takes here rest k (passed here k)
+    word_left = elim (cases_lt 0 k) [
+      | inl some ↦
+          let to = plain_to fits in
+          let last : Scan = over_code here (run fits) in
+          let size : from + k - from ≡ k = omega arith in
+          let after = drop (from + k + 1) bytes in
+          let upto : from + k < length bytes = omega (arith, fits, plain-length fits, next.after, within) in
+          let split : run fits ++ b ∷ after ≡ rest = ap (λ (n : ℕ). take n rest ++ b ∷ after) (sym size) ∙ sym (cut bytes from (from + k) (omega arith) upto) in
+          let far : last.stop + 0 ≡ here.stop + k = omega (arith, to.stop, run-length fits) in
+          let tail : IsTail None last.mode = subst (λ o. IsTail o last.mode) no_word to.tail in
+          let full : 0 < length (run fits) = omega (arith, run-length fits, some) in
+          let ended = takes_ended here last b after (ends_there last b tail no_space_there) (run fits) full (to.takes []) in
+          transport (λ i. Takes here (split i) (run-length fits i) (free_at (to.frames i) (far i))) ended
+      | inr none ↦ none_left none
+    ]

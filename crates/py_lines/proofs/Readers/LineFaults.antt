@@ -29,7 +29,8 @@ use Rattle.std.proofs.lemmas.Str.{length-le-encodes}
 use Rattle.py_lines.specs.Balance as balance
 use Rattle.py_lines.specs.FieldStrings.{Place, literal, specification}
 use Rattle.py_lines.specs.PieceGrammar.{feed}
-use Rattle.py_lines.specs.Private.Source.{FaultKind, LineFault}
+use Rattle.py_lines.specs.declared.fault.FaultKind.{FaultKind}
+use Rattle.py_lines.specs.declared.scan.LineFault.{LineFault}
 use Rattle.py_lines.specs.Private.FieldFaults.{is_waiting, quotes_specification, cause_in, cause_place, here, field_start, unfinished_code, unfinished_literal, unfinished_in, unfinished_at}
 use Rattle.py_lines.proofs.LogicalLines.Cuts.{byte_len-append}
 use Rattle.py_lines.proofs.Faults.CharacterFaults.{IsStuck, IsShortHere, cause_fits, short_here}

@@ -1,29 +1,27 @@
 -- Lines that were passed over are the text's next.
-use Rattle.std.proofs.Common.{◌≡◌, ℕ, ◌+◌, ◌-◌, ◌<◌, ◌≤◌, ◌&&◌, inl, inr, true, false, None, List, [], ◌∷◌, ◌++◌, length, take, drop, refl, sym, ap, ◌∙◌, subst, append_assoc, append-nil, arith, length-append, ⊎_elim, encode_utf8_all, flat_map}
-use Rattle.std.specs.Str.{all_scalars, IsCharBoundary, IsUtf8}
-use Rattle.std.proofs.lemmas.List.{drop-drop, length-append, length-take-le, length-drop, take-append-drop, take-append-le, take_all}
-use Rattle.std.proofs.lemmas.Str.{IsCharBoundary-from_rest, IsCharBoundary-from_take, IsUtf8-drop, IsUtf8-had, encodes-append}
-use Rattle.std.proofs.Math.Seq.{drop-append_seam, take-append_seam}
+use Rattle.std.proofs.Common.{◌≡◌, ℕ, ◌+◌, ◌-◌, ◌<◌, ◌≤◌, ◌&&◌, inl, inr, false, None, List, [], ◌∷◌, ◌++◌, length, take, drop, refl, sym, ap, ◌∙◌, subst, append_assoc, append-nil, arith, length-append, ⊎_elim, encode_utf8_all, flat_map}
+use Rattle.std.proofs.lemmas.List.{drop-drop, length-append, length-take-le, length-drop, take-append-drop, take-append-le}
+use Rattle.std.proofs.lemmas.Str.{encodes-append}
+use Rattle.std.proofs.Math.Seq.{drop-append_seam}
 use Rattle.std.proofs.lemmas.Bool.{and_parts, both_ways, cases_Bool, false_from_ne_true}
 use Rattle.py_lines.specs.Character.{is_line_feed, is_return}
-use Rattle.py_lines.specs.Piece.{Piece, begins, ends, spelled}
+use Rattle.py_lines.specs.Piece.{Piece, begins, ends}
 use Rattle.py_lines.specs.LogicalLine.{LogicalLine, byte_len, line_ends, line_of}
 use Rattle.py_lines.specs.Lines.{PassesUpTo}
-use Rattle.py_lines.specs.Reader.{Reader, PassesLine, PassesLines, HasGiven}
-use Rattle.py_lines.specs.Private.Source.{reader_of, Source, Mode}
+use Rattle.py_lines.specs.Reader.{Reader, PassesLine, PassesLines}
+use Rattle.py_lines.specs.Private.Machine.{Mode}
 use Rattle.py_lines.specs.Private.Mode as modes
 use Rattle.py_lines.specs.Private.LineScan.{EndsWhole, IsAtLineEnd}
 use Rattle.py_lines.specs.Private.LineState.{first_mode}
 use Rattle.py_lines.specs.Private.WholeLines.{AreWholeLines, BeginWithLines, IsWholeLine}
-use Rattle.py_lines.proofs.Text.Utf8Prefixes.{all_scalars-append}
 use Rattle.py_lines.proofs.LineScan.LineSteps.{follows_whole}
 use Rattle.py_lines.proofs.LineScan.LineCount.{line_ends-bytes}
 use Rattle.py_lines.proofs.LogicalLines.Cuts.{line_ends-append}
-use Rattle.py_lines.proofs.Readers.LineAnswers.{IsReadLine, line_at_end, text_from}
-use Rattle.py_lines.proofs.Feeds.Known.{IsKnown, goes_with_first, is_known}
+use Rattle.py_lines.proofs.Readers.LineAnswers.{IsEnded, IsReadLine, fits_on, line_at_end}
+use Rattle.py_lines.proofs.Readers.NextLines.{HasRead, further, line_read, passes_next}
+use Rattle.py_lines.proofs.Feeds.Known.{IsKnown, is_known}
 use Rattle.py_lines.proofs.Feeds.SettledSoFar.{IsNextLine, next_line, settled_ready}
 use Rattle.py_lines.proofs.Feeds.Released.{released}
-use Rattle.py_lines.proofs.Lexings.FirstLines.{given_begin}
 use Rattle.py_lines.specs.Settled.{IsSettled}
 use Rattle.py_lines.specs.Given.{AreFirstLines}
 use Rattle.py_lines.specs.ScannerState.{EndsExactly, GoesOnWith}
@@ -45,18 +43,6 @@ whole_read m {read} line =
 -- the first bytes of a slice
 pub take_slice : (bytes : List ℕ) (n k : ℕ) → n ≤ length (take k bytes) → take n (take k bytes) ≡ take n bytes
 take_slice bytes n k within = sym (take-append-le n (take k bytes) (drop k bytes) within) ∙ ap (take n) (take-append-drop k bytes)
-
--- lines are characters
-lines_scalars : (texts : List (List ℕ)) (read after : List ℕ) → AreWholeLines texts read after → all_scalars read ≡ true
-lines_scalars [] read after none = ap all_scalars none
-lines_scalars (t ∷ texts) read after are = ap all_scalars are.spell ∙ all_scalars-append t are.later are.whole.scalars (lines_scalars texts are.later after are.lines)
-
--- a character begins after whole characters
-whole_boundary : (s : Source) (len : ℕ) → s.state.place + len ≤ length s.characters.now → IsUtf8 (take len (drop s.state.place s.characters.now)) → IsCharBoundary s.characters.now (s.state.place + len)
-whole_boundary s len room utf8 =
-    let rest = drop s.state.place s.characters.now in let place : s.state.place ≤ length s.characters.now = omega (arith, room) in
-    let size : len ≤ length rest = omega (arith, room, length-drop s.state.place s.characters.now) in
-    IsCharBoundary-from_rest s.characters.now s.state.place len place (IsCharBoundary-from_take rest len (IsUtf8-drop s.characters.now s.state.place (IsUtf8-had _ s.text) s.boundary) size utf8)
 
 -- the logical lines of the lines that were found, from this byte and line of a text on
 abbrev pub lines_at : (texts : List (List ℕ)) (place line : ℕ) (read after : List ℕ) → AreWholeLines texts read after → List LogicalLine
@@ -116,37 +102,17 @@ module _ (text : List ℕ) (place line : ℕ) (given : List LogicalLine) (first 
         subst (λ (m : ℕ). IsSettled (take m text) (given ++ line_of place line pieces ∷ [])) sizes settled,
       )
 
--- the reader after so many bytes and line ends
-abbrev pub further : Reader → ℕ → ℕ → Reader
-further r len feeds = record { text = r.text; place = r.place + len; line = r.line + feeds; fault = r.fault }
-
 -- a line whose bytes those after the reader's place begin with
 passes_line : (r : Reader) → r.fault ≡ None → (read after beyond : List ℕ) → encode_utf8_all read ++ (after ++ beyond) ≡ drop r.place r.text
     → (line : IsWholeLine read after) → PassesLine r (line_of r.place r.line (pieces_of line)) (further r (byte_len read) (line_ends read))
 passes_line r no_fault read after beyond split line =
-    let bytes = encode_utf8_all read in let u = pieces_of line in
-    let new = further r (byte_len read) (line_ends read) in let as_line = whole_read (first_mode r.place) line in
-    let spell : encode_utf8_all (spelled u) ≡ bytes = ap encode_utf8_all as_line.spell in let own = shown read after line.whole in
-    let parts : (bytes ++ own.more) ++ (own.unseen ++ beyond) ≡ drop r.place r.text
-    = append_assoc bytes own.more (own.unseen ++ beyond) ∙ ap (λ t. bytes ++ t) (sym (append_assoc own.more own.unseen beyond) ∙ ap (λ t. t ++ beyond) (sym own.spell)) ∙ split in
-    let near : GoesOnWith r.text r.place (bytes ++ own.more) = goes_with_first r.text r.place (bytes ++ own.more) (own.unseen ++ beyond) (subst (GoesOnWith r.text r.place) (sym parts) (take_all (length (drop r.place r.text)) (drop r.place r.text) (omega arith))) in
-    let given : (lines : List LogicalLine) → HasGiven r lines → HasGiven new (lines ++ line_of r.place r.line u ∷ [])
-    = λ lines h. record { first = (line_settled r.text r.place r.line lines h.first read own.more near own.exact after line).0; no_fault = no_fault } in
-    let long : byte_len read ≡ r.place + byte_len read - r.place = omega arith in
-    record {
-      continues = record {
-        given = given;
-        begins = λ lines h. given_begin new (lines ++ line_of r.place r.line u ∷ []) (given lines h);
-        text = refl;
-        place = ap (λ t. r.place + length t) (sym spell);
-        some_text = omega (arith, ap length spell, as_line.some);
-        within = omega (arith, as_line.some, ap length split, length-append bytes (after ++ beyond), length-drop r.place r.text);
-        fault = no_fault;
-        no_fault = no_fault;
-      };
-      text = spell ∙ sym (ap (take (byte_len read)) (sym split) ∙ take-append_seam bytes (after ++ beyond)) ∙ ap (λ (k : ℕ). take k (drop r.place r.text)) long;
-      utf8 = (spelled u, (ap all_scalars as_line.spell ∙ line.scalars, refl));
-    }
+    let at = alone line in let own = line_at_end modes.Free line.scan read [] line.len at [] refl in let stop = own.stop in let ends = own.line.spell in
+    let has : HasRead (drop r.place r.text) = record { read = read; rest = after ++ beyond; scalars = line.scalars; spell = split } in
+    let next = line_read has r.place r.line {scan = line.scan} (record { line = whole_read (first_mode r.place) line; stop = stop; ends = own.ends; after = own.after; fit = own.fit }) (λ more tail follow. (
+      fits_on at more (follows_whole read after more tail beyond line.whole follow),
+      IsEnded.by_line at.body at.last refl at.are.class at.are.level,
+    )) in
+    subst (PassesLine r (line_of r.place r.line (pieces_of line))) (λ i. further r (stop i) (line_ends (ends i))) (passes_next r next refl no_fault)
 
 -- CR at the end of a line that was passed has no LF after it
 pub apart : (line later after : List ℕ) → EndsWhole line (encode_utf8_all later ++ after) → ends is_return line && begins is_line_feed later ≡ false
@@ -176,50 +142,24 @@ passes_all (t ∷ texts) r read after beyond no_fault split are =
           (passes_all texts mid are.later after beyond no_fault later_split are.lines),
     )
 
--- the lines that the code has found
-module _ (s : Source) (no_fault : s.state.fault ≡ None) (before : ℕ) (ordered : s.state.place < before) (within : before ≤ length s.characters.now)
-    (len : ℕ) (found : BeginWithLines (take (before - s.state.place) (drop s.state.place s.characters.now)) len) where
-  abbrev read : List ℕ
-  read = found.read
-
-  slice_size : length (take (before - s.state.place) (drop s.state.place s.characters.now)) ≡ before - s.state.place
-  slice_size = length-take-le (before - s.state.place) (drop s.state.place s.characters.now) (omega (arith, length-drop s.state.place s.characters.now, within, ordered))
-
-  pub room : s.state.place + len ≤ before
-  room = omega (arith, found.within, slice_size, ordered)
-
-  abbrev after : List ℕ
-  after = drop len (take (before - s.state.place) (drop s.state.place s.characters.now))
-
-  spell : take len (drop s.state.place s.characters.now) ≡ encode_utf8_all read
-  spell = sym (found.spell ∙ take_slice (drop s.state.place s.characters.now) len (before - s.state.place) found.within)
-
-  size : byte_len read ≡ len
-  size = sym (ap length spell) ∙ length-take-le len (drop s.state.place s.characters.now) (omega (arith, room, within, ordered, length-drop s.state.place s.characters.now))
-
-  pub boundary : IsCharBoundary s.characters.now (s.state.place + len)
-  boundary = whole_boundary s len (omega (arith, room, within)) (read, (lines_scalars found.texts read after found.whole, sym spell))
-
-  abbrev beyond : List ℕ
-  beyond = drop (before - s.state.place) (drop s.state.place s.characters.now) ++ drop (length s.characters.now) s.bytes.now
-
-  split : encode_utf8_all read ++ (after ++ beyond) ≡ drop s.state.place s.bytes.now
-  split =
-      let characters = drop s.state.place s.characters.now in let slice = take (before - s.state.place) characters in
-      let rest = drop (before - s.state.place) characters in let tail = drop (length s.characters.now) s.bytes.now in
-      sym (append_assoc (encode_utf8_all found.read) (drop len slice) (rest ++ tail)) ∙ ap (λ t. (t ++ drop len slice) ++ (rest ++ tail)) found.spell
-      ∙ ap (λ t. t ++ (rest ++ tail)) (take-append-drop len slice) ∙ sym (append_assoc slice rest tail)
-      ∙ ap (λ t. t ++ tail) (take-append-drop (before - s.state.place) characters) ∙ text_from s
-
-  pub passes_up_to : PassesUpTo (reader_of s) before len (further (reader_of s) len (line_ends read))
-  passes_up_to = record {
-    lines = lines_at found.texts s.state.place s.state.line read after found.whole;
-    passes = subst (λ (k : ℕ). PassesLines (reader_of s) (lines_at found.texts s.state.place s.state.line read after found.whole) (further (reader_of s) k (line_ends read))) size
-        (passes_all found.texts (reader_of s) read after beyond no_fault split found.whole);
-    place = refl;
-    within = λ some. room;
-    same = λ none.
-        let place : s.state.place + len ≡ s.state.place = omega (arith, none) in
-        let line : s.state.line + line_ends read ≡ s.state.line = omega (arith, none, size, line_ends-bytes read) in
-        λ i. record { text = s.bytes.now; place = place i; line = line i; fault = s.state.fault };
-  }
+-- the lines that the code has found, with so many line ends
+pub passes_found : (r : Reader) (before len ends : ℕ) → r.fault ≡ None → r.place < before → before ≤ length r.text → BeginWithLines (take (before - r.place) (drop r.place r.text)) len
+    → ((characters : List ℕ) → encode_utf8_all characters ≡ take len (take (before - r.place) (drop r.place r.text)) → ends ≡ line_ends characters)
+    → PassesUpTo r before len (further r len ends)
+passes_found r before len ends no_fault ordered within found count =
+    let rest = drop r.place r.text in let slice = take (before - r.place) rest in let read = found.read in let after = drop len slice in let beyond = drop (before - r.place) rest in
+    let long : length slice ≡ before - r.place = length-take-le (before - r.place) rest (omega (arith, length-drop r.place r.text, within)) in
+    let size : byte_len read ≡ len = ap length found.spell ∙ length-take-le len slice found.within in
+    let number : ends ≡ line_ends read = count read found.spell in
+    let split : encode_utf8_all read ++ (after ++ beyond) ≡ rest
+    = sym (append_assoc (encode_utf8_all read) after beyond) ∙ ap (λ t. (t ++ after) ++ beyond) found.spell ∙ ap (λ t. t ++ beyond) (take-append-drop len slice) ∙ take-append-drop (before - r.place) rest in
+    record {
+      lines = lines_at found.texts r.place r.line read after found.whole;
+      passes = subst (PassesLines r (lines_at found.texts r.place r.line read after found.whole)) (λ i. further r (size i) (sym number i)) (passes_all found.texts r read after beyond no_fault split found.whole);
+      place = refl;
+      within = λ some. omega (arith, found.within, long, ordered);
+      same = λ none.
+          let place : r.place + len ≡ r.place = omega (arith, none) in
+          let line : r.line + ends ≡ r.line = omega (arith, none, size, number, line_ends-bytes read) in
+          λ i. record { text = r.text; place = place i; line = line i; fault = r.fault };
+    }

@@ -1,6 +1,4 @@
 -- What a test of a character says where the character is one of a list.
-use Rattle.py_lines.specs.Private.Run.{is_comment_byte}
-use Rattle.memchr.specs.Find.{is_byte2}
 use Rattle.std.proofs.Common.{◌≡◌, ℕ, ◌<◌, leb, Bool, true, false, ◌||◌, eqb, List, [], ◌∷◌, refl, sym, ap, ◌∙◌, subst, ⊎_elim, arith}
 use Rattle.std.specs.Prelude.{codes}
 use Rattle.std.specs.List.{list_any, list_all}
@@ -43,10 +41,6 @@ pub feed_is : (c : ℕ) → is_line_feed c ≡ true → c ≡ 10
 unfolding is_line_feed
 feed_is c h = the_one 10 c h
 
-pub feed_from : (c : ℕ) → c ≡ 10 → is_line_feed c ≡ true
-unfolding is_line_feed
-feed_from c same = ap (is_one_of (10 ∷ [])) same
-
 pub return_is : (c : ℕ) → is_return c ≡ true → c ≡ 13
 unfolding is_return
 return_is c h = the_one 13 c h
@@ -55,13 +49,7 @@ pub mark_is : (c : ℕ) → is_mark c ≡ true → c ≡ 65279
 unfolding is_mark
 mark_is c h = the_one 65279 c h
 
--- a digit is no letter of a prefix
-pub digit-not-letter : (c : ℕ) → is_digit c ≡ true → (is_r c ≡ false) × (is_b c ≡ false) × (is_f c ≡ false) × (is_t c ≡ false) × (is_u c ≡ false)
-unfolding is_digit is_r is_b is_f is_t is_u
-digit-not-letter c digit =
-    let none : (ds : List ℕ) → list_any is_digit ds ≡ false → is_one_of ds c ≡ false = λ ds none. excluded is_digit (is_one_of ds) c (none_of is_digit ds c none) digit in
-    (none (codes "rR") refl, none (codes "bB") refl, none (codes "fF") refl, none (codes "tT") refl, none (codes "uU") refl)
-
+-- the letters of prefixes are told apart
 pub r-not-others : (c : ℕ) → is_r c ≡ true → (is_b c ≡ false) × (is_f c ≡ false) × (is_t c ≡ false)
 unfolding is_r is_b is_f is_t
 r-not-others c h = (none_of is_b (codes "rR") c refl h, none_of is_f (codes "rR") c refl h, none_of is_t (codes "rR") c refl h)
@@ -137,12 +125,3 @@ break-not-others c h =
 pub return-not-brace : (c : ℕ) → is_return c ≡ true → is_brace c ≡ false
 unfolding is_return is_brace
 return-not-brace c h = none_of is_brace (codes "\r") c refl h
-
--- bytes that end no line, as the search for one tells them
-pub comment_goes_on : (x : ℕ) → (is_byte2 10 13 x ≡ true → ⊥) → is_comment_byte x ≡ true
-unfolding is_break
-comment_goes_on x none = grind arith
-
-pub comment_stops : (x : ℕ) → is_byte2 10 13 x ≡ true → is_comment_byte x ≡ false
-unfolding is_break
-comment_stops x is = grind arith

@@ -1,9 +1,8 @@
 -- Which bytes that begin no character more bytes may complete, by what `error_len` says, and after how many bytes of characters they stand.
 use Rattle.std.proofs.lemmas.Bool.Decides.{nat_tests}
-use Rattle.std.proofs.Common.{◌≡◌, ℕ, ◌+◌, ◌-◌, ◌*◌, ◌/◌, ◌<◌, ◌≤◌, ◌⊎◌, Bool, true, false, cond, Option, None, Some, List, [], ◌∷◌, ◌++◌, length, drop, refl, sym, ap, ◌∙◌, subst, ⊎_elim, inl, inr, arith}
+use Rattle.std.proofs.Common.{◌≡◌, ℕ, ◌+◌, ◌-◌, ◌*◌, ◌/◌, ◌<◌, ◌≤◌, ◌⊎◌, Bool, true, false, cond, Option, None, Some, List, [], ◌∷◌, ◌++◌, length, take, drop, refl, sym, ap, ◌∙◌, subst, ⊎_elim, inl, inr, arith}
 use Rattle.std.specs.Prelude.{nat_lt, encode_utf8_all, is_some}
 use Rattle.std.specs.Str.{StartsWithNoChar, IsUtf8, IsValidUpTo}
-use Rattle.py_lines.specs.Private.Feed.{TellsHopeless}
 use Rattle.py_lines.proofs.Text.Utf8Prefixes.{nothing_bad, opening_text}
 use Rattle.std.specs.Str.Lossy.{utf8_error_len, error_len_of_some, error_len_after_one, error_len_after_two, second_byte_min, second_byte_max}
 use Rattle.std.specs.Int.{is_in_range, IsInRange, IsOutOfRange}
@@ -124,6 +123,11 @@ verdict (x ∷ r) none = rw (ne_eqb (length (x ∷ r)) 0 (λ is. omega arith)) (
 pub text_none : (bytes : List ℕ) → IsUtf8 bytes → StartsWithNoChar bytes → bytes ≡ []
 text_none bytes ([], (scalars, spell)) none = sym spell
 text_none bytes (c ∷ cs, (scalars, spell)) none = absurd (none c (encode_utf8_all cs) (and_parts _ _ scalars).0 (sym spell))
+
+-- after so many bytes of whole characters stand bytes that none complete, or none such
+abbrev pub TellsHopeless : List ℕ → Option ℕ → Type 0
+TellsHopeless bytes None = (n : ℕ) × IsUtf8 (take n bytes) × StartsWithNoChar (drop n bytes) × ¬ (IsHopeless (drop n bytes))
+TellsHopeless bytes (Some n) = (n ≤ length bytes) × IsUtf8 (take n bytes) × IsHopeless (drop n bytes)
 
 -- what `from_utf8` says of bytes: all are characters
 pub tells_ok : (bytes : List ℕ) → IsUtf8 bytes → TellsHopeless bytes None

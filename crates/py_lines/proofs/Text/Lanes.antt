@@ -1,36 +1,38 @@
--- Lanes that pass a test, marked by vectors of 16 bytes.
-use Rattle.std.proofs.lemmas.Str.{IsUtf8-from_ascii}
-use Rattle.std.proofs.Common.{◌≡◌, ℕ, ◌%◌, ◌^◌, ◌≤◌, ◌<◌, ◌&&◌, ◌||◌, not, List, [], ◌∷◌, Bool, true, false, cond, ◌+◌, ◌-◌, take, drop, slice_index, leb, ltb, eqb, length, map, ◌++◌, replicate, refl, sym, ap, inl, inr, ◌∙◌, subst, arith, w8, bit_and, bit_or}
+-- Lanes that pass a test, marked by masks.
+use Rattle.std.proofs.Common.{◌≡◌, ℕ, zero, suc, ◌%◌, ◌^◌, ◌≤◌, ◌<◌, ◌&&◌, ◌||◌, not, List, [], ◌∷◌, Bool, true, false, cond, ◌+◌, ◌-◌, ◌*◌, ◌/◌, drop, slice_index, length, map, ◌++◌, replicate, refl, ap, ◌∙◌, arith, w8, w64, bit_and, bit_or, to_z, of_z}
 use Rattle.std.specs.List.{prefix_len}
-use Rattle.std.specs.Simd.Lanes.{chunk, zip2, sel_l, mask_l, top}
+use Rattle.std.specs.Int.{bit_not, trailing_ones}
 use Rattle.std.specs.Int.Count.{count_trailing_zeros}
-use Rattle.std.proofs.lemmas.Simd.{length-chunk, map-map, tops_compared, zip2_splat, zip2_splat_left, zip2_of_maps, leading_from_mask_l, trailing_mask_l, run_in_chunk_le, run_in_chunk_fails, run_in_chunk_stops, bitmask_splat, mask_l-mod}
-use Rattle.std.proofs.lemmas.Str.Ascii.{IsAscii-from_all}
-use Rattle.std.proofs.lemmas.List.Elements.{All-from_get_or}
-use Rattle.std.specs.Str.{IsUtf8}
-use Rattle.std.proofs.lemmas.List.{take_rest, length-map, length-drop, get_or-drop, get_or-append_right, get_or-replicate}
-use Rattle.std.proofs.lemmas.List.Sums.{prefix_len_passes}
-use Rattle.std.proofs.lemmas.Bool.{cases_lt, leb-false, not-true, not-false}
-use Rattle.std.proofs.Math.Bool.{not-not, or-false}
-use Rattle.py_lines.specs.Character.{is_one_of}
-use Rattle.py_lines.specs.Private.Run.{CountsSet, Marks, IsRunOf}
+use Rattle.std.proofs.Math.Nat.{one-le-pow, pow-le-pow_right, pow-suc}
+use Rattle.std.specs.Simd.Lanes.{chunk, zip2, mask_l, top}
+use Rattle.std.proofs.lemmas.Simd.{chunk-drop, length-chunk, map-map, mask_l-lt, mask_l-mod, zip2_of_maps, zip2_splat}
+use lib.Count.{under}
+use Rattle.std.proofs.lemmas.List.{length-map, get_or-drop, get_or-append_right, get_or-replicate}
+use Rattle.std.proofs.lemmas.List.Folds.{prefix_len-append}
+use Rattle.std.proofs.lemmas.List.Sums.{prefix_len-le-length, prefix_len_passes, prefix_len_stops}
+use Rattle.std.proofs.lemmas.Bool.Decides.{nat_tests}
+use Rattle.std.specs.Prelude.{min}
+use Rattle.py_lines.specs.Private.Run.{IsRunOf, Marks}
 
-sel_of_map : (p : ℕ → Bool) (y z : ℕ) (vs : List ℕ) → sel_l (map p vs) (replicate (length vs) y) (replicate (length vs) z) ≡ map (λ x. cond (p x) y z) vs
-sel_of_map p y z [] = refl
-sel_of_map p y z (v ∷ vs) = ap (λ l. cond (p v) y z ∷ l) (sel_of_map p y z vs)
+-- the same of a mask as a function has it
+abbrev pub Shows : (ℕ → Bool) → List ℕ → List ℕ → Type 0
+Shows p vs ms = ms ≡ map (λ x. cond (p x) 255 0) vs
 
-sel_splats : (p : ℕ → Bool) (y z : ℕ) (vs : List ℕ) (n : ℕ) (ms : List Bool) → length vs ≡ n → ms ≡ map p vs → sel_l ms (replicate n y) (replicate n z) ≡ map (λ x. cond (p x) y z) vs
-sel_splats p y z vs n ms long e = ap (λ l. sel_l l (replicate n y) (replicate n z)) e ∙ subst (λ k. sel_l (map p vs) (replicate k y) (replicate k z) ≡ map (λ x. cond (p x) y z) vs) long (sel_of_map p y z vs)
+signed : (b : Bool) → of_z w8 (to_z w8 (cond b 255 0)) ≡ cond b 255 0
+signed true = refl
+signed false = refl
 
--- the lanes where a comparison with a byte holds
-pub marked_right : (t : ℕ → ℕ → Bool) (vs : List ℕ) (n y : ℕ) → length vs ≡ n
-    → Marks (λ x. t x y) vs (sel_l (map (top 7) (zip2 (λ a b. cond (t a b) 255 0) vs (replicate n y))) (replicate n 255) (replicate n 0))
-marked_right t vs n y long = sel_splats (λ x. t x y) 255 0 vs n _ long (tops_compared w8 t vs (replicate n y) ∙ zip2_splat t vs n y long)
+-- a function gives the mask that it has
+given : (p : ℕ → Bool) (vs : List ℕ) → map (of_z w8) (map (to_z w8) (map (λ x. cond (p x) 255 0) vs)) ≡ map (λ x. cond (p x) 255 0) vs
+given p [] = refl
+given p (v ∷ vs) = λ i. signed (p v) i ∷ given p vs i
 
--- the same, of a byte with the lanes
-pub marked_left : (t : ℕ → ℕ → Bool) (vs : List ℕ) (n y : ℕ) → length vs ≡ n
-    → Marks (λ x. t y x) vs (sel_l (map (top 7) (zip2 (λ a b. cond (t a b) 255 0) (replicate n y) vs)) (replicate n 255) (replicate n 0))
-marked_left t vs n y long = sel_splats (λ x. t y x) 255 0 vs n _ long (tops_compared w8 t (replicate n y) vs ∙ zip2_splat_left t y n vs long)
+pub gives : (p : ℕ → Bool) (vs : List ℕ) {ms : List ℕ} → Shows p vs ms → Marks p vs (map (to_z w8) ms)
+gives p vs e = ap (λ l. map (of_z w8) (map (to_z w8) l)) e ∙ given p vs
+
+-- a comparison with a byte
+pub compared : (t : ℕ → ℕ → Bool) (vs : List ℕ) (y : ℕ) → length vs ≡ 16 → Shows (λ x. t x y) vs (zip2 (λ a b. cond (t a b) 255 0) vs (replicate 16 y))
+compared t vs y long = zip2_splat (λ a b. cond (t a b) 255 0) vs 16 y long
 
 and_marks : (a b : Bool) → bit_and (cond a 255 0) (cond b 255 0) ≡ cond {A = ℕ} (a && b) 255 0
 and_marks a b = grind arith
@@ -38,107 +40,67 @@ and_marks a b = grind arith
 or_marks : (a b : Bool) → bit_or (cond a 255 0) (cond b 255 0) ≡ cond {A = ℕ} (a || b) 255 0
 or_marks a b = grind arith
 
--- both of two tests
-pub both_marked : (p q : ℕ → Bool) (vs xs ys : List ℕ) → Marks p vs xs → Marks q vs ys → Marks (λ x. p x && q x) vs (zip2 bit_and xs ys)
-both_marked p q vs xs ys a b = zip2_of_maps bit_and (λ x. cond (p x) 255 0) (λ x. cond (q x) 255 0) vs a b ∙ (λ i. map (λ x. and_marks (p x) (q x) i) vs)
+not_mark : (b : Bool) → bit_not w8 (cond b 255 0) ≡ cond (not b) 255 0
+not_mark b = grind arith
 
--- one of two tests
-pub either_marked : (p q : ℕ → Bool) (vs xs ys : List ℕ) → Marks p vs xs → Marks q vs ys → Marks (λ x. p x || q x) vs (zip2 bit_or xs ys)
-either_marked p q vs xs ys a b = zip2_of_maps bit_or (λ x. cond (p x) 255 0) (λ x. cond (q x) 255 0) vs a b ∙ (λ i. map (λ x. or_marks (p x) (q x) i) vs)
+-- both of two tests, one of them, and none
+pub both : (p q : ℕ → Bool) (vs : List ℕ) {xs ys : List ℕ} → Shows p vs xs → Shows q vs ys → Shows (λ x. p x && q x) vs (zip2 bit_and xs ys)
+both p q vs a b = zip2_of_maps bit_and (λ x. cond (p x) 255 0) (λ x. cond (q x) 255 0) vs a b ∙ (λ i. map (λ x. and_marks (p x) (q x) i) vs)
 
-unmarked : (b : Bool) → eqb (cond b 255 0) 0 ≡ not b
-unmarked b = grind arith
+pub either : (p q : ℕ → Bool) (vs : List ℕ) {xs ys : List ℕ} → Shows p vs xs → Shows q vs ys → Shows (λ x. p x || q x) vs (zip2 bit_or xs ys)
+either p q vs a b = zip2_of_maps bit_or (λ x. cond (p x) 255 0) (λ x. cond (q x) 255 0) vs a b ∙ (λ i. map (λ x. or_marks (p x) (q x) i) vs)
 
--- one of two bytes, and one more
-pub two_marked : (d e : ℕ) (vs xs ys : List ℕ) → Marks (λ x. eqb x d) vs xs → Marks (λ x. eqb x e) vs ys → Marks (is_one_of (d ∷ e ∷ [])) vs (zip2 bit_or xs ys)
-two_marked d e vs xs ys a b = either_marked (λ x. eqb x d) (λ x. eqb x e) vs xs ys a b ∙ (λ i. map (λ x. cond (eqb x d || sym (or-false (eqb x e)) i) 255 0) vs)
+pub none : (p : ℕ → Bool) (vs : List ℕ) {xs : List ℕ} → Shows p vs xs → Shows (λ x. not (p x)) vs (map (bit_not w8) xs)
+none p vs e = ap (map (bit_not w8)) e ∙ map-map (bit_not w8) (λ x. cond (p x) 255 0) vs ∙ (λ i. map (λ x. not_mark (p x) i) vs)
 
-pub more_marked : (d : ℕ) (ds : List ℕ) (vs xs ys : List ℕ) → Marks (λ x. eqb x d) vs xs → Marks (is_one_of ds) vs ys → Marks (is_one_of (d ∷ ds)) vs (zip2 bit_or xs ys)
-more_marked d ds vs xs ys a b = either_marked (λ x. eqb x d) (is_one_of ds) vs xs ys a b
+-- the same test in other words
+pub same : (p q : ℕ → Bool) (vs : List ℕ) {ms : List ℕ} → Shows p vs ms → ((x : ℕ) → p x ≡ q x) → Shows q vs ms
+same p q vs e alike = e ∙ (λ i. map (λ x. cond (alike x i) 255 0) vs)
 
--- the lanes of no mark
-pub none_marked : (p : ℕ → Bool) (vs ms xs : List ℕ) → Marks p vs ms → Marks (λ x. eqb x 0) ms xs → Marks (λ x. not (p x)) vs xs
-none_marked p vs ms xs e f =
-    f
-    ∙ ap (λ l. map (λ x. cond (eqb x 0) 255 0) l) e
-    ∙ map-map (λ x. cond (eqb x 0) 255 0) (λ x. cond (p x) 255 0) vs
-    ∙ (λ i. map (λ x. cond (unmarked (p x) i) 255 0) vs)
+top_of : (b : Bool) → top 7 (cond b 255 0) ≡ b
+top_of true = refl
+top_of false = refl
 
-unset : (b : Bool) → ltb (cond b 255 0) 128 ≡ not b
-unset b = grind arith
+-- bits from the lowest on: one more, and what comes after it
+next_bit : (b : Bool) (k m r : ℕ) → m < 2 ^ k → count_trailing_zeros k (2 ^ k - 1 - m) ≡ r
+    → count_trailing_zeros (suc k) (2 ^ suc k - 1 - (cond b 1 0 + 2 * m)) ≡ cond b (1 + r) 0
+unfolding count_trailing_zeros
+next_bit true k m r small rest =
+    let low : (2 ^ suc k - 1 - (1 + 2 * m)) % 2 ≡ 0 = omega (arith, pow-suc 2 k) in
+    let high : (2 ^ suc k - 1 - (1 + 2 * m)) / 2 ≡ 2 ^ k - 1 - m = omega (arith, pow-suc 2 k) in
+    (λ i. under (low i) (count_trailing_zeros k (high i))) ∙ omega (arith, rest)
+next_bit false k m r small rest =
+    let low : (2 ^ suc k - 1 - (0 + 2 * m)) % 2 ≡ 1 = omega (arith, pow-suc 2 k) in
+    ap (λ d. under d (count_trailing_zeros k ((2 ^ suc k - 1 - (0 + 2 * m)) / 2))) low
 
--- a bit for each lane that isn't marked
-abbrev pub unset_bits : List ℕ → ℕ
-unset_bits ms = mask_l (map (top 7) (zip2 (λ a b. cond (ltb a b) 255 0) ms (replicate 16 128))) % 2 ^ 64
+ones_first : (p : ℕ → Bool) (vs : List ℕ) (k : ℕ) → length vs < k → count_trailing_zeros k (2 ^ k - 1 - mask_l (map p vs)) ≡ prefix_len p vs
+ones_first p vs zero less = absurd (omega arith)
+ones_first p [] (suc k) less = next_bit false k 0 _ (one-le-pow k 2 (omega arith)) refl
+ones_first p (v ∷ vs) (suc k) less =
+    let grows : 2 ^ length (map p vs) ≤ 2 ^ k = pow-le-pow_right (omega arith) (omega (arith, length-map vs p, less)) in
+    next_bit (p v) k (mask_l (map p vs)) (prefix_len p vs) (omega (arith, mask_l-lt (map p vs), grows)) (ones_first p vs k (omega arith))
 
-unset_bits_are : (p : ℕ → Bool) (vs ms : List ℕ) → length vs ≡ 16 → Marks p vs ms → unset_bits ms ≡ mask_l (map (λ x. not (p x)) vs)
-unset_bits_are p vs ms long e =
-    bitmask_splat w8 ltb ms 16 128 (ap (λ l. length l) e ∙ length-map vs (λ x. cond (p x) 255 0) ∙ long) (omega arith)
-    ∙ ap (λ l. mask_l (map (λ x. ltb x 128) l)) e
-    ∙ ap mask_l (map-map (λ x. ltb x 128) (λ x. cond (p x) 255 0) vs)
-    ∙ (λ i. mask_l (map (λ x. unset (p x) i) vs))
+-- how many lanes are set before the first that isn't: as many bits
+pub set_first : (p : ℕ → Bool) (vs : List ℕ) {ms : List ℕ} {n : ℕ} → length vs ≡ 16 → Shows p vs ms → n ≡ trailing_ones w64 (mask_l (map (top 7) ms) % 2 ^ 64) → n ≡ prefix_len p vs
+set_first p vs long e counted =
+    counted ∙ ap (λ l. trailing_ones w64 (mask_l l % 2 ^ 64)) (ap (map (top 7)) e ∙ map-map (top 7) (λ x. cond (p x) 255 0) vs ∙ (λ i. map (λ x. top_of (p x) i) vs))
+    ∙ ap (trailing_ones w64) (mask_l-mod (map p vs) 64 (omega (arith, length-map vs p, long))) ∙ ones_first p vs 64 (omega (arith, long))
 
--- how many lanes are marked before the first that isn't: all, or as many bits are not set before the first that is
-pub all_set : (p : ℕ → Bool) (vs ms : List ℕ) → length vs ≡ 16 → Marks p vs ms → unset_bits ms ≡ 0 → 16 ≡ prefix_len p vs
-all_set p vs ms long e none =
-    sym long ∙ sym (leading_from_mask_l (λ x. not (p x)) vs (sym (unset_bits_are p vs ms long e) ∙ none)) ∙ (λ i. prefix_len (λ x. not-not (p x) i) vs)
+-- a run goes on after sixteen bytes of it
+pub sixteen_on : (p : ℕ → Bool) (xs : List ℕ) (i m : ℕ) → i + 16 ≤ length xs → m ≡ prefix_len p (chunk i 16 xs)
+    → (m < 16 → prefix_len p (drop i xs) ≡ m) × (16 ≤ m → prefix_len p (drop i xs) ≡ 16 + prefix_len p (drop (i + 16) xs))
+sixteen_on p xs i m room counted =
+    let split = ap (prefix_len p) (chunk-drop i 16 xs) ∙ prefix_len-append p (chunk i 16 xs) (drop (i + 16) xs) in
+    (λ short. grind (arith, nat_tests, split, counted, length-chunk i 16 xs room), λ all. grind (arith, nat_tests, split, counted, length-chunk i 16 xs room, prefix_len-le-length p (chunk i 16 xs)))
 
-pub some_unset : (p : ℕ → Bool) (vs ms : List ℕ) → length vs ≡ 16 → Marks p vs ms → (unset_bits ms ≡ 0 → ⊥) → count_trailing_zeros 64 (unset_bits ms) ≡ prefix_len p vs
-some_unset p vs ms long e some =
-    let bits = unset_bits_are p vs ms long e in
-    ap (count_trailing_zeros 64) bits ∙ trailing_mask_l (λ x. not (p x)) 64 vs (omega (arith, long)) (omega (arith, bits, some)) ∙ (λ i. prefix_len (λ x. not-not (p x) i) vs)
+-- the run of a list that goes on is as long, up to its end
+pub shorter_run : (p : ℕ → Bool) (xs zs ys : List ℕ) (r n : ℕ) → zs ≡ xs → r ≡ prefix_len p (zs ++ ys) → n ≡ min r (length xs) → n ≡ prefix_len p xs
+shorter_run p xs zs ys r n same counted least =
+    let on = counted ∙ ap (λ l. prefix_len p (l ++ ys)) same ∙ prefix_len-append p xs ys in
+    grind (arith, nat_tests, least, on, prefix_len-le-length p xs)
 
--- sixteen bytes more were looked at, of which so many go on with a run
-pub record Sixteen (p : ℕ → Bool) (xs : List ℕ) (i r : ℕ) : Type 0 where
-  pub room : i + 16 ≤ length xs
-  pub most : r ≤ 16
-  pub each : (k : ℕ) → k < i + r → p (slice_index xs k) ≡ true
-  pub ends : r < 16 → IsRunOf p xs (i + r)
-
-pub sixteen : (p : ℕ → Bool) (xs : List ℕ) (i r : ℕ) (mask : List ℕ) → i ≤ length xs → 16 ≤ length xs - i → ((k : ℕ) → k < i → p (slice_index xs k) ≡ true)
-    → CountsSet mask r → Marks p (chunk i 16 xs) mask → Sixteen p xs i r
-sixteen p xs i r mask within more before counts marks =
-    let room : i + 16 ≤ length xs = omega (arith, within, more) in
-    let other : ℕ → Bool = λ x. not (p x) in
-    let counted : r ≡ prefix_len (λ x. not (other x)) (chunk i 16 xs) = counts p (chunk i 16 xs) (length-chunk i 16 xs room) marks ∙ sym (λ j. prefix_len (λ x. not-not (p x) j) (chunk i 16 xs)) in
-    let each : (k : ℕ) → k < i + r → p (slice_index xs k) ≡ true = λ k lt. elim (cases_lt k i) [
-      | inl low ↦ before k low
-      | inr high ↦ not-false _ (run_in_chunk_fails other xs i 16 r 0 room counted k high lt)
-    ] in
-    record {
-      room = room;
-      most = run_in_chunk_le other xs i 16 r 0 room counted;
-      each = each;
-      ends = λ short. record { within = omega (arith, room, short); each = each; ends = λ lt. not-true _ (run_in_chunk_stops other xs i 16 r 0 room counted short) };
-    }
-
--- a run goes on with the run that the rest begins with
-pub run_goes_on : (p : ℕ → Bool) (xs : List ℕ) (i n : ℕ) → i ≤ length xs → ((k : ℕ) → k < i → p (slice_index xs k) ≡ true) → IsRunOf p (take (length xs - i) (drop i xs)) n → IsRunOf p xs (i + n)
-run_goes_on p xs i n le before taken =
-    let run : IsRunOf p (drop i xs) n = subst (λ l. IsRunOf p l n) (take_rest xs i) taken in
-    record {
-      within = omega (arith, run.within, length-drop i xs);
-      each = λ k lt.
-          elim (cases_lt k i) [
-            | inl low ↦ before k low
-            | inr high ↦ subst (λ x. p x ≡ true) (get_or-drop i xs (k - i) 0 ∙ ap (λ j. slice_index xs j) (omega arith)) (run.each (k - i) (omega arith))
-          ];
-      ends = λ lt. subst (λ x. p x ≡ false) (get_or-drop i xs n 0) (run.ends (omega (arith, length-drop i xs)));
-    }
-
--- sixty-four lanes none of which is 128 or above
-abbrev pub high_bits : List ℕ → ℕ
-high_bits vs = mask_l (map (top 7) (zip2 (λ a b. cond (leb a b) 255 0) (replicate 64 128) vs)) % 2 ^ 64
-
-high_bits_are : (vs : List ℕ) → length vs ≡ 64 → high_bits vs ≡ mask_l (map (λ x. leb 128 x) vs)
-high_bits_are vs long =
-    ap (λ ms. mask_l ms % 2 ^ 64) (tops_compared w8 leb (replicate 64 128) vs ∙ zip2_splat_left leb 128 64 vs long)
-    ∙ mask_l-mod (map (λ x. leb 128 x) vs) 64 (omega (arith, length-map vs (λ x. leb 128 x), long))
-
-pub low_lanes : (vs : List ℕ) → length vs ≡ 64 → high_bits vs ≡ 0 → IsUtf8 vs
-low_lanes vs long none =
-    let all = leading_from_mask_l (λ x. leb 128 x) vs (sym (high_bits_are vs long) ∙ none) in
-    IsUtf8-from_ascii vs (IsAscii-from_all vs (All-from_get_or (λ b. b < 128) vs 0 (λ i less. leb-false 128 _ (not-true _ (prefix_len_passes (λ x. not (leb 128 x)) vs i 0 (omega (arith, less, all)))))))
+pub run_is : (p : ℕ → Bool) (xs : List ℕ) (n : ℕ) → n ≡ prefix_len p xs → IsRunOf p xs n
+run_is p xs n is = rw is record { within = prefix_len-le-length p xs; each = λ i less. prefix_len_passes p xs i 0 less; ends = λ less. prefix_len_stops p xs 0 less }
 
 -- past the bytes stands what fills the block
 pub filled_past : (bytes : List ℕ) (n k pad : ℕ) → length bytes ≤ k → k < n → slice_index (bytes ++ drop (length bytes) (replicate n pad)) k ≡ pad

@@ -3,7 +3,7 @@ use Rattle.std.proofs.Common.{◌≡◌, ℕ, ◌+◌, ◌<◌, ◌≤◌, Bool,
 use Rattle.std.specs.Prelude.{if◌then◌else◌, encode_utf8_all}
 use Rattle.std.specs.List.{count_by, list_all, list_any}
 use mir.Val.{bool_byte}
-use Rattle.std.proofs.Math.Bool.{or-false, or-true}
+use Rattle.std.proofs.Math.Bool.{or-false}
 use Rattle.std.proofs.lemmas.List.{take-append-drop}
 use Rattle.std.proofs.lemmas.List.Folds.{list_any-append, list_any_more}
 use Rattle.std.proofs.lemmas.List.Sums.{count_by_more_no, count_by_more_yes, sum_by-cons, sum_by-take-drop}
@@ -12,7 +12,7 @@ use Rattle.py_lines.specs.Character.{is_break, is_line_feed, is_return}
 use Rattle.py_lines.specs.Piece.{begins}
 use Rattle.py_lines.specs.LogicalLine.{ends_line, line_ends}
 use Rattle.py_lines.specs.Private.LineEnds.{lone_returns}
-use Rattle.py_lines.proofs.Text.CharacterTests.{Each, feed_from, feed_is, return_is}
+use Rattle.py_lines.proofs.Text.CharacterTests.{Each, feed_is, return_is}
 use Rattle.py_lines.proofs.LineScan.LineCount.{line_ends-le}
 use Rattle.py_lines.proofs.Text.HighBytes.{encoded_begins, high_bytes, low_even}
 use Rattle.py_lines.proofs.Text.Utf8Shapes.{one}
@@ -69,19 +69,10 @@ feeds_more bytes i within =
     (λ no. omega (arith, ap bool_byte (test ∙ no), count_by_more_no is_line_feed bytes i 0 within no))
     (cases_Bool (is_line_feed (slice_index bytes i)))
 
-return_from : (b : ℕ) → b ≡ 13 → is_return b ≡ true
+pub returned_more : (bytes : List ℕ) (i : ℕ) → i < length bytes
+    → (list_any is_return (take i bytes) || (slice_index bytes i == 13)) ≡ list_any is_return (take (i + 1) bytes)
 unfolding is_return
-return_from b is = rw is refl
-
-pub returned_yes : (bytes : List ℕ) (i : ℕ) → i < length bytes → slice_index bytes i ≡ 13 → true ≡ list_any is_return (take (i + 1) bytes)
-returned_yes bytes i within is =
-    rw (list_any_more is_return bytes i 0 within, return_from (slice_index bytes i) is) (sym (or-true (list_any is_return (take i bytes))))
-
-pub returned_no : (bytes : List ℕ) (i : ℕ) → i < length bytes → (slice_index bytes i ≡ 13 → ⊥)
-    → list_any is_return (take i bytes) ≡ list_any is_return (take (i + 1) bytes)
-returned_no bytes i within other =
-    let none : is_return (slice_index bytes i) ≡ false = false_from_ne_true _ (λ h. other (return_is (slice_index bytes i) h)) in
-    rw (list_any_more is_return bytes i 0 within, none) (sym (or-false (list_any is_return (take i bytes))))
+returned_more bytes i within = rw (list_any_more is_return bytes i 0 within, or-false (slice_index bytes i == 13)) refl
 
 -- both parts of the bytes
 pub feeds_parted : (n : ℕ) (bytes front back : List ℕ) → front ≡ take n bytes → back ≡ drop n bytes
@@ -101,23 +92,17 @@ begins_at [] (suc k) = refl
 begins_at (b ∷ bs) zero = refl
 begins_at (b ∷ bs) (suc k) = begins_at bs k
 
-lone_more : (bytes : List ℕ) (i : ℕ) → i < length bytes
+pub lone_more : (bytes : List ℕ) (i : ℕ) → i < length bytes
     → lone_returns (drop i bytes) ≡ (if is_return (slice_index bytes i) && not (is_line_feed (slice_index bytes (i + 1))) then 1 else 0) + lone_returns (drop (i + 1) bytes)
 lone_more bytes i within = rw (add-one i, drop-cons bytes i 0 within, begins_at bytes (suc i)) refl
-
-pub lone_one : (bytes : List ℕ) (i : ℕ) → i < length bytes → slice_index bytes i ≡ 13 → (slice_index bytes (i + 1) ≡ 10 → ⊥)
-    → lone_returns (drop i bytes) ≡ 1 + lone_returns (drop (i + 1) bytes)
-lone_one bytes i within is other = grind (arith, lone_more bytes i within, return_from _ is, feed_is (slice_index bytes (i + 1)))
-
-pub lone_none : (bytes : List ℕ) (i : ℕ) → i < length bytes → (slice_index bytes i ≡ 13 → slice_index bytes (i + 1) ≡ 10)
-    → lone_returns (drop i bytes) ≡ lone_returns (drop (i + 1) bytes)
-lone_none bytes i within paired =
-    grind (arith, lone_more bytes i within, return_is (slice_index bytes i), feed_from (slice_index bytes (i + 1)))
 
 -- bytes without CR hold none
 pub none_lone : (bytes : List ℕ) → list_any is_return bytes ≡ false → lone_returns bytes ≡ 0
 none_lone [] none = refl
 none_lone (b ∷ bs) none = let parts = or_parts (is_return b) (list_any is_return bs) none in rw (parts.0, none_lone bs parts.1) refl
+
+-- what the count of line ends goes by
+pub ruleset end_facts = (ends-le, line_ends-is, line_ends-encoded, none_lone)
 
 -- characters without a line end
 unbroken_one : (c : ℕ) (cs : List ℕ) → is_break c ≡ false → ends_line c cs ≡ false

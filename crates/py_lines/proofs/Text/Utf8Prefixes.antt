@@ -1,10 +1,10 @@
 -- Characters that a text begins with.
-use Rattle.std.proofs.Common.{◌≡◌, ℕ, ◌+◌, ◌-◌, ◌<◌, ◌≤◌, length, take, drop, arith, length-append, true, List, [], ◌∷◌, ◌++◌, refl, sym, ap, ◌∙◌, subst, append_assoc, append-nil}
+use Rattle.std.proofs.Common.{◌≡◌, ℕ, ◌+◌, ◌<◌, ◌≤◌, length, take, drop, arith, length-append, length-take-le, true, List, [], ◌∷◌, ◌++◌, refl, sym, ap, ◌∙◌, subst, append_assoc, append-nil}
 use Rattle.std.specs.Prelude.{encode_utf8_all, encode_utf8}
 use Rattle.std.specs.Str.{all_scalars, StartsWithNoChar, IsValidUpTo, IsUtf8}
 use Rattle.std.specs.Char.{IsScalar}
 use Rattle.std.proofs.lemmas.Str.{cons_from_encodes, encode_same, length-encode, len_utf8_bounds, IsUtf8-append, IsUtf8-encode, encodes-append}
-use Rattle.std.proofs.lemmas.List.{drop_all, drop-drop, length-drop, take-append-drop, take_rest}
+use Rattle.std.proofs.lemmas.List.{drop_all, length-drop}
 use Rattle.std.proofs.Math.Seq.{take-add, take-append_seam}
 use Rattle.std.proofs.lemmas.Bool.{and_parts, and_from}
 
@@ -53,24 +53,11 @@ opening_text bytes n front longest c rest scalar e =
     longest m (omega (arith, length-encode c, len_utf8_bounds c)) (omega (arith, ap length e, length-append (encode_utf8 c) rest, length-drop n bytes, length-encode c, len_utf8_bounds c))
     (subst IsUtf8 (sym grown) (IsUtf8-append (take n bytes) (encode_utf8 c) front (IsUtf8-encode c scalar)))
 
--- text after a prefix that is text
-pub joined_text : (bytes : List ℕ) (n : ℕ) → IsUtf8 (take n bytes) → IsUtf8 (take (length bytes - n) (drop n bytes)) → IsUtf8 bytes
-joined_text bytes n prefix rest = subst IsUtf8 (ap (λ t. take n bytes ++ t) (take_rest bytes n) ∙ take-append-drop n bytes) (IsUtf8-append (take n bytes) (take (length bytes - n) (drop n bytes)) prefix rest)
-
--- the longest prefix that is text, where the rest is known to begin with so many bytes of it
-pub record JoinedPrefix (bytes : List ℕ) (n : ℕ) : Type 0 where
-  pub utf8 : IsUtf8 (take n bytes)
-  pub short : n ≤ length bytes
-  pub bad : StartsWithNoChar (drop n bytes)
-
-pub joined_prefix : (bytes : List ℕ) (n v : ℕ) → IsUtf8 (take n bytes) → IsValidUpTo (take (length bytes - n) (drop n bytes)) v → JoinedPrefix bytes (n + v)
-joined_prefix bytes n v prefix longest =
-    let rest : IsValidUpTo (drop n bytes) v = subst (λ (t : List ℕ). IsValidUpTo t v) (take_rest bytes n) longest in
-    record {
-      utf8 = subst IsUtf8 (sym (take-add n v bytes)) (IsUtf8-append (take n bytes) (take v (drop n bytes)) prefix rest.front);
-      short = omega (arith, rest.short, length-drop n bytes);
-      bad = subst StartsWithNoChar (drop-drop v n bytes) (opening_text (drop n bytes) v rest.front (λ m more within. rest.longest m more));
-    }
+-- the same of the longest front that is UTF-8
+pub front_text : (text bytes : List ℕ) (n : ℕ) → text ≡ take n bytes → IsValidUpTo bytes n → StartsWithNoChar (drop (length text) bytes)
+front_text text bytes n is longest =
+    subst (λ (k : ℕ). StartsWithNoChar (drop k bytes)) (omega (arith, ap length is, length-take-le n bytes (omega (arith, longest.short))))
+    (opening_text bytes n longest.front (λ m more within. longest.longest m more))
 
 -- of a text that goes on, what its characters are after those that were known, and what is left
 pub record IsContinued (prefix x all t : List ℕ) : Type 0 where

@@ -31,7 +31,7 @@ pub high_scalar : (c : ℕ) → 57344 ≤ c → c < 1114112 → scalar c ≡ tru
 high_scalar c l u = rw (le-ltb c 55296 (omega arith), le-leb 57344 c l, lt-ltb c 1114112 u)
 
 -- what holds of its bytes, however many there are
-pub by_size : (P : List ℕ → Type 0) (c : ℕ) → (c < 128 → P (c ∷ [])) → (128 ≤ c → c < 2048 → P ((192 + c / 64) ∷ next c ∷ []))
+by_size : (P : List ℕ → Type 0) (c : ℕ) → (c < 128 → P (c ∷ [])) → (128 ≤ c → c < 2048 → P ((192 + c / 64) ∷ next c ∷ []))
     → (2048 ≤ c → c < 65536 → P ((224 + c / 4096) ∷ next (c / 64) ∷ next c ∷ [])) → (65536 ≤ c → P ((240 + c / 262144) ∷ next (c / 4096) ∷ next (c / 64) ∷ next c ∷ []))
     → P (encode c)
 by_size P c of1 of2 of3 of4 =

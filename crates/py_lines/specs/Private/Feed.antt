@@ -1,13 +1,12 @@
 -- What the scanner inside a `Scanner` holds: the text since the line that was released last, and how far it was scanned.
-use Rattle.std.specs.Prelude.{◌≡◌, ℕ, ◌+◌, ◌<◌, ◌≤◌, ◌^◌, ◌⊎◌, Bool, true, false, Option, None, Some, Result, Ok, Err, List, ◌++◌, length, take, drop, encode_utf8_all, is_some, IsUtf8}
-use Rattle.std.specs.Str.{all_scalars, StartsWithNoChar}
-use Rattle.std.specs.declared.alloc.AllocError.{AllocError}
+use Rattle.std.specs.Prelude.{◌≡◌, ℕ, ◌+◌, ◌<◌, ◌≤◌, ◌^◌, ◌⊎◌, Bool, true, Option, None, Some, Result, Ok, Err, List, ◌++◌, length, take, drop, encode_utf8_all}
+use Rattle.std.specs.Str.{all_scalars}
 use Rattle.py_lines.specs.Piece.{Piece, spelled}
 use Rattle.py_lines.specs.LogicalLine.{LogicalLine, byte_len, end_len_of, line_ends, line_of}
 use Rattle.py_lines.specs.Lexed.{IsLexed}
 use Rattle.py_lines.specs.Settled.{IsHopeless, Decides}
 pub use Rattle.py_lines.specs.Given.{AreFirstLines}
-use Rattle.py_lines.specs.ScannerState.{LacksBoth, ScannerState, EndsExactly, Feeds, GoesOnWith, HoldsLast, TakesBytes, WhereWhole, ready_lines}
+use Rattle.py_lines.specs.ScannerState.{ScannerState, EndsExactly, Feeds, GoesOnWith, HoldsLast, TakesBytes, WhereWhole, ready_lines}
 pub use Rattle.py_lines.specs.ScannerState.View.{line_of_feed, ready_of, scanning_of}
 use Rattle.py_lines.specs.Private.LineScan.{Reached, ScansIn}
 use Rattle.py_lines.specs.Private.LineState.{BeginsAnew, KeepsFault, first_mode}
@@ -21,11 +20,6 @@ pub use Rattle.py_lines.specs.declared.fault.LexError.{LexError}
 pub use Rattle.py_lines.specs.declared.scan.Scan.{Scan}
 pub use Rattle.py_lines.specs.declared.scan.Stop.{Stop}
 pub use Rattle.py_lines.specs.declared.feed.Feed.{Feed}
-
--- after so many bytes of whole characters stand bytes that none complete, or none such
-abbrev pub TellsHopeless : List ℕ → Option ℕ → Type 0
-TellsHopeless bytes None = (n : ℕ) × IsUtf8 (take n bytes) × StartsWithNoChar (drop n bytes) × ¬ (IsHopeless (drop n bytes))
-TellsHopeless bytes (Some n) = (n ≤ length bytes) × IsUtf8 (take n bytes) × IsHopeless (drop n bytes)
 
 -- these bytes are held, from the same place on, and this fault is known
 pub record HoldsAt (at number : ℕ) (over : Bool) (items : List ℕ) (known : Option Fault) (f : Feed) : Type 0 where
@@ -63,10 +57,6 @@ abbrev pub IsScanned : Feed → Option ℕ → Type 0
 IsScanned f None = (s : StopsHeld f Stop.TextEnd) × ¬ (IsHopeless s.rest)
 IsScanned f (Some end_len) = StopsHeld f (Stop.LineEnd end_len)
 
--- whole characters end after so many of the bytes that are held
-abbrev pub IsCutAt : Feed → ℕ → Type 0
-IsCutAt f offset = (offset ≤ length f.held.items) × IsUtf8 (take offset f.held.items)
-
 -- the text has this fault from now on: so many bytes after the lines released
 pub record FailsAt (old : Feed) (kind : FaultKind) (offset : ℕ) (error : LexError) (new : Feed) : Type 0 where
   pub same : new ≡ record old { state = new.state }
@@ -95,22 +85,6 @@ abbrev pub FailsIn : Feed → List ℕ → Fault → Feed → Type 0
 FailsIn old items fault new =
     Holds old items (Some fault) new × (new.ready ≡ None)
     × WhereHeld old.state.place old.state.line items (λ text lines. IsDecidedAt text old.state.place lines (length items) fault)
-
--- these bytes are held, and no line is ready: the scan of the line that they begin with has stopped so
-pub record StopsWith (old : Feed) (items : List ℕ) (stop : Stop) (new : Feed) : Type 0 where
-  pub text : Holds old items old.state.fault new
-  pub not_ready : new.ready ≡ None
-  pub stops : StopsHeld new stop
-
--- what a scan of these bytes, which are held then, answers and leaves
-abbrev pub ScansTo : Feed → List ℕ → Result (Unit {0}) LexError → Feed → Type 0
-ScansTo old items (Ok done) new = Holds old items old.state.fault new × IsScanned new new.ready
-ScansTo old items (Err (LexError.Fault f)) new = FailsIn old items f new
-ScansTo old items (Err LexError.Memory) new = ⊥
-
--- what a scan of what is held does
-abbrev pub ScansHeld : Feed → Result (Unit {0}) LexError → Feed → Type 0
-ScansHeld old result new = ScansTo old old.held.items result new
 
 -- nothing that contracts see has changed, no line is ready, and the scan may go on
 abbrev pub IsUnchanged : Feed → Feed → Type 0
@@ -144,6 +118,7 @@ IsLineAfterHeld f line =
 
 -- such a line is ready, with its tokens
 pub record IsReady (f : Feed) (end_len : ℕ) : Type 0 where
+  pub no_fault : f.state.fault ≡ None
   pub holds : HoldsLine f end_len
   pub after : IsLineAfterHeld f f.next_line
   pub line_is : line_of_feed f end_len ≡ line_held f end_len holds
@@ -178,12 +153,6 @@ ReadsTokens old before (Ok done) new = HasReadTokens old new
 ReadsTokens old before (Err (LexError.Fault f)) new = ⊥
 ReadsTokens old before (Err LexError.Memory) new = DropsLine old before new
 
--- Some of these bytes, if there are any, are held after those that were, and the scan has stopped so in them. Or there is no memory.
-abbrev pub HoldsPiece : Feed → List ℕ → Result Stop AllocError → Feed → Type 0
-HoldsPiece old piece (Ok stop) new =
-    (n : ℕ) × (n ≤ length piece) × (n ≡ 0 → length piece ≡ 0) × StopsWith old (old.held.items ++ take n piece) stop new
-HoldsPiece old piece (Err error) new = IsUnchanged old new
-
 -- All that is held was scanned, and no line has ended in it. Or it is the line that has ended, with one byte more after CR alone, unless
 -- the line had ended in these bytes of it.
 abbrev pub EndsWithLine : List ℕ → Feed → Option ℕ → Type 0
@@ -192,12 +161,28 @@ EndsWithLine before f (Some end_len) =
     (s : StopsHeld f (Stop.LineEnd end_len))
     × (EndsExactly s.read s.rest ⊎ ScansIn (first_mode f.state.place) before f.state.scan (Stop.LineEnd end_len))
 
--- so many bytes stay held, or all: more than these, if more are held
-pub record GivesBack (old : Feed) (before : ℕ) (new : Feed) : Type 0 where
-  pub kept : ℕ
-  pub more : (before < kept) ⊎ (length old.held.items ≤ kept)
-  pub text : Holds old (take kept old.held.items) old.state.fault new
-  pub ends : EndsWithLine (take before old.held.items) new new.ready
+-- so many bytes of a piece are held after those that were, some if there are any, and were scanned
+pub record HoldsMore (old : Feed) (held before piece : List ℕ) (n : ℕ) (new : Feed) : Type 0 where
+  pub within : n ≤ length piece
+  pub some : n ≡ 0 → length piece ≡ 0
+  pub text : Holds old (held ++ take n piece) old.state.fault new
+  pub ends : EndsWithLine before new new.ready
+
+-- what follows from where the scan of what is held has stopped: so many bytes of it stay held after these first ones
+abbrev pub Meets : Feed → ℕ → Result ℕ LexError → Feed → Type 0
+Meets old before (Ok n) new = HoldsMore old (take before old.held.items) (take before old.held.items) (drop before old.held.items) n new
+Meets old before (Err (LexError.Fault f)) new = FailsIn old old.held.items f new
+Meets old before (Err LexError.Memory) new = ⊥
+
+-- with some bytes of a piece after what was held this fault is met, and kept
+abbrev pub FailsAfter : Feed → List ℕ → Fault → Feed → Type 0
+FailsAfter old piece fault new = (n : ℕ) × (n ≤ length piece) × FailsIn old (old.held.items ++ take n piece) fault new
+
+-- what a call that takes bytes of a piece once answers and leaves
+abbrev pub Takes : Feed → List ℕ → Result ℕ LexError → Feed → Type 0
+Takes old piece (Ok n) new = HoldsMore old old.held.items old.held.items piece n new
+Takes old piece (Err (LexError.Fault f)) new = FailsAfter old piece f new
+Takes old piece (Err LexError.Memory) new = IsUnchanged old new
 
 -- so many bytes of a piece were taken, and then this line stands in what is held, if one does
 pub record TakesLine (old : Feed) (piece : List ℕ) (n : ℕ) (new : Feed) : Type 0 where
@@ -210,12 +195,6 @@ pub record TakesLine (old : Feed) (piece : List ℕ) (n : ℕ) (new : Feed) : Ty
 abbrev pub TakesSo : Feed → List ℕ → Result ℕ LexError → Feed → Type 0
 TakesSo old piece (Ok n) new = TakesLine old piece n new
 TakesSo old piece (Err error) new = Feeds (scanning_of old) piece (Err error) (scanning_of new) × IsSoundFeed new
-
--- whether a line is ready, where no fault was met
-abbrev pub WaitsSo : Feed → Result Bool LexError → Type 0
-WaitsSo f (Ok waits) = (f.state.fault ≡ None) × (waits ≡ is_some f.ready)
-WaitsSo f (Err (LexError.Fault fault)) = f.state.fault ≡ Some fault
-WaitsSo f (Err LexError.Memory) = ⊥
 
 -- the text that ends with what is held has this fault, which is kept
 pub record HasEndFault (old : Feed) (fault : Fault) (new : Feed) : Type 0 where
@@ -234,7 +213,7 @@ pub record HasEndedText (old new : Feed) : Type 0 where
 abbrev pub EndsText : Feed → Result (Unit {0}) LexError → Feed → Type 0
 EndsText old (Ok done) new = HasEndedText old new
 EndsText old (Err (LexError.Fault f)) new = HasEndFault old f new
-EndsText old (Err LexError.Memory) new = ⊥
+EndsText old (Err LexError.Memory) new = IsUnchanged old new
 
 -- the line that was ready is let go: what is held begins after it, and so does the scan of the next line
 pub record LetsGo (old new : Feed) : Type 0 where
@@ -245,10 +224,3 @@ pub record LetsGo (old new : Feed) : Type 0 where
   pub ended : new.ended ≡ old.ended
   pub fault : new.state.fault ≡ old.state.fault
   pub opens : IsOpen new new.held.items
-
--- so the line that stands in what is held, where it lacks both words; else nothing has changed
-abbrev pub LetsGoWithout : List ℕ → List ℕ → Feed → Bool → Feed → Type 0
-LetsGoWithout word other old true new =
-    (end_len : ℕ) × (old.ready ≡ Some end_len) × LacksBoth word other (take old.state.scan.stop old.held.items) × LetsGo old new
-LetsGoWithout word other old false new =
-    (new ≡ old) × ((end_len : ℕ) → old.ready ≡ Some end_len → ¬ (LacksBoth word other (take old.state.scan.stop old.held.items)))

@@ -9,6 +9,7 @@ use Rattle.py_lines.specs.FieldStrings.{literal, specification}
 use Rattle.py_lines.specs.Private.Machine.{Mode}
 use Rattle.py_lines.specs.Private.Mode as modes
 use Rattle.py_lines.specs.Private.FieldMachine.{between, after_brace, plain, body, Level, FieldScanned, field_state, levels_open}
+use Rattle.py_lines.specs.Private.Run.{is_line_byte}
 use Rattle.py_lines.specs.Private.Scan.{Goes, KeepsOpen}
 
 -- Where the machine stands in a string: `outer` are the fields round the string, and `l` says what stands before it in its list,
@@ -58,10 +59,10 @@ abbrev pub AtSpecification : List Level → Level → FieldScanned → Type 0
 AtSpecification outer l t =
     (front : List ℕ) × (held : List ℕ) × (t ≡ field_state (level_after l front ∷ outer) [] [] (body l.host specification false between) held)
 
--- these characters are ASCII, and lead from one such place to another in each string of this quote, where at most a hundred brackets and
+-- these characters are ASCII on one line, and lead from one such place to another in each string of this quote, where at most a hundred brackets and
 -- fields are open round it
 pub record Leads (quote : ℕ) (From : List Level → Level → FieldScanned → Type 0) (run : List ℕ) (To : List Level → Level → FieldScanned → Type 0) : Type 0 where
-  pub low : list_all (λ c. nat_lt c 128) run ≡ true
+  pub low : list_all is_line_byte run ≡ true
   pub goes : (outer : List Level) (l : Level) (t : FieldScanned) → l.host.quote ≡ quote → is_quote quote ≡ true
       → length l.openers + levels_open outer ≤ 100 → From outer l t
       → (u : FieldScanned) × Goes t run u × KeepsOpen t run × To outer l u
@@ -69,10 +70,6 @@ pub record Leads (quote : ℕ) (From : List Level → Level → FieldScanned →
 -- so do the first bytes, so many of them
 abbrev pub LeadsBy : ℕ → (List Level → Level → FieldScanned → Type 0) → List ℕ → ℕ → (List Level → Level → FieldScanned → Type 0) → Type 0
 LeadsBy quote From bytes len To = (len ≤ length bytes) × Leads quote From (take len bytes) To
-
--- and so they do in strings of every quote
-abbrev pub LeadsAlways : (List Level → Level → FieldScanned → Type 0) → List ℕ → ℕ → (List Level → Level → FieldScanned → Type 0) → Type 0
-LeadsAlways From bytes len To = (len ≤ length bytes) × ((quote : ℕ) → Leads quote From (take len bytes) To)
 
 -- the brackets that are looked for in a field's code
 unfoldable pub is_code_bracket : ℕ → Bool
@@ -87,20 +84,12 @@ pub record HasSimpleCode (bytes : List ℕ) (len : ℕ) : Type 0 where
   pub within : len ≤ length bytes
   pub leads : (openers : List ℕ) (quote : ℕ) → Leads quote (AtCode openers) (take len bytes) (InCode openers)
 
--- What they begin with, if it is simple: the code within this bracket, with the one that closes it; a field's code; its specification
--- with the `:` before it and the `}` after it; a field after its `{`; and a part of a string's text that is none of its characters.
-abbrev pub HasBracketed : ℕ → List ℕ → Option ℕ → Type 0
-HasBracketed opener bytes None = Unit {0}
-HasBracketed opener bytes (Some len) = LeadsAlways (AtCode (opener ∷ [])) bytes len (AtCode [])
+-- so with code that may have brackets, none of which stands in another
+pub record HasCode (bytes : List ℕ) (len : ℕ) : Type 0 where
+  pub within : len ≤ length bytes
+  pub leads : (quote : ℕ) → Leads quote (AtCode []) (take len bytes) (InCode [])
 
-abbrev pub HasCode : List ℕ → Option ℕ → Type 0
-HasCode bytes None = Unit {0}
-HasCode bytes (Some len) = LeadsAlways (AtCode []) bytes len (InCode [])
-
-abbrev pub HasSpecification : ℕ → List ℕ → Option ℕ → Type 0
-HasSpecification quote bytes None = Unit {0}
-HasSpecification quote bytes (Some len) = (0 < len) × LeadsBy quote (InCode []) bytes len InText
-
+-- a field after its `{`, if it is simple, and a part of a string's text that is none of its characters
 abbrev pub HasField : ℕ → List ℕ → Option ℕ → Type 0
 HasField quote bytes None = Unit {0}
 HasField quote bytes (Some len) = LeadsBy quote AtBrace bytes len InText

@@ -1,8 +1,12 @@
 -- What the reader inside a `Lines` and the one inside a `Scanner` have in common: where the next line begins, what the
 -- scan knows of that line, and the text's fault.
-use Rattle.std.specs.Prelude.{◌≡◌, ℕ, zero, suc, ◌+◌, None, Some, List, encode_utf8_all}
-use Rattle.py_lines.specs.LogicalLine.{LogicalLine, line_ends}
+use Rattle.std.specs.Prelude.{◌≡◌, ℕ, zero, suc, ◌+◌, ◌<◌, ◌≤◌, None, Some, Result, Ok, Err, List, [], ◌∷◌, ◌++◌, length, take, drop, encode_utf8_all}
+use Rattle.py_lines.specs.Piece.{Piece, spelled}
+use Rattle.py_lines.specs.LogicalLine.{LogicalLine, end_len_of, line_ends, line_of}
+use Rattle.py_lines.specs.Given.{AreFirstLines}
+use Rattle.py_lines.specs.Lexed.{IsLexed}
 use Rattle.py_lines.specs.Private.LineScan.{HasBegun}
+use Rattle.py_lines.specs.Private.LineTokens.{AreLineText}
 use Rattle.py_lines.specs.declared.fault.Fault.{Fault}
 use Rattle.py_lines.specs.declared.fault.FaultKind.{FaultKind}
 use Rattle.py_lines.specs.declared.fault.LexError.{LexError}
@@ -11,6 +15,7 @@ use Rattle.py_lines.specs.declared.line_state.LineState.{LineState}
 use Rattle.py_lines.specs.Private.Machine.{Mode}
 use Rattle.py_lines.specs.Private.Mode as modes
 use Rattle.py_lines.specs.declared.scan.Scan.{Scan}
+use Rattle.py_lines.specs.declared.scan.LineFault.{LineFault}
 
 -- what is open where a line begins: a mark may stand at the text's start
 abbrev pub first_mode : ℕ → Mode
@@ -41,6 +46,10 @@ read_line s text offset line end_len = record {
   end_len = end_len;
 }
 
+-- the scan alone has changed
+abbrev pub rescanned : LineState → LineState → LineState
+rescanned old new = record old { scan = new.scan }
+
 -- the scan of the next line is begun anew; the tokens may be those of no line
 pub record BeginsAnew (old new : LineState) : Type 0 where
   pub same : new ≡ record old { scan = new.scan; tokens = new.tokens }
@@ -66,3 +75,31 @@ pub record KeepsFault (old : LineState) (kind : FaultKind) (offset : ℕ) (bytes
   pub error_is : error ≡ lex.Fault fault
   pub at : IsFaultAfter old kind offset bytes fault
   pub same : new ≡ record old { fault = Some fault }
+
+-- so many of these bytes are a logical line, which has these pieces, and so many bytes of line end
+pub record BeginWithLine (bytes : List ℕ) (stop end_len : ℕ) : Type 0 where
+  pub pieces : List Piece
+  pub text : AreLineText (take stop bytes) pieces
+  pub ends : end_len ≡ end_len_of pieces
+  pub some : 0 < stop
+  pub within : stop ≤ length bytes
+
+-- this holds of each text that ends with these bytes after its first lines, which reach to this place, and of these lines
+abbrev pub WhereLeft : ℕ → ℕ → List ℕ → (List ℕ → List LogicalLine → Type 0) → Type 0
+WhereLeft place line bytes holds = (text : List ℕ) (lines : List LogicalLine) → AreFirstLines text place line lines → bytes ≡ drop place text → holds text lines
+
+-- so many of the bytes that a text ends with are its next line
+pub record HasNextLine (place line : ℕ) (bytes : List ℕ) (stop end_len : ℕ) : Type 0 where
+  pub is : BeginWithLine bytes stop end_len
+  pub next : WhereLeft place line bytes (λ text lines.
+      AreFirstLines text (place + stop) (line + line_ends (spelled is.pieces)) (lines ++ line_of place line is.pieces ∷ []))
+
+-- or this is wrong in it, so far from its start
+pub record HasNextFault (s : LineState) (bytes : List ℕ) (line_fault : LineFault) : Type 0 where
+  pub within : line_fault.place ≤ length bytes
+  pub lexed : (fault : Fault) → IsFaultAfter s line_fault.kind line_fault.place (take line_fault.place bytes) fault
+      → WhereLeft s.place s.line bytes (λ text lines. IsLexed text lines (Some fault))
+
+abbrev pub ScansLine : LineState → List ℕ → Result ℕ LineFault → ℕ → Type 0
+ScansLine s bytes (Ok end_len) stop = HasNextLine s.place s.line bytes stop end_len
+ScansLine s bytes (Err line_fault) stop = HasNextFault s bytes line_fault

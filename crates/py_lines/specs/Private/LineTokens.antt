@@ -1,8 +1,8 @@
 -- The tokens of a whole logical line, which are read from its text alone.
-use Rattle.std.specs.Prelude.{◌≡◌, ℕ, ◌+◌, ◌&&◌, Bool, true, false, List, [], ◌∷◌, ◌++◌, if◌then◌else◌, encode_utf8_all, take, drop, nat_eq}
+use Rattle.std.specs.Prelude.{◌≡◌, ℕ, ◌+◌, Bool, true, false, List, [], ◌∷◌, ◌++◌, if◌then◌else◌, encode_utf8_all, drop, nat_eq}
 use Rattle.std.specs.List.{starts_with}
 use Rattle.std.specs.Str.{all_scalars}
-use Rattle.py_lines.specs.Character.{is_digit, is_line_feed, is_quote, is_return}
+use Rattle.py_lines.specs.Character.{is_digit}
 use Rattle.py_lines.specs.Piece.{Class, space, word, string, operator, comment, join, Piece, begins, begins_marked, is_mark_class, spelled}
 use Rattle.py_lines.specs.Fields.{AreReadBefore, IsShallow}
 use Rattle.py_lines.specs.LogicalLine.{byte_len, line_ends, first_or_zero, token, tokens_from, kind_of, indent_of}
@@ -16,7 +16,6 @@ use Rattle.py_lines.specs.declared.unit.UnitKind.TheVariants as unit_kind
 use Rattle.py_lines.specs.declared.token.TokKind.TheVariants as kind
 use Rattle.py_lines.specs.declared.line_tokens.Role.{Role}
 use Rattle.py_lines.specs.declared.line_tokens.Role.TheVariants as roles
-use Rattle.py_lines.specs.declared.line_tokens.LinePiece.{LinePiece}
 use Rattle.py_lines.specs.declared.line_tokens.LineTokens.{LineTokens}
 
 -- the text is what these pieces spell, which something may follow, and there is room for all that they open where so many brackets are open
@@ -53,37 +52,29 @@ role_of join text = roles.Join
 role_of space text = roles.Space
 role_of other text = roles.LineEnd
 
+-- the line ends of a piece of this role and text
+abbrev pub ends_in : Role → List ℕ → ℕ
+ends_in (roles.Token kind.Str) text = line_ends text
+ends_in (roles.Token other) text = 0
+ends_in roles.Space text = 0
+ends_in other text = 1
+
 -- the piece as its line takes it
-pub record IsTakenFor (p : Piece) (piece : LinePiece) : Type 0 where
-  pub role : piece.role ≡ role_of p.class p.text
-  pub len : piece.len ≡ byte_len p.text
-  pub line_ends : piece.line_ends ≡ line_ends p.text
+abbrev pub IsTakenFor : Piece → Role → ℕ → Type 0
+IsTakenFor p role len = (role ≡ role_of p.class p.text) × (len ≡ byte_len p.text)
 
 -- the bytes of the line end that these begin with: of CR LF, or of LF or CR
 abbrev pub line_end_len : List ℕ → ℕ
-line_end_len (c ∷ d ∷ bytes) = if is_return c && is_line_feed d then 2 else 1
-line_end_len other = 1
-
--- whether the first bytes, so many of them, are the prefix of a string, whose quote follows
-abbrev pub ends_prefix : List ℕ → ℕ → Bool
-ends_prefix bytes len = begins is_quote (drop len bytes) && begins_string (word_spelling (take len bytes))
+line_end_len bytes = if starts_with nat_eq bytes (13 ∷ 10 ∷ []) then 2 else 1
 
 -- whether a quote after such a word, or after nothing, begins a string
 abbrev pub is_prefix_word : List ℕ → Bool
 is_prefix_word [] = true
 is_prefix_word text = begins_string (word_spelling text)
 
--- a token of so many bytes, without a line end
-abbrev pub token_piece : TokKind → ℕ → LinePiece
-token_piece kind len = record { role = roles.Token kind; len = len; line_ends = 0 }
-
 -- the first piece of these bytes, whatever it is
-abbrev pub IsFirstPiece : List ℕ → LinePiece → Type 0
-IsFirstPiece bytes piece = (p : Piece) → BeginWithPiece bytes p → IsTakenFor p piece
-
--- so if it is a string
-abbrev pub IsFirstString : List ℕ → LinePiece → Type 0
-IsFirstString bytes piece = (p : Piece) → p.class ≡ string → BeginWithPiece bytes p → IsTakenFor p piece
+abbrev pub IsFirstPiece : List ℕ → Role → ℕ → Type 0
+IsFirstPiece bytes role len = (p : Piece) → BeginWithPiece bytes p → IsTakenFor p role len
 
 -- it has so many bytes, if it is a string
 abbrev pub IsStringLen : List ℕ → ℕ → Type 0
@@ -107,10 +98,6 @@ HoldsTokens text line t = (pieces : List Piece) → AreLineText text pieces → 
 abbrev pub IsLineAfter : ℕ → List ℕ → ℕ → Type 0
 IsLineAfter line text after = (pieces : List Piece) → AreLineText text pieces → after ≡ line + line_ends (spelled pieces)
 
--- the bytes of the mark that the text begins with
-abbrev pub mark_len : List ℕ → ℕ
-mark_len text = if starts_with nat_eq text (0xEF ∷ 0xBB ∷ 0xBF ∷ []) then 3 else 0
-
 -- what a line holds with a comment more
 abbrev pub with_comment : UnitKind → UnitKind
 with_comment unit_kind.Blank = unit_kind.Comment
@@ -128,11 +115,11 @@ abbrev pub token_in : Role → ℕ → ℕ → ℕ → List Token
 token_in (roles.Token k) start stop line = token k start stop line ∷ []
 token_in other start stop line = []
 
--- the tokens with those of a piece, which stands at this byte of its line, and on this line of the text
-pub record AddsPiece (old : LineTokens) (piece : LinePiece) (start line : ℕ) (new : LineTokens) : Type 0 where
-  pub kind : new.kind ≡ kind_with old.kind piece.role
+-- the tokens with those of a piece, which stands between these bytes of its line, and on this line of the text
+pub record AddsPiece (old : LineTokens) (role : Role) (start stop line : ℕ) (new : LineTokens) : Type 0 where
+  pub kind : new.kind ≡ kind_with old.kind role
   pub indent : new.indent ≡ old.indent
-  pub tokens : new.tokens.items ≡ old.tokens.items ++ token_in piece.role start (start + piece.len) line
+  pub tokens : new.tokens.items ≡ old.tokens.items ++ token_in role start stop line
 
 -- what it holds with these pieces more
 abbrev pub kind_on : UnitKind → List Piece → UnitKind

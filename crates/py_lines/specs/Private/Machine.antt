@@ -2,8 +2,8 @@
 -- and the brackets that are open after pieces. The machine of FieldMachine.antt, by which the scan goes, is made from it. It serves the contracts of
 -- private functions; what a text reads to is said by Piece, Balance, LogicalLine and Lexed, and proofs tie the two.
 use Rattle.std.specs.Prelude.{◌≡◌, ℕ, Bool, true, false, ◌==◌, ◌&&◌, Option, None, Some, List, [], ◌∷◌, ◌++◌, length, nat_lt, if◌then◌else◌}
-use Rattle.py_lines.specs.Character.{is_mark, is_space, is_word_character, is_word_start, is_digit, is_quote, is_operator, is_line_feed, is_return, is_break, is_hash, is_backslash, is_r, is_b, is_f, is_t, is_u}
-use Rattle.std.specs.List.{list_all}
+use Rattle.py_lines.specs.Character.{is_mark, is_space, is_word_character, is_word_start, is_quote, is_operator, is_line_feed, is_return, is_break, is_hash, is_backslash, is_r, is_b, is_f, is_t, is_u}
+use Rattle.std.specs.List.{fold, list_all}
 use Rattle.py_lines.specs.Piece.{Class, mark, space, word, string, operator, comment, join, line_end, Piece, spelled}
 use Rattle.py_lines.specs.PieceGrammar.{IsRun, IsComment, IsPrefix, is_item, is_short_item, joined, has_triple}
 use Rattle.py_lines.specs.Balance.{is_opener, is_closer, closing_of}
@@ -28,38 +28,28 @@ pub data Start : Type 0 where
 -- the spelling of a word of one character
 unfoldable pub first_spelling : ℕ → Spelling
 first_spelling c =
-    if is_digit c then Spelling.Number
-    else (if is_r c then Spelling.R
+    if is_r c then Spelling.R
     else (if is_b c then Spelling.B
     else (if is_f c then Spelling.F
     else (if is_t c then Spelling.T
     else (if is_u c then Spelling.Prefix
-    else Spelling.Name)))))
+    else Spelling.Name))))
 
 -- the spelling of a word with one more character
 unfoldable pub spelling_with : Spelling → ℕ → Spelling
-spelling_with Spelling.Number c = Spelling.Number
 spelling_with Spelling.R c =
     if is_b c then Spelling.Prefix else (if is_f c then Spelling.Fr else (if is_t c then Spelling.Tr else Spelling.Name))
 spelling_with Spelling.B c = if is_r c then Spelling.Prefix else Spelling.Name
 spelling_with Spelling.F c = if is_r c then Spelling.Fr else Spelling.Name
-spelling_with Spelling.Fr c = Spelling.Name
 spelling_with Spelling.T c = if is_r c then Spelling.Tr else Spelling.Name
-spelling_with Spelling.Tr c = Spelling.Name
-spelling_with Spelling.Prefix c = Spelling.Name
-spelling_with Spelling.Name c = Spelling.Name
+spelling_with other c = Spelling.Name
 
 -- whether the word may be the prefix of a string without fields
 abbrev pub is_prefix_spelling : Spelling → Bool
-is_prefix_spelling Spelling.Number = false
-is_prefix_spelling Spelling.R = true
-is_prefix_spelling Spelling.B = true
-is_prefix_spelling Spelling.F = true
-is_prefix_spelling Spelling.Fr = true
 is_prefix_spelling Spelling.T = false
 is_prefix_spelling Spelling.Tr = false
-is_prefix_spelling Spelling.Prefix = true
 is_prefix_spelling Spelling.Name = false
+is_prefix_spelling other = true
 
 -- whether the word is the prefix of a string with fields
 abbrev pub is_field_spelling : Spelling → Bool
@@ -77,14 +67,12 @@ is_raw_spelling other = false
 
 -- whether the word is the prefix of a string, with fields or without
 abbrev pub begins_string : Spelling → Bool
-begins_string Spelling.Number = false
 begins_string Spelling.Name = false
 begins_string other = true
 
 -- the spelling of a word that goes on
 abbrev pub spelling_on : Spelling → List ℕ → Spelling
-spelling_on s [] = s
-spelling_on s (c ∷ cs) = spelling_on (spelling_with s c) cs
+spelling_on = fold spelling_with
 
 -- what a character does in a short string that it doesn't end at once
 unfoldable pub short_move : ℕ → ℕ → Move

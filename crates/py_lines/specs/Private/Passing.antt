@@ -1,19 +1,18 @@
 -- Bytes of a line that are passed over at one that isn't plain: what that comes to, wherever in a line they stand.
-use Rattle.std.specs.Prelude.{◌≡◌, ℕ, ◌+◌, ◌-◌, ◌<◌, ◌≤◌, ◌⊎◌, ◌&&◌, not, nat_lt, Bool, true, false, Option, None, Some, List, [], ◌∷◌, length, take, drop, slice_index, if◌then◌else◌}
+use Rattle.std.specs.Prelude.{◌≡◌, ℕ, ◌+◌, ◌-◌, ◌<◌, ◌≤◌, Bool, true, false, Option, None, Some, List, [], ◌∷◌, length, take, drop, if◌then◌else◌}
 use Rattle.std.specs.List.{count_by, list_any}
-use Rattle.py_lines.specs.Character.{is_backslash, is_break, is_line_feed, is_return}
+use Rattle.py_lines.specs.Character.{is_line_feed, is_return}
 use Rattle.py_lines.specs.declared.frames.Frame.{Frame}
 use Rattle.py_lines.specs.declared.marks.Marks.{Marks}
 use Rattle.py_lines.specs.declared.mode.Mode.TheVariants as opens
 use Rattle.py_lines.specs.declared.mode.Spelling.{Spelling}
-use Rattle.py_lines.specs.declared.mode.Spelling.TheVariants as spellings
 use Rattle.py_lines.specs.declared.passing.Passing.{Passing}
 use Rattle.py_lines.specs.declared.passing.Special.{Special}
 use Rattle.py_lines.specs.declared.passing.Special.TheVariants as special
 use Rattle.py_lines.specs.declared.scan.Progress.TheVariants as progress
 use Rattle.py_lines.specs.declared.scan.Scan.{Scan}
 use Rattle.py_lines.specs.Private.Frames.{has_field}
-use Rattle.py_lines.specs.Private.Machine.{begins_string, first_spelling, spelling_with}
+use Rattle.py_lines.specs.Private.Machine.{first_spelling, spelling_with}
 use Rattle.py_lines.specs.Private.Marks.{HasMarks}
 use Rattle.py_lines.specs.Private.Run.{is_ascii_word}
 use Rattle.py_lines.specs.Private.Scan.{Steps, Takes, passed}
@@ -29,16 +28,6 @@ tail_on tail (c ∷ cs) = tail_on (tail_with tail c) cs
 
 abbrev pub tail_of : List ℕ → Option Spelling
 tail_of text = tail_on None text
-
--- such a word was found, or is known to begin no string
-abbrev pub IsWordBefore : Option Spelling → Option Spelling → Type 0
-IsWordBefore found tail = (found ≡ tail) ⊎ ((found ≡ Some spellings.Name) × (s : Spelling) × (tail ≡ Some s) × (begins_string s ≡ false))
-
--- whether a backslash stands at this byte, and after it ASCII that is no line end
-abbrev pub begins_escape : List ℕ → ℕ → Bool
-begins_escape bytes at =
-    is_backslash (slice_index bytes at)
-    && (nat_lt (at + 1) (length bytes) && (nat_lt (slice_index bytes (at + 1)) 128 && not (is_break (slice_index bytes (at + 1)))))
 
 -- no byte was passed
 abbrev pub nothing_passed : Marks → Passing
@@ -97,12 +86,13 @@ pub record EndsAfter (scan : Scan) (bytes : List ℕ) (before len : ℕ) (new : 
   pub takes : Takes scan bytes before mid
   pub ends : Steps mid (drop before bytes) (progress.LineEnded len) new
 
--- a line end of so many bytes was passed, which ends the line
+-- a line end of so many bytes was passed, which ends the line: nothing is open
 pub record EndsLineSo (bytes : List ℕ) (at : ℕ) (old : Passing) (b : List Frame) (len : ℕ) (new : Passing) (c : List Frame) : Type 0 where
   pub all : new.all ≡ at + len
   pub within : new.all ≤ length bytes
   pub marked : HasMarks bytes new.all new.marks
   pub some : 0 < len
+  pub frames : c ≡ []
   pub over : (start : ℕ) (scan : Scan) → StandsFree start b scan
       → EndsAfter scan (drop old.all bytes) (at - old.all) len (passed (with_frames scan c) (new.all - old.all))
 

@@ -1,16 +1,15 @@
 -- Runs of bytes that a text begins with, which leave the open piece as it is.
-use Rattle.std.specs.Prelude.{◌&&◌, Option, None, Some, ◌≡◌, ℕ, ◌+◌, ◌-◌, ◌<◌, ◌≤◌, ◌⊎◌, Bool, true, false, ◌==◌, ◌||◌, not, nat_lt, nat_le, if◌then◌else◌, map, List, [], ◌∷◌, ◌++◌, length, take, drop, slice_index, codes, encode_utf8}
+use Rattle.std.specs.Prelude.{◌&&◌, Option, None, Some, ◌≡◌, ℕ, ◌+◌, ◌-◌, ◌<◌, ◌≤◌, ◌⊎◌, Bool, true, false, ◌==◌, ◌||◌, not, nat_lt, nat_le, if◌then◌else◌, map, List, [], ◌∷◌, ◌++◌, length, take, drop, slice_index, codes, encode_utf8, ℤ}
+use Rattle.std.specs.Int.{w8, cast_unsigned}
 use Rattle.std.specs.Str.{byte, IsUtf8}
 use Rattle.std.specs.Char.{is_ascii_alphanumeric, len_utf8, IsScalar}
-use Rattle.std.specs.List.{list_all, prefix_len}
+use Rattle.std.specs.List.{list_all}
 use Rattle.py_lines.specs.Character.{is_one_of, is_brace, is_space, is_break, is_hash, is_backslash, is_quote}
 use Rattle.py_lines.specs.Private.Machine.{IsFull, first_spelling, spelling_on}
 use Rattle.py_lines.specs.declared.mode.Mode.{Mode as OpenMode}
 use Rattle.py_lines.specs.declared.mode.Mode.TheVariants as opens
 use Rattle.py_lines.specs.declared.mode.Spelling.{Spelling}
 use Rattle.py_lines.specs.declared.mode.Spelling.TheVariants as spellings
-use Rattle.py_lines.specs.Private.Machine.{Mode}
-use Rattle.py_lines.specs.Private.Mode as modes
 use Rattle.py_lines.specs.declared.run.ByteRun.{ByteRun}
 use Rattle.py_lines.specs.declared.run.ByteRun.TheVariants as runs
 
@@ -30,17 +29,17 @@ pub record Spans (passes : ℕ → Bool) (bytes : List ℕ) (len : ℕ) : Type 0
   pub run : HasRun passes bytes len
   pub utf8 : IsUtf8 (take len bytes)
 
+-- ASCII that ends no line
+abbrev pub is_line_byte : ℕ → Bool
+is_line_byte c = nat_lt c 128 && not (is_break c)
+
 -- the bytes from one to another
 abbrev pub is_between : ℕ → ℕ → ℕ → Bool
 is_between low high c = nat_le low c && nat_le c high
 
--- the lanes of a mask that are set are those whose bytes pass
-abbrev pub Marks : (ℕ → Bool) → List ℕ → List ℕ → Type 0
-Marks passes lanes mask = mask ≡ map (λ c. if passes c then 255 else 0) lanes
-
--- so many of sixteen lanes stand before the first that the mask doesn't set
-abbrev pub CountsSet : List ℕ → ℕ → Type 0
-CountsSet mask n = (passes : ℕ → Bool) (lanes : List ℕ) → length lanes ≡ 16 → Marks passes lanes mask → n ≡ prefix_len passes lanes
+-- the lanes of a mask that are set, all ones, are those whose bytes pass
+abbrev pub Marks : (ℕ → Bool) → List ℕ → List ℤ → Type 0
+Marks passes lanes mask = map (cast_unsigned w8) mask ≡ map (λ c. if passes c then 255 else 0) lanes
 
 -- the letters and digits of ASCII, and the underscore
 unfoldable pub is_ascii_word : ℕ → Bool
@@ -66,10 +65,6 @@ is_literal_byte quote c = is_text_byte quote c && not (is_brace c)
 abbrev pub is_long_byte : ℕ → ℕ → Bool
 is_long_byte quote c = not ((c == quote) || is_backslash c)
 
--- the same, of ASCII
-abbrev pub is_long_text_byte : ℕ → ℕ → Bool
-is_long_text_byte quote c = is_long_byte quote c && nat_lt c 128
-
 -- a space, or one of the operators that code in fields has mostly: `!`, `=`, and those from `*` to `/`
 unfoldable pub is_code_sign : ℕ → Bool
 is_code_sign c = is_between 42 47 c || (is_between 32 33 c || (c == byte "="))
@@ -89,15 +84,12 @@ is_in_run runs.WideWord = is_wide_word
 is_in_run runs.Space = is_space
 is_in_run (runs.Body q) = is_body_byte q
 is_in_run (runs.Text q) = is_text_byte q
-is_in_run (runs.Long q) = is_long_byte q
-is_in_run (runs.LongText q) = is_long_text_byte q
 is_in_run (runs.Literal q) = is_literal_byte q
 is_in_run runs.Code = is_code_byte
 
 -- whether a byte, or a character, leaves the open piece as it is, where that is no string with fields
 abbrev pub stays : OpenMode → ℕ → Bool
 stays opens.Space c = is_space c
-stays (opens.Word spellings.Number) c = is_ascii_word c
 stays (opens.Word spellings.Name) c = is_ascii_word c
 stays opens.Comment c = is_comment_byte c
 stays (opens.Short q) c = is_body_byte q c
@@ -112,11 +104,6 @@ pub record BeginsWith (bytes : List ℕ) (c : ℕ) : Type 0 where
 -- what a line end, a comment or a join of lines begins with
 abbrev pub is_apart : ℕ → Bool
 is_apart c = is_break c || (is_hash c || is_backslash c)
-
--- whether no piece is open, after the text's start
-abbrev pub is_free : Mode → Bool
-is_free modes.Free = true
-is_free other = false
 
 -- the spelling of a word
 abbrev pub word_spelling : List ℕ → Spelling

@@ -1,7 +1,7 @@
 -- What the scan of a line keeps of what is open, in the words of the machine with fields. It serves the contracts of private
 -- functions. The scan takes items of one character or more, and the machine characters. Where pieces end before the next byte, as an
 -- empty string does before another byte than its quote, the scan has closed them, and the machine does so with that byte's character.
-use Rattle.std.specs.Prelude.{◌≡◌, ℕ, ◌+◌, ◌-◌, ◌<◌, ◌≤◌, ◌==◌, ◌||◌, ◌&&◌, ◌⊎◌, not, nat_lt, Bool, true, false, Option, None, Some, Result, Ok, Err, List, [], ◌∷◌, ◌++◌, length, drop, map, slice_index, encode_utf8, encode_utf8_all, if◌then◌else◌}
+use Rattle.std.specs.Prelude.{◌≡◌, ℕ, ◌+◌, ◌-◌, ◌<◌, ◌==◌, ◌||◌, ◌&&◌, ◌⊎◌, not, nat_lt, Bool, true, false, Option, None, Some, Result, Ok, Err, List, [], ◌∷◌, ◌++◌, length, drop, map, slice_index, encode_utf8, encode_utf8_all, if◌then◌else◌}
 use Rattle.std.specs.Char.{IsScalar}
 use Rattle.std.specs.Str.{all_scalars, byte, StartsWithNoChar}
 use Rattle.py_lines.specs.Character.{is_break, is_line_feed, is_mark, is_quote, is_space, is_word_character, is_backslash}
@@ -10,7 +10,7 @@ use Rattle.py_lines.specs.Faults.{kind_of_cause, Unfinished, open_bracket, kind_
 use Rattle.py_lines.specs.Piece.{Piece, begins, spelled}
 use Rattle.py_lines.specs.FieldStrings.{Host, Place, literal, specification}
 use Rattle.py_lines.specs.declared.fault.FaultKind.{FaultKind}
-use Rattle.py_lines.specs.declared.fault.FaultKind.TheVariants.{BadUtf8, TooDeep}
+use Rattle.py_lines.specs.declared.fault.FaultKind.TheVariants.{BadUtf8}
 use Rattle.py_lines.specs.declared.frames.OpenField.{OpenField}
 use Rattle.py_lines.specs.declared.frames.Frame.{Frame}
 use Rattle.py_lines.specs.declared.frames.Frame.TheVariants as frame
@@ -20,14 +20,15 @@ use Rattle.py_lines.specs.declared.host.Region.TheVariants as regions
 use Rattle.py_lines.specs.declared.mode.Mode.{Mode as OpenMode}
 use Rattle.py_lines.specs.declared.mode.Mode.TheVariants as opens
 use Rattle.py_lines.specs.declared.mode.Spelling.{Spelling}
+use Rattle.py_lines.specs.declared.mode.Spelling.TheVariants as spellings
 use Rattle.py_lines.specs.declared.scan.LineFault.{LineFault}
 use Rattle.py_lines.specs.declared.scan.Scan.{Scan}
 use Rattle.py_lines.specs.declared.scan.Progress.{Progress}
 use Rattle.py_lines.specs.declared.scan.Progress.TheVariants as progress
 use Rattle.py_lines.specs.declared.string_text.TextMove.{TextMove}
 use Rattle.py_lines.specs.declared.string_text.TextMove.TheVariants as text_moves
-use Rattle.py_lines.specs.Private.Frames.{InField, has_field}
-use Rattle.py_lines.specs.Private.Machine.{Holds, Bracket, brackets_of, is_field_spelling, is_raw_spelling, spelling_with}
+use Rattle.py_lines.specs.Private.Frames.{has_field}
+use Rattle.py_lines.specs.Private.Machine.{Holds, Bracket, begins_string, brackets_of, is_field_spelling, is_raw_spelling, spelling_with}
 use Rattle.py_lines.specs.Private.Mode as modes
 use Rattle.py_lines.specs.Private.FieldMachine.{FieldMode, FieldMove, plain, empty, body, between, grows, closes, breaks, ends_field, refused, closing_move, after_open_backslash, Level, FieldScanned, field_class_of, field_fresh, field_move, field_pieces, room_step, text_place, before, frames}
 use Rattle.py_lines.specs.Private.FieldFaults.{here, piece_start, cause_in, cause_place, is_waiting, quotes_specification, unfinished_at, unfinished_place}
@@ -86,16 +87,20 @@ string_mode s quote long =
     then opens.Fields (record { quote = quote; is_long = long; is_raw = is_raw_spelling s }) regions.Literal false
     else (if long then opens.Long quote else opens.Short quote)
 
+-- where a string begins whose quote comes next, and how its prefix is spelled: the word that is open, if it is a prefix
+abbrev pub string_from : OpenMode → ℕ → ℕ → ℕ × Spelling
+string_from (opens.Word s) start stop = if begins_string s then (start, s) else (stop, spellings.Name)
+string_from other start stop = (stop, spellings.Name)
+
+abbrev pub string_start : Scan → ℕ × Spelling
+string_start scan = string_from scan.mode scan.start scan.stop
+
 -- the quote of the string whose text is open is a quote
 abbrev pub HasQuote : OpenMode → Type 0
 HasQuote (opens.Short q) = is_quote q ≡ true
 HasQuote (opens.Long q) = is_quote q ≡ true
 HasQuote (opens.Fields h region named) = is_quote h.quote ≡ true
 HasQuote other = Unit {0}
-
--- no piece is open, no bracket and no field
-abbrev pub is_settled : Scan → Bool
-is_settled scan = is_free_mode scan.mode && (length scan.frames == 0)
 
 -- no piece is open and no field, so that code of the line goes on
 abbrev pub is_in_code : Scan → Bool
@@ -111,14 +116,14 @@ bracket_frames start bs = map (λ b. frame.Bracket b.opener (start + b.place)) b
 abbrev pub bracket_openers : List Bracket → List ℕ
 bracket_openers bs = map (λ b. b.opener) bs
 
--- no list stands within a specification
-abbrev pub NoListAt : Place → List Piece → List ℕ → Type 0
-NoListAt literal done openers = Unit {0}
-NoListAt specification done openers = (done ≡ []) × (openers ≡ [])
+-- a specification stands in a field, and no list within it
+abbrev pub NoListAt : Place → List Level → List Piece → List ℕ → Type 0
+NoListAt literal outer done openers = Unit {0}
+NoListAt specification outer done openers = (done ≡ []) × (openers ≡ []) × (outer ≡ [] → ⊥)
 
-abbrev pub HasNoList : FieldMode → List Piece → List ℕ → Type 0
-HasNoList (body host place named at) done openers = NoListAt place done openers
-HasNoList other done openers = Unit {0}
+abbrev pub HasNoList : FieldMode → List Level → List Piece → List ℕ → Type 0
+HasNoList (body host place named at) outer done openers = NoListAt place outer done openers
+HasNoList other outer done openers = Unit {0}
 
 -- the scan keeps a field of this level within these, where this is known of the frames round the field's string
 pub record FieldFollows (l : Level) (ls : List Level) (field : OpenField) (Others : Type 0) : Type 0 where
@@ -127,7 +132,7 @@ pub record FieldFollows (l : Level) (ls : List Level) (field : OpenField) (Other
   pub quote : is_quote l.host.quote ≡ true
   pub region : region_in field.region ≡ l.place
   pub start : field.start ≡ byte_len (before l.place ls ++ spelled l.done)
-  pub bare : NoListAt l.place l.done l.openers
+  pub bare : NoListAt l.place ls l.done l.openers
   pub round : Others
 
 -- The frames of a state, the innermost first: the brackets of its innermost list, the field in which that stands, if it stands in one,
@@ -147,21 +152,12 @@ HoldsCode (plain modes.Free) held = held ≡ []
 HoldsCode (plain (modes.Word s)) held = Holds (modes.Word s) [] held
 HoldsCode other held = Unit {0}
 
--- the text of a specification stands in its field
-abbrev pub IsPlaced : FieldMode → List Frame → Type 0
-IsPlaced (body host specification named at) fs = InField fs
-IsPlaced other fs = Unit {0}
-
-abbrev pub IsInPlace : Scan → Type 0
-IsInPlace scan = IsPlaced (mode_from scan.mode) scan.frames
-
 -- the scan keeps count of the machine
 pub record Follows (scan : Scan) (t : FieldScanned) : Type 0 where
   pub mode : mode_from scan.mode ≡ t.mode
   pub holds : HoldsCode t.mode t.held
-  pub no_list : HasNoList t.mode t.done t.openers
+  pub no_list : HasNoList t.mode t.outer t.done t.openers
   pub quote : HasQuote scan.mode
-  pub placed : IsInPlace scan
   pub start : scan.start ≡ piece_start t
   pub frames : FramesFollow t.outer t.done t.openers scan.frames
   pub stop : scan.stop ≡ here t
@@ -464,24 +460,15 @@ ended_in old field others = record {
   stop = old.stop + 1;
 }
 
--- so the innermost field was ended
+-- so the innermost field was ended, if a field is innermost
 abbrev pub EndsField : Scan → Progress → Scan → Type 0
-EndsField old result new =
-    (result ≡ progress.Going 1)
-    × (field : OpenField) × (others : List Frame) × (old.frames ≡ frame.Field field ∷ others) × (new ≡ ended_in old field others) × IsInPlace new
+EndsField old result new = (field : OpenField) (others : List Frame) → old.frames ≡ frame.Field field ∷ others
+    → (result ≡ progress.Going 1) × (new ≡ ended_in old field others)
 
 -- the scan in the code of a field of the string that is open, whose `{` stands where it stopped
 abbrev pub entered : Scan → StringWithFields → Region → Scan
 entered old host region =
     passed (record old { frames = frame.Field (record { place = old.stop; host = host; region = region; start = old.start }) ∷ old.frames }) 1
-
--- so, where there is room for the field
-abbrev pub OpensIf : Bool → Scan → StringWithFields → Region → Progress → Scan → Type 0
-OpensIf true old host region result new = (result ≡ progress.Going 1) × (new ≡ entered old host region)
-OpensIf false old host region result new = (result ≡ wrong_here old TooDeep) × (length old.frames ≤ 200) × (new ≡ old)
-
-abbrev pub OpensField : Scan → StringWithFields → Region → Progress → Scan → Type 0
-OpensField old host region result new = OpensIf (nat_lt (length old.frames) 200) old host region result new
 
 -- how many quotes bytes begin with, up to three; None where they are fewer and end with them
 abbrev pub quotes_in : List ℕ → Option ℕ

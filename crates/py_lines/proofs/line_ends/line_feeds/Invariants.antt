@@ -1,13 +1,12 @@
-use Rattle.std.proofs.Common.{◌≡◌, ◌+◌, ◌||◌, length}
+use Rattle.std.proofs.Common.{◌≡◌, ◌+◌, ◌||◌}
 use Rattle.std.specs.List.{count_by, list_any}
+use Rattle.std.specs.Slice.Iter.{chunks_rest, chunks_size}
 use Rattle.py_lines.specs.Character.{is_line_feed, is_return}
 use Rattle.py_lines.proofs.line_ends.line_feeds.Given as goal
 
-abbrev pub invariant-loop-rest : goal.invariant-loop-rest
-invariant-loop-rest l = record {
-  feeds : l.feeds + count_by is_line_feed l.rest ≡ count_by is_line_feed l.bytes;
-  returned : (l.returned || list_any is_return l.rest) ≡ list_any is_return l.bytes;
+abbrev pub invariant-loop-block : goal.invariant-loop-block
+invariant-loop-block l = record {
+  size : chunks_size l.block-iterator ≡ 128;
+  feeds : l.feeds + count_by is_line_feed (chunks_rest l.block-iterator) ≡ count_by is_line_feed l.bytes;
+  returned : (l.returned || list_any is_return (chunks_rest l.block-iterator)) ≡ list_any is_return l.bytes;
 }
-
-abbrev pub decreases-loop-rest : goal.decreases-loop-rest
-decreases-loop-rest l = length l.rest

@@ -1,18 +1,28 @@
-use Rattle.std.proofs.Common.{sym, ◌∙◌, subst}
-use Rattle.py_lines.specs.Private.LineTokens.{IsTakenFor}
-use Rattle.py_lines.proofs.LineTokens.FirstPieces.{is_string, is_word, word_taken}
+use Rattle.std.proofs.Common.{◌≡◌, refl, sym, arith}
+use Rattle.py_lines.specs.Piece.{Piece, string}
+use Rattle.py_lines.specs.Private.LineTokens.{BeginWithPiece}
+use Rattle.py_lines.proofs.LineTokens.FirstPieces.{is_string, is_word, taken, word_taken}
 use Rattle.py_lines.proofs.line_tokens.word_or_string.Goals as goal
+use Rattle.py_lines.proofs.line_tokens.word_or_string.Goals.{Then-is_prefix}
 
-pub string-requires-clause-string : goal.string-requires-clause-string
-string-requires-clause-string c =
-    let (p, b) = c.requires.piece in
-    (p, is_string b c.len_in-len.result c.requires.word c.len_in-len.ensures (sym c.ends_prefix.ensures ∙ c.if-ends_prefix.true), b)
+-- a prefix, and its quote
+string_here : (c : Then-is_prefix) (p : Piece) → BeginWithPiece c.args.bytes.now p → p.class ≡ string
+string_here c p b = is_string b c.len_in-len.result c.requires.word c.len_in-len.ensures (search (arith))
 
-pub returns-then-ends_prefix : goal.returns-then-ends_prefix
-returns-then-ends_prefix c = λ p b.
-    c.string.ensures p (is_string b c.len_in-len.result c.requires.word c.len_in-len.ensures (sym c.ends_prefix.ensures ∙ c.if-ends_prefix.true)) b
+pub string_len-whole-requires-clause-string : goal.string_len-whole-requires-clause-string
+string_len-whole-requires-clause-string c =
+    let (p, b) = c.requires.piece in (p, string_here (goal.at.string_len-whole-requires-clause-string c).Then-is_prefix p b, b)
 
-pub returns-else-ends_prefix : goal.returns-else-ends_prefix
-returns-else-ends_prefix c = λ p b.
-    let is = is_word b c.len_in-len.result c.requires.word c.len_in-len.ensures (sym c.ends_prefix.ensures ∙ c.if-ends_prefix.false) in
-    subst (IsTakenFor p) (sym c.token.ensures) (word_taken b c.len_in-len.result c.word_kind.result is c.len_in-len.ensures c.word_kind.ensures)
+pub returns-then-is_prefix : goal.returns-then-is_prefix
+returns-then-is_prefix c = λ p b.
+    let is = string_here (goal.at.returns-then-is_prefix c).Then-is_prefix p b in taken b string is refl (c.string_len-whole.ensures p is b)
+
+pub returns-then-is_ascii_digit : goal.returns-then-is_ascii_digit
+returns-then-is_ascii_digit c = λ p b.
+    let is = is_word b c.len_in-len.result c.requires.word c.len_in-len.ensures (λ told. grind (arith, told.1, told.2)) in
+    word_taken b c.len_in-len.result _ is c.len_in-len.ensures (rw (sym c.is_ascii_digit.ensures.value, c.if-is_ascii_digit.true) refl)
+
+pub returns-else-is_ascii_digit : goal.returns-else-is_ascii_digit
+returns-else-is_ascii_digit c = λ p b.
+    let is = is_word b c.len_in-len.result c.requires.word c.len_in-len.ensures (λ told. grind (arith, told.1, told.2)) in
+    word_taken b c.len_in-len.result _ is c.len_in-len.ensures (rw (sym c.is_ascii_digit.ensures.value, c.if-is_ascii_digit.false) refl)

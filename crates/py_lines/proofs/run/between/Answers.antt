@@ -1,6 +1,7 @@
-use Rattle.std.proofs.Common.{leb}
-use Rattle.py_lines.proofs.Text.Lanes.{marked_left, marked_right, both_marked}
+use Rattle.std.proofs.Common.{leb, cond}
+use Rattle.std.proofs.lemmas.Simd.{zip2_splat_left}
+use Rattle.py_lines.proofs.Text.Lanes.{both, compared, gives}
 use Rattle.py_lines.proofs.run.between.Goals as goal
 
 pub returns : goal.returns
-returns c = both_marked (leb c.args.low) (λ x. leb x c.args.high) c.args.lanes _ _ (marked_left leb c.args.lanes 16 c.args.low c.fits-lanes.0) (marked_right leb c.args.lanes 16 c.args.high c.fits-lanes.0)
+returns c = gives _ _ (both _ _ _ (zip2_splat_left (λ a b. cond (leb a b) 255 0) c.args.low 16 c.args.lanes c.fits-lanes.0) (compared leb c.args.lanes c.args.high c.fits-lanes.0))

@@ -1,14 +1,10 @@
-use Rattle.std.proofs.Common.{subst}
-use Rattle.py_lines.specs.Private.Scan.{HasQuote}
-use Rattle.py_lines.proofs.LineScan.AsciiRuns.{quote_fits}
-use Rattle.py_lines.proofs.LineScan.Spans.{space_spans}
+use Rattle.std.proofs.Common.{rules}
+use Rattle.py_lines.proofs.LineScan.AsciiRuns.{space_low, word_byte_low}
+use Rattle.py_lines.proofs.LineScan.Spans.{low_spans}
 use Rattle.py_lines.proofs.run.characters_in.Goals as goal
 
-pub overflow_cast-quote : goal.overflow_cast-quote
-overflow_cast-quote c = quote_fits c.in-Short.quote (subst HasQuote c.in-Short.is c.requires.quote)
-
-pub overflow_cast-quote-in-Long : goal.overflow_cast-quote-in-Long
-overflow_cast-quote-in-Long c = quote_fits c.in-Long.quote (subst HasQuote c.in-Long.is c.requires.quote)
-
 pub returns-in-Space : goal.returns-in-Space
-returns-in-Space c = rw c.in-Space.is (space_spans c.args.bytes.now c.len_in.result c.len_in.ensures)
+returns-in-Space c = search (rules, low_spans _ c.args.bytes.now _ c.len_in.ensures space_low)
+
+pub returns-in-Word-Name : goal.returns-in-Word-Name
+returns-in-Word-Name c = search (rules, low_spans _ c.args.bytes.now _ c.len_in-in-Word-Name.ensures word_byte_low)

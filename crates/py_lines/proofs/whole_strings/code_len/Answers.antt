@@ -1,13 +1,14 @@
-use Rattle.std.proofs.Common.{[], sym, ◌∙◌}
-use Rattle.py_lines.proofs.FieldScans.TextLengths.{code_on}
+use Rattle.std.proofs.Common.{arith, ◌∙◌}
+use Rattle.py_lines.specs.Private.FieldText.{is_code_bracket}
+use Rattle.py_lines.proofs.FieldScans.TextLengths.{code_begun, code_on}
 use Rattle.py_lines.proofs.whole_strings.code_len.Goals as goal
 
 pub loop-len-init : goal.loop-len-init
-loop-len-init c = record { within = c.simple_code_len-len.ensures.within; leads = c.simple_code_len-len.ensures.leads [] }
+loop-len-init c = search (arith, code_begun)
 
 pub loop-len-preserved : goal.loop-len-preserved
-loop-len-preserved c =
-    let so_far = c.loop-len.invariant in
-    let on = code_on c.args.bytes.now c.loop-len.len c.in_ok-inside.inside c.simple_code_len-len-in-loop-len.result (so_far.within, so_far.leads) c.loop-len-test.true
-    (sym c.is_code_bracket.ensures ∙ c.if-is_code_bracket.true) c.in_ok-inside.ensures c.simple_code_len-len-in-loop-len.ensures in
-    record { within = on.0; leads = on.1 }
+unfolding is_code_bracket
+loop-len-preserved c = record {
+  code = code_on _ _ _ _ c.loop-len.invariant.code c.loop-len-test.true (grind arith) c.simple_code_len.ensures (omega arith)
+      (c.if-bytes-end.false ∙ c.closing_of.ensures) c.simple_code_len-in-loop-len.ensures;
+}

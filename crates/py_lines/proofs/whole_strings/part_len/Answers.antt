@@ -1,22 +1,23 @@
-use Rattle.std.proofs.Common.{refl, sym, ◌∙◌, arith}
-use Rattle.py_lines.specs.Private.FieldText.{InText}
-use Rattle.py_lines.proofs.FieldScans.TextLengths.{by_byte, by_two, field_part}
-use Rattle.py_lines.proofs.FieldScans.Texts.{brace_leads, escape_leads, two_lead}
-use Rattle.py_lines.proofs.Text.FirstCharacters.{some_bytes}
+use Rattle.std.proofs.Common.{arith, refl}
+use Rattle.std.proofs.lemmas.Bool.Decides.{nat_tests}
+use Rattle.py_lines.specs.Character.{is_brace, is_break}
+use Rattle.py_lines.proofs.FieldScans.TextLengths.{brace_part, field_part, two_part}
+use Rattle.py_lines.proofs.FieldScans.Texts.{escape_leads, two_lead}
 use Rattle.py_lines.proofs.whole_strings.part_len.Goals as goal
 
 pub returns-in-125 : goal.returns-in-125
-returns-in-125 c =
-    (omega arith, by_byte c.args.quote 125 InText InText c.args.bytes.now (some_bytes c.args.bytes.now (sym c.if-is_empty.ensures)) c.in-125.is (brace_leads c.args.quote))
+returns-in-125 c = (omega arith, brace_part _ _ (omega arith) (omega arith))
 
-pub returns-in-92 : goal.returns-in-92
-returns-in-92 c =
-    (omega arith, by_two c.args.quote 92 _ InText InText c.args.bytes.now c.if-bytes-gt1.true c.in-92.is refl (escape_leads c.args.quote _ (sym c.is_escaped.ensures ∙ c.if-is_escaped.true)))
+pub returns-in-125-2 : goal.returns-in-125-2
+returns-in-125-2 c = (omega arith, brace_part _ _ (omega arith) (omega arith))
 
-pub returns-in-123 : goal.returns-in-123
-returns-in-123 c =
-    (omega arith, by_two c.args.quote 123 123 InText InText c.args.bytes.now c.if-bytes-gt1-2.true c.in-123.is c.if-bytes-eq123.true (two_lead c.args.quote))
+pub returns-in-92-2 : goal.returns-in-92-2
+unfolding is_break is_brace
+returns-in-92-2 c =
+    (omega arith, two_part c.args.quote 92 _ _ (omega arith) (omega arith) refl (escape_leads c.args.quote _ (grind (arith, nat_tests))))
 
-pub returns-in_ok-field-in-123-2 : goal.returns-in_ok-field-in-123-2
-returns-in_ok-field-in-123-2 c =
-    (omega arith, field_part c.args.quote c.args.bytes.now c.in_ok-field-in-123-2.field (some_bytes c.args.bytes.now (sym c.if-is_empty.ensures)) c.in-123.is c.in_ok-field-in-123-2.ensures)
+pub returns-in-92-2-2 : goal.returns-in-92-2-2
+returns-in-92-2-2 c = (omega arith, two_part c.args.quote 123 123 c.args.bytes.now (omega arith) (omega arith) (omega arith) (two_lead c.args.quote))
+
+pub returns-in_ok-field_len-in-123 : goal.returns-in_ok-field_len-in-123
+returns-in_ok-field_len-in-123 c = (omega arith, field_part _ _ _ (grind arith) (grind arith) c.in_ok-field_len-in-123.ensures)

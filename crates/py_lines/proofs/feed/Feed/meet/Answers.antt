@@ -1,22 +1,78 @@
-use Rattle.std.proofs.Common.{refl, subst}
-use Rattle.py_lines.specs.Private.Feed.{StopsHeld, Stop}
-use Rattle.py_lines.proofs.Feeds.OpenLine.{within_held, held_refused}
+use Rattle.std.proofs.Common.{◌≡◌, ℕ, ◌+◌, ◌-◌, ◌==◌, Ok, sym, ap, ◌∙◌, subst, arith, is_some}
+use Rattle.std.proofs.lemmas.Grind.{get_or_default_zero}
+use Rattle.py_lines.specs.Private.Feed.{Feed, Meets, Stop, StopsHeld}
+use Rattle.std.specs.Vec.{vec_len}
+use Rattle.py_lines.specs.LogicalLine.{byte_len}
+use Rattle.py_lines.specs.Settled.{IsHopeless}
+use Rattle.py_lines.proofs.Readers.LineAnswers.{all_within}
 use Rattle.py_lines.proofs.Readers.LineFaults.{refused_within}
+use Rattle.py_lines.proofs.Text.Incomplete.{tells_hopeless, tells_ok, tells_part}
+use Rattle.py_lines.proofs.Feeds.GivenBack.{returns_is, stays_line, stays_open, stop_some, stop_within}
+use Rattle.py_lines.proofs.Feeds.LastBytes.{one_most}
+use Rattle.py_lines.proofs.Feeds.OpenLine.{held_refused, hopeless_held, open_within, part_fails, part_held, within_held}
+use Rattle.py_lines.proofs.feed.Feed.meet.Goals.{After-valid_up_to, In-LineEnd, In-TextEnd, In-Wrong, in_default-via-in-Err+else-is_some, in_default-via-in_default}
 use Rattle.py_lines.proofs.feed.Feed.meet.Goals as goal
-use Rattle.py_lines.proofs.feed.Feed.meet.Goals.{In-Wrong}
 
--- what the scan of the characters came to
+-- where the scan has stopped
+line_ended : (c : In-LineEnd) → StopsHeld c.args.self.now (Stop.LineEnd c.in-LineEnd.len)
+line_ended c = rw c.in-LineEnd.is at c.requires.stops
+
+left : (c : In-TextEnd) → StopsHeld c.args.self.now Stop.TextEnd
+left c = rw c.in-TextEnd.is at c.requires.stops
+
 refused : (c : In-Wrong) → StopsHeld c.args.self.now (Stop.Wrong c.in-Wrong.line_fault)
-refused c = subst (StopsHeld c.args.self.now) c.in-Wrong.is c.requires.stops
+refused c = rw c.in-Wrong.is at c.requires.stops
+
+pub overflow_sub-scanned : goal.overflow_sub-scanned
+overflow_sub-scanned c = stop_some (line_ended (goal.at.overflow_sub-scanned c).In-LineEnd)
+
+pub index-requires : goal.index-requires
+index-requires c = let s = line_ended (goal.at.index-requires c).In-LineEnd in omega (arith, stop_some s, stop_within s)
+
+pub overflow_add-end : goal.overflow_add-end
+overflow_add-end c = let s = line_ended (goal.at.overflow_add-end c).In-LineEnd in omega (arith, stop_within s, c.requires.room.fits, one_most (c.index.result.now == 13))
 
 pub returns-in-LineEnd : goal.returns-in-LineEnd
-returns-in-LineEnd c = (record { held = refl; place = refl; line = refl; ended = refl; fault = refl }, subst (StopsHeld c.args.self.now) c.in-LineEnd.is c.requires.stops)
+returns-in-LineEnd c =
+    let f = c.args.self.now in let s = line_ended (goal.at.returns-in-LineEnd c).In-LineEnd in
+    let last = c.index.ensures ∙ get_or_default_zero f.held.items (f.state.scan.stop - 1) c.index.result.now (omega (arith, stop_some s, stop_within s)) in
+    stays_line f c.args.before c.requires.within s (c.index.result.now == 13) (ap (λ (b : ℕ). b == 13) last ∙ returns_is s) c.truncate.new.self c.max.result _ (omega (arith, c.len.ensures)) c.truncate.ensures.items c.max.ensures
+
+pub slice_bounds-from_utf8-count : goal.slice_bounds-from_utf8-count
+slice_bounds-from_utf8-count c = let l = (left (goal.at.slice_bounds-from_utf8-count c).In-TextEnd).stops in open_within c.args.self.now l.left l.reached _ c.deref.ensures.value
+
+pub slice_bounds-from_utf8-start : goal.slice_bounds-from_utf8-start
+slice_bounds-from_utf8-start c = let l = (left (goal.at.slice_bounds-from_utf8-start c).In-TextEnd).stops in omega (arith, open_within c.args.self.now l.left l.reached _ c.deref.ensures.value)
+
+-- bytes that nothing completes are left
+hopeless : (c : After-valid_up_to) → (s : StopsHeld c.args.self.now Stop.TextEnd) × ((c.args.self.now.state.scan.stop + c.valid_up_to.result ≡ byte_len s.read) × IsHopeless s.rest)
+hopeless c =
+    let s : StopsHeld c.args.self.now Stop.TextEnd = rw c.in-TextEnd.is at c.requires.stops in (
+      s,
+      hopeless_held c.args.self.now s _ c.deref.ensures.value c.valid_up_to.result (rw (← c.valid_up_to.ensures) at (tells_hopeless _ _ _ c.in-Err.ensures.cases.1 c.in-Err.ensures.fault
+          (ap is_some (sym c.error_len.ensures) ∙ sym c.is_some.ensures ∙ c.if-is_some.true))),
+    )
 
 pub fail-requires-clause-cut : goal.fail-requires-clause-cut
-fail-requires-clause-cut c =
-    let f = c.args.self.now in let s = refused (goal.at.fail-requires-clause-cut c).In-Wrong in
-    let no = s.stops in let line_fault = c.in-Wrong.line_fault in
-    (within_held f s.read s.rest s.spell s.scalars line_fault.place (refused_within f.state.place s.read no.way no.c no.none line_fault no.fault)).0
+fail-requires-clause-cut c = let (s, (at, never)) = hopeless c in (within_held c.args.self.now s.read s.rest s.spell _ (all_within s.read _ at)).0
+
+pub fail-requires-in-Wrong-clause-cut : goal.fail-requires-in-Wrong-clause-cut
+fail-requires-in-Wrong-clause-cut c =
+    let f = c.args.self.now in let s = refused (goal.at.fail-requires-in-Wrong-clause-cut c).In-Wrong in let no = s.stops in
+    (within_held f s.read s.rest s.spell _ (refused_within f.state.place s.read no.way no.c no.none _ no.fault)).0
+
+pub returns-in-Err : goal.returns-in-Err
+returns-in-Err c = let (s, (at, never)) = hopeless (goal.at.returns-in-Err c).After-valid_up_to in part_fails c.args.self.now c.fail.new.self c.args.before c.fail.result c.requires.not_ready _ s at never c.fail.ensures
+
+pub returns-in_default : goal.returns-in_default
+returns-in_default c =
+    let f = c.args.self.now in let s = left (goal.at.returns-in_default c).In-TextEnd in
+    let (same, more) : (c.in_default.self ≡ f) × ¬ (IsHopeless s.rest) = elim c.in_default.branch [
+      | in_default-via-in-Err+else-is_some w ↦ (w.self-is, part_held f s _ c.deref.ensures.value (tells_part _ _ _ w.in-Err.ensures.cases.1 w.in-Err.ensures.fault (ap is_some (sym w.error_len.ensures) ∙ sym w.is_some.ensures ∙ w.if-is_some.false)))
+      | in_default-via-in_default w ↦ (w.self-is, part_held f s _ c.deref.ensures.value (tells_ok _ (rw w.in_default.is at c.from_utf8.ensures.cases).1))
+    ] in
+    subst (Meets f c.args.before (Ok (c.len-in_default.result - c.args.before))) (sym same)
+    (stays_open f c.args.before c.requires.within _ (omega (arith, c.len-in_default.ensures, ap (λ (x : Feed). vec_len x.held) same)) c.requires.not_ready (s, more))
 
 pub returns-in-Wrong : goal.returns-in-Wrong
-returns-in-Wrong c = held_refused c.args.self.now c.fail.new.self c.fail.result c.requires.not_ready c.in-Wrong.line_fault (refused (goal.at.returns-in-Wrong c).In-Wrong) c.fail.ensures
+returns-in-Wrong c = held_refused c.args.self.now c.fail-in-Wrong.new.self c.args.before c.fail-in-Wrong.result c.requires.not_ready _ (refused (goal.at.returns-in-Wrong c).In-Wrong) c.fail-in-Wrong.ensures

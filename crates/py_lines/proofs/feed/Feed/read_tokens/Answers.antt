@@ -25,4 +25,4 @@ returns-in-Ok c =
     let f = c.args.self.now in let at = line_stands f f.ready c.requires.holds.1 (c.is_none.ensures ∙ ap not c.if-is_none.false) in
     let tokens = subst (λ (l : List ℕ). HoldsTokens (take f.state.scan.stop l) f.state.line c.read_tokens.new.self.tokens) c.deref.ensures.value c.in-Ok.ensures.tokens in
     let after = subst (λ (l : List ℕ). IsLineAfter f.state.line (take f.state.scan.stop l) c.in-Ok.line) c.deref.ensures.value c.in-Ok.ensures.after in
-    subst (λ (s : LineState). HasReadTokens f (record f { state = s; next_line = c.in-Ok.line })) (sym c.read_tokens.ensures.same) (some_read f c.read_tokens.new.self c.in-Ok.line tokens after c.requires.room at.1 at.2)
+    subst (λ (s : LineState). HasReadTokens f (record f { state = s; next_line = c.in-Ok.line })) (sym c.read_tokens.ensures.same) (some_read f c.read_tokens.new.self c.in-Ok.line tokens after c.requires.no_fault c.requires.room at.1 at.2)

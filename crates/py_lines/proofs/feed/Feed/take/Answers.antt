@@ -1,58 +1,68 @@
-use Rattle.std.proofs.Common.{◌≤◌, Ok, length, take, ap, subst, length-append, arith, length-take-le}
-use Rattle.std.proofs.lemmas.Result.{err_from_is_err_and}
-use Rattle.py_lines.specs.Private.Feed.{StandsSo}
-use Rattle.py_lines.proofs.Feeds.OpenLine.{room_more, runs_out, scans_on}
-use Rattle.py_lines.proofs.Feeds.FedScanner.{back_kept, fails, taken_back}
+use Rattle.std.proofs.Common.{◌++◌, refl, sym, ◌∙◌, subst, length-append, arith}
+use Rattle.py_lines.specs.Private.LineState.{first_mode}
+use Rattle.py_lines.specs.Private.LineScan.{Reached, ScansIn}
+use Rattle.py_lines.specs.Private.Feed.{Stop}
+use Rattle.py_lines.proofs.LineScan.TextSteps.{begun_sound}
+use Rattle.py_lines.proofs.Feeds.GivenBack.{HoldsStop, holds_bytes, holds_line_end, stop_within, takes_met}
+use Rattle.py_lines.proofs.Feeds.OpenLine.{begun_unchanged, open_stop, open_size, reached_held, reached_next}
+use Rattle.py_lines.proofs.feed.Feed.take.Goals.{Else-scanned-before, Joined-stop, in-LineEnd, in_default}
 use Rattle.py_lines.proofs.feed.Feed.take.Goals as goal
 
-pub hold-requires : goal.hold-requires
-hold-requires c =
-    let sound = c.requires.sound in
-    record {
-      opens = subst (StandsSo c.args.self.now) c.requires.not_ready sound.state c.requires.no_fault;
-      not_ready = c.requires.not_ready;
-      room = record { fits = omega (arith, c.requires.fits); few_lines = sound.room.few_lines };
-    }
+-- an item is held that the bytes don't tell: one byte more is held, and the scan stands before the item
+pub extend-stop-requires-clause-way : goal.extend-stop-requires-clause-way
+extend-stop-requires-clause-way c =
+    let f = c.args.self.now in
+    (first_mode f.state.place, _, begun_sound f.state.place, reached_held f c.extend_from_slice.new.self _ c.in_ok-extend_from_slice.ensures.items c.requires.opens _ c.deref.ensures.value)
 
-pub returns-in_err-stop : goal.returns-in_err-stop
-returns-in_err-stop c =
-    let p = err_from_is_err_and c.from_residual.result c.from_residual.ensures.1 in
-    rw (p.1, p.2) (runs_out c.requires.sound c.requires.no_fault c.requires.not_ready c.in_err-stop.ensures)
+pub meet-requires-clause-stops : goal.meet-requires-clause-stops
+meet-requires-clause-stops c =
+    let f = c.args.self.now in
+    c.extend-stop.ensures.stops (first_mode f.state.place) _ (begun_sound f.state.place) (reached_held f c.extend_from_slice.new.self _ c.in_ok-extend_from_slice.ensures.items c.requires.opens _ c.deref.ensures.value)
 
-pub meet-requires : goal.meet-requires
-meet-requires c =
-    let (n, within, some, held) = c.in_ok-stop.ensures in let bytes = take n c.args.piece.now in
-    record {
-      stops = held.stops;
-      not_ready = held.not_ready;
-      room = room_more c.args.self.now c.hold.new.self bytes c.requires.sound (omega (arith, c.requires.fits, length-take-le n c.args.piece.now within, within)) held.text;
-    }
+pub returns-then-scanned-before : goal.returns-then-scanned-before
+returns-then-scanned-before c =
+    takes_met c.args.self.now _ c.meet.new.self c.args.piece.now c.min.result c.len-before.result
+    (record { held = c.in_ok-extend_from_slice.ensures.items; place = refl; line = refl; ended = refl; fault = refl }) (omega (arith, c.min.ensures)) (λ none. omega (arith, c.min.ensures, none)) (omega (arith, c.len-before.ensures))
+    c.meet.result c.meet.ensures
 
-pub returns-in_err-meet : goal.returns-in_err-meet
-returns-in_err-meet c =
-    let p = err_from_is_err_and c.from_residual-in_err-meet.result c.from_residual-in_err-meet.ensures.1 in
-    let (n, within, some, held) = c.in_ok-stop.ensures in
-    rw (p.1, p.2) (fails c.args.self.now c.requires.sound c.requires.no_fault c.requires.not_ready c.args.piece.now c.requires.fits n within c.hold.new.self c.meet.new.self _ held c.in_err-meet.ensures)
+-- all that is held was scanned: the scan stands before the piece
+reached : (c : Else-scanned-before) → Reached (first_mode c.args.self.now.state.place) (c.args.self.now.held.items ++ c.args.piece.now) c.args.self.now.state.scan c.args.piece.now
+reached c = reached_next c.args.self.now c.args.piece.now c.requires.opens (omega (arith, c.if-scanned-before.false, c.len-before.ensures))
 
-pub give_back-requires : goal.give_back-requires
-give_back-requires c =
-    let (n, within, some, held) = c.in_ok-stop.ensures in let (text, scanned) = c.in_ok-meet.ensures in
-    let size = length-append c.args.self.now.held.items (take n c.args.piece.now) in
-    record {
-      scanned = scanned;
-      within = omega (arith, c.len-before.ensures, ap length text.held, ap length held.text.held, size);
-      fits = omega (arith, c.requires.fits, ap length text.held, ap length held.text.held, size, length-take-le n c.args.piece.now within, within);
-    }
+pub extend-stop-requires-2-clause-way : goal.extend-stop-requires-2-clause-way
+extend-stop-requires-2-clause-way c = let f = c.args.self.now in (first_mode f.state.place, f.held.items ++ c.args.piece.now, begun_sound f.state.place, reached (goal.at.extend-stop-requires-2-clause-way c).Else-scanned-before)
 
-pub overflow_sub-result : goal.overflow_sub-result
-overflow_sub-result c =
-    let (n, within, some, held) = c.in_ok-stop.ensures in let size = length-append c.args.self.now.held.items (take n c.args.piece.now) in
-    let before : c.len-before.result ≤ length c.meet.new.self.held.items = omega (arith, c.len-before.ensures, ap length c.in_ok-meet.ensures.0.held, ap length held.text.held, size) in
-    omega (arith, c.len.ensures, back_kept before c.give_back.ensures)
+pub extend-stop-requires-2-clause-bytes : goal.extend-stop-requires-2-clause-bytes
+extend-stop-requires-2-clause-bytes c = let f = c.args.self.now in let (rest, o) = c.requires.opens in omega (arith, open_stop f rest o, open_size f rest o, c.requires.room.fits)
+
+pub overflow_add-self : goal.overflow_add-self
+overflow_add-self c =
+    let f = c.args.self.now in let s = c.in-LineEnd.ensures.stops (first_mode f.state.place) (f.held.items ++ c.args.piece.now) (begun_sound f.state.place) (reached (goal.at.overflow_add-self c).Else-scanned-before) in
+    omega (arith, stop_within s, length-append f.held.items c.args.piece.now, c.requires.room.fits)
+
+-- what is held then
+held_stop : (c : Joined-stop) → HoldsStop (first_mode c.args.self.now.state.place) c.args.self.now.held.items c.args.piece.now c.extend-stop-2.new.self c.extend-stop-2.result c.match-stop.len
+held_stop c =
+    let f = c.args.self.now in let m = first_mode f.state.place in let piece = c.args.piece.now in
+    let s = c.extend-stop-2.ensures.stops m (f.held.items ++ piece) (begun_sound f.state.place) (reached_next f piece c.requires.opens (omega (arith, c.if-scanned-before.false, c.len-before.ensures))) in
+    elim c.match-stop.branch [
+      | in-LineEnd w ↦ subst (λ (t : Stop). HoldsStop m f.held.items piece c.extend-stop-2.new.self t c.match-stop.len) (sym w.in-LineEnd.is)
+          (holds_line_end f.held.items piece c.match-stop.len (w.len-is ∙ w.min-len.ensures) (subst (ScansIn m (f.held.items ++ piece) c.extend-stop-2.new.self) w.in-LineEnd.is s))
+      | in_default w ↦ subst (HoldsStop m f.held.items piece c.extend-stop-2.new.self c.extend-stop-2.result) (sym w.len-is) (holds_bytes f.held.items piece s)
+    ]
+
+pub meet-requires-2-clause-stops : goal.meet-requires-2-clause-stops
+meet-requires-2-clause-stops c =
+    subst (λ t. ScansIn (first_mode c.args.self.now.state.place) t c.extend-stop-2.new.self c.extend-stop-2.result) (sym c.in_default-extend_from_slice.ensures.items) (held_stop (goal.at.meet-requires-2-clause-stops c).Joined-stop).stops
 
 pub returns : goal.returns
 returns c =
-    let (n, within, some, held) = c.in_ok-stop.ensures in
-    let holds = (scans_on c.args.self.now c.hold.new.self c.meet.new.self (Ok tt) held c.in_ok-meet.ensures).0 in
-    taken_back c.args.self.now c.meet.new.self c.give_back.new.self c.requires.sound c.requires.no_fault c.requires.not_ready c.args.piece.now c.requires.fits n _ c.len-before.result within some holds
-    (omega (arith, c.len-before.ensures)) (omega (arith, c.len.ensures)) c.give_back.ensures
+    let h = held_stop (goal.at.returns c).Joined-stop in
+    takes_met c.args.self.now _ c.meet-2.new.self c.args.piece.now c.match-stop.len c.len-before.result
+    (record { held = c.in_default-extend_from_slice.ensures.items; place = refl; line = refl; ended = refl; fault = refl }) h.within h.some (omega (arith, c.len-before.ensures)) c.meet-2.result c.meet-2.ensures
+
+pub returns-in-Err : goal.returns-in-Err
+returns-in-Err c =
+    let f = c.args.self.now in
+    rw c.into.ensures (begun_unchanged f (record f { held = c.extend_from_slice-2.new.self; state = c.restart.new.self }) (record f.state { scan = c.extend-stop-2.new.self }) c.requires.not_ready
+    (record { held = c.in-Err.ensures.items; place = refl; line = refl; ended = refl; fault = refl }) c.restart.ensures)

@@ -1,9 +1,9 @@
 use Rattle.std.proofs.Common.{◌-◌, length}
-use Rattle.py_lines.specs.Private.Feed.{TakesLine}
+use Rattle.py_lines.proofs.Feeds.FedScanner.{TakesSoFar}
 use Rattle.py_lines.proofs.feed.Feed.take_bytes.Given as goal
 
 abbrev pub invariant-loop-taken : goal.invariant-loop-taken
-invariant-loop-taken l = TakesLine l.fn.self l.piece l.taken l.self
+invariant-loop-taken l = TakesSoFar l.fn.self l.piece l.taken l.self
 
 abbrev pub decreases-loop-taken : goal.decreases-loop-taken
 decreases-loop-taken l = length l.piece - l.taken

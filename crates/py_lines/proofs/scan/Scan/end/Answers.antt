@@ -1,46 +1,32 @@
-use Rattle.std.proofs.Common.{◌≡◌, ◌+◌, ◌==◌, ℕ, List, [], ◌∷◌, ◌++◌, true, false, inl, inr, drop, length, length-drop, not, slice_index, take-append-drop, refl, sym, ap, ◌∙◌, subst, append-nil, arith}
+use Rattle.std.proofs.Common.{◌≡◌, ◌+◌, ℕ, List, [], ◌++◌, true, false, inl, inr, drop, length, length-drop, take-append-drop, refl, sym, ap, ◌∙◌, subst, append-nil, arith}
 use Rattle.std.specs.Prelude.{encode_utf8_all}
 use Rattle.std.proofs.lemmas.Bool.{both_ways}
 use Rattle.std.proofs.lemmas.List.{drop_all, take_all}
 use Rattle.py_lines.specs.Private.FieldMachine.{FieldScanned}
 use Rattle.py_lines.specs.Private.Scan.{Follows, Goes, GoesOverAll, has_returned, is_pending}
-use Rattle.py_lines.proofs.FieldScans.Ends.{begins_there, ends_returned, no_members, pending_open, pending_run, whole_run}
-use Rattle.py_lines.proofs.FieldScans.Operators.{open-length}
+use Rattle.py_lines.proofs.FieldScans.Ends.{begins_there, ends_returned, no_members, not_returned, pending_run, whole_run}
 use Rattle.py_lines.proofs.FieldScans.TextItems.{low_encoded}
 use Rattle.py_lines.proofs.scan.Scan.end.Goals as goal
-use Rattle.py_lines.proofs.scan.Scan.end.Goals.{Else-characters-bytes, Joined-else-returned, then-not-is_empty, else-not-is_empty, else-returned-via-then-returned+then-not-is_text+else-is_empty, else-returned-via-then-returned+else-not-is_text, else-returned-via-else-returned}
+use Rattle.py_lines.proofs.scan.Scan.end.Goals.{Else-characters-bytes, Joined-else-starts_with, else-starts_with-via-then-starts_with+then-not-is_text+else-is_empty, else-starts_with-via-then-starts_with+else-not-is_text, else-starts_with-via-else-starts_with}
 
 pub returns-then-is_empty : goal.returns-then-is_empty
 returns-then-is_empty c = λ t follow all.
     inl (ends_returned c.args.self.now t c.args.bytes.now c.pass.new.self follow (sym c.is_text.ensures ∙ c.if-not-is_text.true)
-    (no_members c.args.self.now.frames (sym c.is_empty-then-not-is_text.ensures ∙ c.if-is_empty.true))
-    (elim c.if-not-is_empty.branch [
-      | then-not-is_empty w ↦ begins_there c.args.bytes.now (sym w.returned-is ∙ c.if-returned.true)
-      | else-not-is_empty w ↦ absurd (both_ways _ (w.returned-is ∙ ap not w.if-not-is_empty.false) c.if-returned.true)
-    ]) c.pass.ensures)
+    (no_members c.args.self.now.frames (sym c.is_empty.ensures ∙ c.if-is_empty.true)) (begins_there c.args.bytes.now (sym c.starts_with.ensures.value ∙ c.if-starts_with.true)) c.pass.ensures)
 
 -- the CR of a line end is not all that is left, outside brackets and fields
-no_return : (c : Joined-else-returned) (t : FieldScanned) → Follows c.args.self.now t → (all : GoesOverAll t c.args.bytes.now) → has_returned all.to ≡ false
-no_return c t follow all =
-    pending_open c.args.self.now t all.to all.run follow (pending_run c.args.self.now.mode c.args.bytes.now all.run all.rest follow.quote c.requires.pending all.scalars all.none all.spell).0 all.goes
-    (λ code none is.
-    let first : slice_index c.args.bytes.now 0 ≡ 13 = ap (λ (x : List ℕ). slice_index x 0) (sym (rw is at all.spell) ∙ ap (λ x. x ++ all.rest) (low_encoded (13 ∷ []) refl)) in
-    elim c.else-returned.branch [
-      | else-returned-via-then-returned+then-not-is_text+else-is_empty w ↦
-          both_ways _ (sym w.is_empty-then-not-is_text.ensures ∙ w.if-is_empty.false) (ap (λ n. n == 0) (open-length c.args.self.now t follow) ∙ none)
-      | else-returned-via-then-returned+else-not-is_text w ↦ both_ways _ code (sym w.is_text.ensures ∙ w.if-not-is_text.false)
-      | else-returned-via-else-returned w ↦
-          elim c.if-not-is_empty.branch [
-            | then-not-is_empty v ↦ both_ways _ (sym v.returned-is ∙ w.if-returned.false) (ap (λ n. n == 13) first)
-            | else-not-is_empty v ↦ absurd (omega (arith, first, ap (λ (x : List ℕ). slice_index x 0) (no_members c.args.bytes.now (sym c.is_empty.ensures ∙ v.if-not-is_empty.false))))
-          ]
-    ])
+no_return : (c : Joined-else-starts_with) (t : FieldScanned) → Follows c.args.self.now t → (all : GoesOverAll t c.args.bytes.now) → has_returned all.to ≡ false
+no_return c t follow all = not_returned c.args.self.now t c.args.bytes.now follow c.requires.pending all (λ code none returned. elim c.else-starts_with.branch [
+  | else-starts_with-via-then-starts_with+then-not-is_text+else-is_empty w ↦ both_ways _ (sym w.is_empty.ensures ∙ w.if-is_empty.false) none
+  | else-starts_with-via-then-starts_with+else-not-is_text w ↦ both_ways _ code (sym w.is_text.ensures ∙ w.if-not-is_text.false)
+  | else-starts_with-via-else-starts_with w ↦ both_ways _ (sym c.starts_with.ensures.value ∙ w.if-starts_with.false) returned
+])
 
 pub returns-then-characters-bytes : goal.returns-then-characters-bytes
 returns-then-characters-bytes c = λ t follow all.
     let w = whole_run c.args.bytes.now c.utf8_prefix-characters.result.now all.run all.rest c.utf8_prefix-characters.ensures.prefix c.utf8_prefix-characters.utf8 c.utf8_prefix-characters.ensures.bad all.scalars all.none all.spell in (
       refl,
-      no_return (goal.at.returns-then-characters-bytes c).Joined-else-returned t follow all,
+      no_return (goal.at.returns-then-characters-bytes c).Joined-else-starts_with t follow all,
       inl (omega (arith, ap length w.1, length-drop (length c.utf8_prefix-characters.result.now) c.args.bytes.now, c.if-characters-bytes.true), refl, ap (λ (x : ℕ). c.args.self.now.stop + x) (sym (ap length w.0))),
     )
 
@@ -75,7 +61,7 @@ goes_over c t follow all = let prefix = c.utf8_prefix-characters.result.now in
 pub returns-in-Some : goal.returns-in-Some
 returns-in-Some c = λ t follow all.
     let g = goes_over (goal.at.returns-in-Some c).Else-characters-bytes t follow all in
-    (refl, no_return (goal.at.returns-in-Some c).Joined-else-returned t follow all, inr (g.rest, c.in-Some.ensures t all.to follow g.goes))
+    (refl, no_return (goal.at.returns-in-Some c).Joined-else-starts_with t follow all, inr (g.rest, c.in-Some.ensures t all.to follow g.goes))
 
 pub returns : goal.returns
 returns c = λ t follow all.
@@ -84,6 +70,6 @@ returns c = λ t follow all.
       size = refl;
       whole = g.rest;
       none = c.in_default.ensures t all.to follow g.goes;
-      open_yet = no_return (goal.at.returns c).Joined-else-returned t follow all;
+      open_yet = no_return (goal.at.returns c).Joined-else-starts_with t follow all;
       stop = ap (λ (n : ℕ). record c.args.self.now { stop = c.args.self.now.stop + n }) g.length_is;
     })

@@ -1,73 +1,64 @@
-use Rattle.std.proofs.Common.{◌∙◌, ℕ, drop, refl, take, subst, sym, ap, arith}
+use Rattle.std.proofs.Common.{◌∙◌, ◌+◌, ◌≡◌, ap, arith, drop, refl, sym}
 use Rattle.py_lines.specs.Private.Mode as modes
-use Rattle.py_lines.specs.Private.Passing.{nothing_passed}
-use Rattle.py_lines.specs.Private.WholeLines.{BeginWithLines}
-use Rattle.py_lines.specs.declared.scan.Scan.{Scan}
-use Rattle.py_lines.proofs.LineScan.LineSteps.{begun_reached}
-use Rattle.py_lines.proofs.LineScan.WholeLines.{NextLine, next_line, no_lines}
-use Rattle.py_lines.proofs.PassedPieces.CountedEnds.{counts_kept, counts_on, ends_counted}
+use Rattle.py_lines.proofs.LineScan.WholeLines.{NextLine, PassesOn, items_end, no_line_passed, passes_end, passes_items, passes_line_end, passes_piece, reached_word, unpassed}
+use Rattle.py_lines.proofs.scan.Scan.pass_lines.Goals.{After-next-at-in-specials, In-Some-LineEnd, else-specials-test, in-LineEnd, in-Passed, in-Unpassed+in-None, in-Unpassed+in-Some-LineEnd, then-specials-test+in-Unpassed+in-Some}
 use Rattle.py_lines.proofs.scan.Scan.pass_lines.Goals as goal
-use Rattle.py_lines.proofs.scan.Scan.pass_lines.Goals.{In-LineEnd}
 
--- one line more
-next : (c : In-LineEnd) → NextLine c.args.bytes.now c.lines.passing.all c.take_line.new.passing.all
-next c =
-    let bytes = c.args.bytes.now in
-    let left = drop c.lines.passing.all bytes in
-    let line = c.in-LineEnd.ensures.stops in
-    next_line bytes c.lines.passing.all c.in-LineEnd.field-0 c.take_line.new.passing.all c.take_line.new.self
-    (subst (BeginWithLines bytes) (sym c.lines.invariant.passed) c.lines.invariant.lines)
-    (line.scans modes.Free left refl (begun_reached c.lines.invariant.begun refl left))
-    (omega (arith, line.marked.0, ap (λ (s : Scan). s.stop) c.lines.invariant.begun))
+-- a line that items end
+ended : (c : In-Some-LineEnd) → NextLine c.args.bytes.now c.specials.lines.len (c.specials.lines.len + c.take_items.new.self.stop)
+ended c =
+    let on = unpassed c.specials.invariant c.in-Unpassed.ensures.passes in
+    items_end on c.specials-test.true c.word_start.ensures c.pass-in-Unpassed.ensures c.in-Some-LineEnd.field-0-is c.in-Some-LineEnd.ensures
 
-pub lines-init : goal.lines-init
-lines-init c = rw c.new-passing.ensures.nothing (record {
-  begun = c.restart.ensures;
-  lines = no_lines c.args.bytes.now;
-  passed = refl;
-  marked = c.new-passing.ensures.marked;
-  counted = counts_kept c.args.bytes.now _ _ refl refl refl;
-  feeds = refl;
-  returned = refl;
-})
+-- what one more byte that isn't plain comes to
+came : (c : After-next-at-in-specials)
+    → PassesOn c.args.bytes.now c.specials.lines c.specials.passing c.match-pass.lines c.match-pass.self.frames c.match-pass.passing
+came c =
+    let at = c.specials.invariant in
+    let inside = c.specials-test.true in
+    elim c.match-pass.branch [
+      | in-Passed w ↦ rw (w.self-is, w.passing-is, w.lines-is) (passes_piece at inside c.pass.ensures.counts w.in-Passed.ensures.passes)
+      | in-LineEnd w ↦
+          rw (w.self-is, w.passing-is, w.lines-is) (passes_line_end at inside c.pass.ensures.counts w.in-LineEnd.ensures.passes)
+      | in-Unpassed+in-None w ↦
+          let on = unpassed at w.in-Unpassed.ensures.passes in
+          rw (w.self-is, w.passing-is, w.lines-is, sym w.in-Unpassed.ensures.passes.0)
+          (passes_items on inside w.word_start.ensures w.pass-in-Unpassed.ensures w.pass_to.ensures w.in-None.ensures)
+      | in-Unpassed+in-Some-LineEnd w ↦
+          let on = unpassed at w.in-Unpassed.ensures.passes in
+          rw (w.self-is, w.passing-is, w.lines-is, sym w.in-Unpassed.ensures.passes.0)
+          (passes_end on inside w.pass_to-in-Some-LineEnd.ensures
+          (items_end on inside w.word_start.ensures w.pass-in-Unpassed.ensures w.in-Some-LineEnd.field-0-is w.in-Some-LineEnd.ensures)
+          w.clear.ensures)
+    ]
 
-pub take_line-requires : goal.take_line-requires
-take_line-requires c =
-    let left = drop c.lines.passing.all c.args.bytes.now in
-    record {
-      marked = c.lines.invariant.marked;
-      way = (modes.Free, left, refl, begun_reached c.lines.invariant.begun refl left);
-      bytes = omega (arith, ap (λ (s : Scan). s.stop) c.lines.invariant.begun, c.well_formed);
-      few = c.lines.invariant.counted.few (omega arith);
-    }
+pub specials-init : goal.specials-init
+specials-init c = rw (c.restart.ensures, c.new-passing.ensures.nothing) (no_line_passed (c.next-at.ensures 0 c.new-passing.ensures.marked))
 
-pub lines-smaller : goal.lines-smaller
-lines-smaller c =
-    let to = next (goal.at.lines-smaller c).In-LineEnd in
-    omega (arith, to.further, to.lines.within)
+pub take_items-requires-clause-way : goal.take_items-requires-clause-way
+take_items-requires-clause-way c =
+    let on = unpassed c.specials.invariant c.in-Unpassed.ensures.passes in
+    let reached = reached_word on c.specials-test.true c.word_start.ensures c.pass-in-Unpassed.ensures in
+    (modes.Free, drop c.specials.lines.len c.args.bytes.now, refl, reached)
 
-pub lines-preserved : goal.lines-preserved
-lines-preserved c = record {
-  begun = c.restart-in-LineEnd.ensures;
-  lines = (next (goal.at.lines-preserved c).In-LineEnd).lines;
-  passed = refl;
-  marked = c.in-LineEnd.ensures.stops.marked.1;
-  counted = counts_on c.args.bytes.now (nothing_passed c.take_line.new.passing.marks) (nothing_passed c.lines.passing.marks) c.take_line.new.passing
-      (counts_kept c.args.bytes.now _ _ refl refl refl)
-      (counts_on c.args.bytes.now (nothing_passed c.lines.passing.marks) c.lines.passing c.take_line.new.passing c.lines.invariant.counted c.take_line.ensures.counts);
-  feeds = refl;
-  returned = refl;
-}
+pub overflow_add-lines-in-Some-LineEnd : goal.overflow_add-lines-in-Some-LineEnd
+overflow_add-lines-in-Some-LineEnd c =
+    omega (arith, (ended (goal.at.overflow_add-lines-in-Some-LineEnd c).In-Some-LineEnd).lines.within, c.well_formed)
 
-pub returns-then-returned-clause-lines : goal.returns-then-returned-clause-lines
-returns-then-returned-clause-lines c = c.lines.invariant.lines
+pub pass_to-requires-in-Some-LineEnd-clause-within : goal.pass_to-requires-in-Some-LineEnd-clause-within
+pass_to-requires-in-Some-LineEnd-clause-within c =
+    (ended (goal.at.pass_to-requires-in-Some-LineEnd-clause-within c).In-Some-LineEnd).lines.within
 
-pub returns-else-returned : goal.returns-else-returned
-returns-else-returned c =
-    let at = c.lines.invariant in
-    record {
-      lines = at.lines;
-      few = omega (arith, at.counted.few (omega arith), at.feeds, at.passed);
-      count = λ characters spell. sym at.feeds ∙ ends_counted c.args.bytes.now c.lines.passing at.counted (at.returned ∙ c.if-returned.false) characters
-          (spell ∙ ap (λ (n : ℕ). take n c.args.bytes.now) (sym at.passed));
-    }
+pub specials-smaller : goal.specials-smaller
+specials-smaller c = (came c).smaller
+
+pub specials-preserved : goal.specials-preserved
+specials-preserved c = (came c).on (c.next-at-in-specials.ensures c.match-pass.passing.all (came c).marked)
+
+pub returns-else-passing-clause-count : goal.returns-else-passing-clause-count
+returns-else-passing-clause-count c =
+    let same : c.specials-test.passing ≡ c.specials.passing = elim c.specials-test.branch [
+      | else-specials-test w ↦ w.passing-is
+      | then-specials-test+in-Unpassed+in-Some w ↦ w.passing-is ∙ w.in-Unpassed.ensures.passes.0
+    ] in
+    c.specials.invariant.count (sym (ap (λ p. p.returned) same) ∙ c.if-passing.false)

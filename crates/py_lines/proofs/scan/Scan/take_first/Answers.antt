@@ -4,7 +4,7 @@ use Rattle.py_lines.specs.Private.Scan.{GoesOver}
 use Rattle.py_lines.specs.declared.scan.Scan.{Scan}
 use Rattle.py_lines.proofs.LineTokens.FirstString.{InFirst, at_start, first_run, first_stands, item_over, passed_with, some_left, step_comes, step_on, stops_there, string_within}
 use Rattle.py_lines.proofs.scan.Scan.take_first.Goals as goal
-use Rattle.py_lines.proofs.scan.Scan.take_first.Goals.{Else-is_settled}
+use Rattle.py_lines.proofs.scan.Scan.take_first.Goals.{Else-is_in_code}
 
 pub items-init : goal.items-init
 items-init c = record { first = at_start c.args.bytes.now c.requires.start }
@@ -29,25 +29,25 @@ returns-in_default c p is begin =
     let comes = step_comes at (some_left at p is begin) c.step.result c.step.new.self c.step.ensures in
     ap (λ (s : Scan). s.stop) c.pass.ensures ∙ stops_there at p is begin c.step.result c.step.new.self comes c.in_default.not-Going
 
-pub returns-then-is_settled : goal.returns-then-is_settled
-returns-then-is_settled c p is begin =
+pub returns-then-is_in_code : goal.returns-then-is_in_code
+returns-then-is_in_code c p is begin =
     let at = c.items.invariant.first in
     let over = item_over at (some_left at p is begin) c.step.result c.in-Going.len c.step.new.self c.step.ensures c.in-Going.is in
-    passed_with at over p is begin (sym c.is_settled.ensures ∙ c.if-is_settled.true)
+    passed_with at over p is begin (sym c.is_in_code.ensures ∙ c.if-is_in_code.true)
 
 -- the item that was taken, after which the string goes on
-over : (c : Else-is_settled) → GoesOver c.items.invariant.first.reached.way.field c.items.rest.now c.in-Going.len c.step.new.self
+over : (c : Else-is_in_code) → GoesOver c.items.invariant.first.reached.way.field c.items.rest.now c.in-Going.len c.step.new.self
 over c =
     let (p, is, begin) = c.requires.string in
     let at = c.items.invariant.first in
     item_over at (some_left at p is begin) c.step.result c.in-Going.len c.step.new.self c.step.ensures c.in-Going.is
 
-goes : (c : Else-is_settled) → InFirst c.args.bytes.now c.step.new.self (drop c.in-Going.len c.items.rest.now)
-goes c = step_on c.items.invariant.first (over c) (sym c.is_settled.ensures ∙ c.if-is_settled.false)
+goes : (c : Else-is_in_code) → InFirst c.args.bytes.now c.step.new.self (drop c.in-Going.len c.items.rest.now)
+goes c = step_on c.items.invariant.first (over c) (sym c.is_in_code.ensures ∙ c.if-is_in_code.false)
 
 pub hold-rest-requires-clause-bytes : goal.hold-rest-requires-clause-bytes
 hold-rest-requires-clause-bytes c =
-    let stands = first_stands (goes (goal.at.hold-rest-requires-clause-bytes c).Else-is_settled) in
+    let stands = first_stands (goes (goal.at.hold-rest-requires-clause-bytes c).Else-is_in_code) in
     omega (arith, c.requires.bytes, stands.room, ap length (take_rest c.items.rest.now c.in-Going.len))
 
 pub items-smaller : goal.items-smaller
@@ -62,11 +62,11 @@ items-smaller c =
       length-drop n (take (length rest - len) (drop len rest)),
       ap length (take_rest rest len),
       length-drop len rest,
-      (over (goal.at.items-smaller c).Else-is_settled).some,
+      (over (goal.at.items-smaller c).Else-is_in_code).some,
       some_left c.items.invariant.first p is begin,
     )
 
 pub items-preserved : goal.items-preserved
 items-preserved c =
     let held = rw (take_rest c.items.rest.now c.in-Going.len) at c.hold-rest.ensures in
-    record { first = first_run (goes (goal.at.items-preserved c).Else-is_settled) held }
+    record { first = first_run (goes (goal.at.items-preserved c).Else-is_in_code) held }

@@ -1,12 +1,11 @@
-use Rattle.std.proofs.Common.{◌-◌, length}
-use Rattle.py_lines.specs.Private.Passing.{CountsOn}
+use Rattle.std.proofs.Common.{◌-◌, ◌≤◌, length}
 use Rattle.py_lines.proofs.PassedPieces.Pieces.{HasPassed}
 use Rattle.py_lines.proofs.scan.Scan.take_pieces.Given as goal
 
 abbrev pub invariant-specials : goal.invariant-specials
 invariant-specials l = record {
-  on : HasPassed l.fn.self l.bytes l.fn.passing l.at l.self l.passing;
-  counted : CountsOn l.bytes l.fn.passing l.passing;
+  on : HasPassed l.fn.self l.bytes l.at l.self l.passing;
+  few : l.passing.feeds ≤ l.passing.all;
 }
 
 abbrev pub decreases-specials : goal.decreases-specials

@@ -1,11 +1,10 @@
 use Rattle.std.proofs.Common.{◌≡◌, refl, sym, subst, ap, ◌∙◌}
 use Rattle.py_lines.specs.FieldStrings.{specification}
 use Rattle.py_lines.specs.Private.FieldMachine.{FieldMode, closes, refused, text_place}
-use Rattle.py_lines.specs.Private.Scan.{ComesTo, GrowsInText, QuotesInText, mode_from}
-use Rattle.py_lines.specs.declared.scan.Progress.{Progress}
+use Rattle.py_lines.specs.Private.Scan.{GrowsInText, QuotesInText}
 use Rattle.py_lines.proofs.FieldScans.Ends.{specification_place}
-use Rattle.py_lines.proofs.FieldScans.Openings.{ends_over, opens_comes}
-use Rattle.py_lines.proofs.FieldScans.TextItems.{breaks_there, closes_over, ends_specification_there, field_placed, grows_over, in_field, waits_over, StaysText, text_mode, text_stays}
+use Rattle.py_lines.proofs.FieldScans.Openings.{ends_over, opens_in}
+use Rattle.py_lines.proofs.FieldScans.TextItems.{breaks_there, closes_over, ends_specification_there, grows_over, waits_over}
 use Rattle.py_lines.proofs.scan.Scan.take_text.Goals as goal
 
 pub returns-in-Grows : goal.returns-in-Grows
@@ -20,20 +19,21 @@ returns-in-Closes c = λ t follow.
     closes_over c.args.self.now t follow c.requires.text c.args.bytes.now c.in-Closes.len c.pass.new.self
     (subst (λ (m : FieldMode). QuotesInText m c.args.bytes.now c.in-Closes.len closes) follow.mode does) c.pass.ensures
 
+pub returns-then-not-open : goal.returns-then-not-open
+returns-then-not-open c = λ t follow.
+    let does = rw c.in-OpensField.is at c.requires.does in let (full, same) = rw c.if-not-open.true at c.open.ensures in
+    rw (c.wrong.ensures, same) ((opens_in c.args.self.now t follow c.in-OpensField.host c.in-OpensField.region c.args.bytes.now c.args.self.now does).1 full, refl)
+
 pub returns-in-OpensField : goal.returns-in-OpensField
 returns-in-OpensField c = λ t follow.
-    let does = rw c.in-OpensField.is at c.requires.does in
-    opens_comes c.args.self.now t c.in-OpensField.host c.in-OpensField.region c.args.bytes.now c.open_field.result c.open_field.new.self follow does c.open_field.ensures
-
-pub end_field-requires-clause-field : goal.end_field-requires-clause-field
-end_field-requires-clause-field c = let does = rw c.in-EndsField.is at c.requires.does in let mode : FieldMode = mode_from c.args.self.now.mode in
-    field_placed mode c.args.self.now.frames (subst (StaysText (text_place mode)) does.0 (text_stays mode 125 (text_mode c.args.self.now.mode c.requires.text))) c.requires.placed
+    let does = rw c.in-OpensField.is at c.requires.does in let (few, more) = rw c.if-not-open.false at c.open.ensures in
+    (opens_in c.args.self.now t follow c.in-OpensField.host c.in-OpensField.region c.args.bytes.now _ does).0 few
+    (rw more at c.pass-in-OpensField.ensures)
 
 pub returns-in-EndsField : goal.returns-in-EndsField
 returns-in-EndsField c = λ t follow.
-    let does = rw c.in-EndsField.is at c.requires.does in let (going, field, others, top, like, placed) = c.end_field.ensures in
-    subst (λ (r : Progress). ComesTo t c.args.bytes.now c.args.self.now r c.end_field.new.self) (sym going)
-    (ends_over c.args.self.now t field others c.args.bytes.now c.end_field.new.self follow c.requires.text does.0 does.1 top like (rw like at placed))
+    let does = rw c.in-EndsField.is at c.requires.does in
+    ends_over c.args.self.now t c.args.bytes.now c.end_field.result c.end_field.new.self follow c.requires.text does.0 does.1 c.end_field.ensures
 
 pub returns-in-Waits : goal.returns-in-Waits
 returns-in-Waits c = λ t follow.
@@ -48,7 +48,7 @@ pub returns-in-EndsSpecification : goal.returns-in-EndsSpecification
 returns-in-EndsSpecification c = λ t follow.
     let does = rw c.in-EndsSpecification.is at c.requires.does in
     let there : text_place t.mode ≡ specification = ap text_place (sym follow.mode) ∙ does.2 in
-    let place = specification_place c.args.self.now t c.last_place.result follow (in_field c.args.self.now t follow c.requires.text there) c.last_place.ensures in (
+    let place = specification_place c.args.self.now t c.last_place.result follow there c.last_place.ensures in (
       ends_specification_there c.args.self.now t follow c.requires.text c.args.bytes.now does.0 c.last_place.result _
           (subst (λ (m : FieldMode). QuotesInText m c.args.bytes.now does.0 refused) follow.mode does.1) there place refl,
       refl,

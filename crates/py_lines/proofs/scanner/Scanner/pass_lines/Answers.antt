@@ -1,4 +1,54 @@
+use Rattle.std.proofs.Common.{rules, ◌≡◌, take, length, arith, sym, subst, ap, ◌∙◌}
+use Rattle.std.proofs.lemmas.Bool.Decides.{Decides-eqb}
+use Rattle.std.proofs.lemmas.Slice.Eq.{starts_is}
+use Rattle.std.proofs.Math.Seq.{take-append_seam}
+use Rattle.py_lines.specs.ScannerState.{PassesPieceLines, ScannerState, StandsAtLine}
+use Rattle.py_lines.specs.Private.LineState.{BeginsAnew}
+use Rattle.py_lines.specs.Private.Feed.{Feed, IsSoundFeed, LineState, ready_of, scanning_of}
+use Rattle.py_lines.proofs.Feeds.PassedLines.{begun_none, end_within, passed}
+use Rattle.py_lines.proofs.Feeds.LastBytes.{ends_with_return}
+use Rattle.py_lines.proofs.Feeds.ReadyLines.{none_is}
+use Rattle.py_lines.proofs.scanner.Scanner.pass_lines.Goals.{Else-is_some-2}
 use Rattle.py_lines.proofs.scanner.Scanner.pass_lines.Goals as goal
 
+pub slice_bounds-extend_from_slice-end : goal.slice_bounds-extend_from_slice-end
+slice_bounds-extend_from_slice-end c =
+    omega (arith, end_within _ _ c.pass_lines-lines.ensures.lines c.ends_with.result (c.ends_with.ensures.value ∙ ends_with_return (take c.pass_lines-lines.result.len (take c.min.result c.args.bytes.now))))
+
+stands : (c : Else-is_some-2) → StandsAtLine (scanning_of c.self.inside.feed)
+stands c =
+    let f = c.self.inside.feed in
+    record {
+      held = omega (arith, c.if-held-gt1.false, c.len-held.ensures);
+      ready = ap (ready_of f) (none_is f.ready (sym c.is_some.ensures ∙ c.if-is_some.false));
+      open_yet = c.if-self.false;
+      no_fault = none_is f.state.fault (sym c.is_some-else-self.ensures ∙ c.if-is_some-2.false);
+    }
+
+-- there is no memory for the byte after CR
+none_passed : (c : goal.After-restart) → StandsAtLine (scanning_of c.self.inside.feed)
+    → PassesPieceLines (scanning_of c.self.inside.feed) c.args.bytes.now c.args.before 0 (scanning_of (record c.self.inside.feed { held = c.extend_from_slice.new.self; state = c.restart.new.self })) × IsSoundFeed (record c.self.inside.feed { held = c.extend_from_slice.new.self; state = c.restart.new.self })
+none_passed c at = begun_none c.self.inside.feed c.extend_from_slice.new.self c.restart.new.self c.pass_lines-lines.new.self at (search rules) c.restart.ensures c.args.bytes.now c.args.before c.self.invariant
+
+pub invariant_of-self : goal.invariant_of-self
+invariant_of-self c = (none_passed c (stands (goal.at.invariant_of-self c).Else-is_some-2)).1
+
+pub returns-then-is_err : goal.returns-then-is_err
+returns-then-is_err c = record { passes = rw (← c.self.view_is) (none_passed c (stands (goal.at.returns-then-is_err c).Else-is_some-2)).0 }
+
+-- lines were passed, if any were found
+some_passed : (c : goal.After-restart-2) → StandsAtLine (scanning_of c.self.inside.feed)
+    → let new : Feed = record c.self.inside.feed { held = c.drop-drain.new.self.0; state = c.restart-2.new.self } in
+    PassesPieceLines (scanning_of c.self.inside.feed) c.args.bytes.now c.args.before c.pass_lines-lines.result.len (scanning_of new) × IsSoundFeed new
+some_passed c at =
+    let f = c.self.inside.feed in let bytes = c.args.bytes.now in let lines = c.pass_lines-lines.ensures.lines in
+    let begins = rw c.deref.ensures.value at ((starts_is Decides-eqb bytes _ c.starts_with-begins.result c.starts_with-begins.ensures.value).0 c.if-not-begins.false) in
+    let began : take (length f.held.items) bytes ≡ f.held.items = ap (take (length f.held.items)) begins ∙ take-append_seam f.held.items _ in
+    passed f bytes c.args.before c.min.result c.pass_lines-lines.result.len at began c.min.ensures lines c.drop-drain.new.self.0 c.ends_with.result c.ends_with.ensures.value (search rules)
+    (c.pass_lines-lines.ensures.count lines.read lines.spell) (subst (λ (s : LineState). BeginsAnew s c.restart-2.new.self) c.pass.ensures c.restart-2.ensures) (omega (arith, c.requires.fits, ap (λ (s : ScannerState). s.place) c.self.view_is)) c.self.invariant
+
+pub invariant_of-self-2 : goal.invariant_of-self-2
+invariant_of-self-2 c = (some_passed c (stands (goal.at.invariant_of-self-2 c).Else-is_some-2)).1
+
 pub returns : goal.returns
-returns c = record { passes = rw (← c.self.view_is) c.pass_lines.ensures.passes }
+returns c = record { passes = rw (← c.self.view_is) (some_passed c (stands (goal.at.returns c).Else-is_some-2)).0 }

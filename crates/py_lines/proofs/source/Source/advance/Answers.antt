@@ -1,116 +1,102 @@
-use Rattle.std.proofs.Common.{◌≡◌, ◌≢◌, true, ◌-◌, ◌<◌, ℕ, None, List, length, take, drop, ap, arith, length-drop, length-take, refl, subst, sym, ◌∙◌, Ok, Err, Result, take_all}
-use Rattle.std.specs.Borrow.{Bor}
-use Rattle.py_lines.specs.Private.Source.{Advances, EndsLine, FailsAfter, GivesTokens, HasScanned, LexError, LineFault, LineState, Source, Stop, line_of_source, reader_of}
-use Rattle.py_lines.specs.declared.scan.Stop.TheVariants as stops
-use Rattle.py_lines.specs.Reader.{Continues, Fails, Reader}
-use Rattle.py_lines.specs.Private.LineState.{BeginsAnew, first_mode}
-use Rattle.py_lines.specs.Private.LineScan.{ReachedInSomeLine, ScansIn, WhereverReached}
+use Rattle.std.proofs.Common.{◌≡◌, ℕ, ◌+◌, ◌-◌, ◌<◌, ◌≤◌, ◌∙◌, None, List, [], length, take, drop, refl, sym, ap, subst, arith, length-drop, take_all}
+use Rattle.std.proofs.lemmas.Bool.{eqb-false, eqb-true}
+use Rattle.std.proofs.lemmas.List.{length-take-le}
+use Rattle.py_lines.specs.Piece.{Piece, spelled}
+use Rattle.py_lines.specs.LogicalLine.{LogicalLine, line_ends, line_of}
+use Rattle.py_lines.specs.Token.{EachLiesIn}
+use Rattle.py_lines.specs.Reader.{Fails, PassesLine, Reader}
+use Rattle.py_lines.specs.declared.fault.LexError.{LexError}
+use Rattle.py_lines.specs.declared.line_state.LineState.{LineState}
+use Rattle.py_lines.specs.declared.scan.LineFault.{LineFault}
+use Rattle.py_lines.specs.Private.LineState.{HasNextFault, HasNextLine, IsFaultAfter, KeepsFault, passed, rescanned, with_tokens}
+use Rattle.py_lines.specs.Private.LineTokens.{AreTokensOf, HoldsTokens, IsLineAfter}
+use Rattle.py_lines.specs.Private.Source.{line_between}
 use Rattle.py_lines.proofs.Lexings.FirstLines.{all_first}
-use Rattle.py_lines.proofs.LineScan.LineSteps.{begun_reached}
-use Rattle.py_lines.proofs.LineScan.TextSteps.{begun_sound}
-use Rattle.py_lines.proofs.Readers.LineAnswers.{HasEnded, IsFaulty, IsNext, fails, fault_boundary, has_ended, next_boundary, next_given, next_text}
-use Rattle.py_lines.proofs.source.Source.advance.Goals.{After-end_line}
+use Rattle.py_lines.proofs.LineScan.LineCount.{line_ends-bytes}
+use Rattle.py_lines.proofs.LogicalLines.TokenPlaces.{each_after}
+use Rattle.py_lines.proofs.Readers.NextLines.{further, passes_next}
 use Rattle.py_lines.proofs.source.Source.advance.Goals as goal
 
--- the scan of the next line may begin
-may_begin : (old begun : LineState) (text : List ℕ) → BeginsAnew old begun → ReachedInSomeLine begun.scan text
-may_begin old begun text begins = (first_mode old.place, text, begun_sound old.place, begun_reached begins.begun (begun_sound old.place) text)
+-- the bytes from a place on
+from_place : (n : ℕ) (bytes : List ℕ) → take (length bytes - n) (drop n bytes) ≡ drop n bytes
+from_place n bytes = take_all (length bytes - n) (drop n bytes) (omega (arith, length-drop n bytes))
 
--- it was begun, and has stopped
-has_scanned : (s : Source) (old begun : LineState) (text : List ℕ) (stop : Stop) → s.state ≡ record begun { scan = s.state.scan } → BeginsAnew old begun → old.place < length s.bytes.now → old.fault ≡ None
-    → text ≡ take (length s.characters.now - begun.place) (drop begun.place s.characters.now) → WhereverReached begun.scan text (λ m whole. ScansIn m whole s.state.scan stop) → HasScanned s stop
-has_scanned s old begun text stop is begins more none next scans =
-    let same : s.state ≡ record old { scan = s.state.scan; tokens = begun.tokens } = is ∙ ap (λ (l : LineState). record l { scan = s.state.scan }) begins.same in
-    let place : s.state.place ≡ old.place = ap (λ (l : LineState). l.place) same in
-    let from : text ≡ drop s.state.place s.characters.now
-    = next ∙ take_all (length s.characters.now - begun.place) (drop begun.place s.characters.now) (omega (arith, length-drop begun.place s.characters.now)) ∙ ap (λ (l : LineState). drop l.place s.characters.now) (sym is) in
-    record {
-      more = subst (λ n. n < length s.bytes.now) (sym place) more;
-      no_fault = ap (λ (l : LineState). l.fault) same ∙ none;
-      scans = subst (λ n. ScansIn (first_mode n) (drop s.state.place s.characters.now) s.state.scan stop) (sym place)
-          (subst (λ t. ScansIn (first_mode old.place) t s.state.scan stop) from (scans (first_mode old.place) text (begun_sound old.place) (begun_reached begins.begun (begun_sound old.place) text)));
+-- the line of these pieces was read with its tokens
+record Moves (s new : LineState) (bytes : List ℕ) (stop : ℕ) (pieces : List Piece) : Type 0 where
+  place : new.place ≡ s.place + stop
+  line : new.line ≡ s.line + line_ends (spelled pieces)
+  few : line_ends (spelled pieces) ≤ stop
+  fault : new.fault ≡ s.fault
+  tokens : AreTokensOf pieces s.line new.tokens
+
+moves : {s scanned read new : LineState} {bytes : List ℕ} {stop end_len line : ℕ} (h : HasNextLine s.place s.line bytes stop end_len) → scanned ≡ rescanned s scanned → read ≡ with_tokens scanned read → new ≡ passed read stop line
+    → HoldsTokens (take stop bytes) scanned.line read.tokens → IsLineAfter scanned.line (take stop bytes) line → Moves s new bytes stop h.is.pieces
+moves {s} {scanned} {read} {new} {bytes} {stop} h first second third tokens after =
+    let u = h.is.pieces in let text = h.is.text in record {
+      place = ap (λ (t : LineState). t.place) third ∙ ap (λ (t : LineState). t.place + stop) second ∙ ap (λ (t : LineState). t.place + stop) first;
+      line = ap (λ (t : LineState). t.line) third ∙ after u text ∙ ap (λ (t : LineState). t.line + line_ends (spelled u)) first;
+      few = omega (arith, line_ends-bytes (spelled u), ap length text.spell, length-take-le stop bytes h.is.within);
+      fault = ap (λ (t : LineState). t.fault) third ∙ ap (λ (t : LineState). t.fault) second ∙ ap (λ (t : LineState). t.fault) first;
+      tokens = subst (λ t. AreTokensOf u s.line t) (sym (ap (λ (t : LineState). t.tokens) third)) (subst (λ (n : ℕ). AreTokensOf u n read.tokens) (ap (λ (t : LineState). t.line) first) (tokens u text));
     }
 
--- not at the end of the text, so before it
-is_before_end : (s : Source) → s.state.place ≢ length s.bytes.now → s.state.place < length s.bytes.now
-is_before_end s other = omega (arith, other, s.within, ap length s.prefix, length-take (length s.characters.now) s.bytes.now)
+-- the reader where a state stands in its text
+abbrev reader_at : List ℕ → LineState → Reader
+reader_at text s = record { text = text; place = s.place; line = s.line; fault = s.fault }
 
--- the end of the line leaves the reader as callers see it
-reader_kept : (old new : Source) (stop : Stop) (result : Result ℕ LineFault) → EndsLine old stop result new → reader_of new ≡ reader_of old
-reader_kept old new (stops.LineEnd len) result (is, same) = ap reader_of same
-reader_kept old new (stops.Wrong line_fault) result (is, same) = ap reader_of same
-reader_kept old new stops.TextEnd result (changes, ends) =
-    let text = ap (λ (b : Bor (List ℕ)). b.now) changes.bytes in let state = changes.state in
-    λ i. record { text = text i; place = (state i).place; line = (state i).line; fault = (state i).fault }
+-- so it is given
+gives : (text : List ℕ) {s new : LineState} {bytes : List ℕ} {stop end_len : ℕ} (h : HasNextLine s.place s.line bytes stop end_len) → bytes ≡ drop s.place text → s.fault ≡ None → Moves s new bytes stop h.is.pieces
+    → let line = line_between text s new end_len in PassesLine (reader_at text s) line (reader_at text new) × EachLiesIn line.text line.tokens
+gives text {s} {new} {bytes} {stop} {end_len} h from none m =
+    let place = m.place in let line = m.line in let fault = m.fault in let ends = h.is.ends in
+    let kind = m.tokens.kind in let tokens = m.tokens.tokens in let indent = m.tokens.indent in
+    let long : new.place - s.place ≡ stop = omega (arith, place) in
+    let spells = (λ i. take (long i) (sym from i)) ∙ sym h.is.text.spell in
+    let is : line_between text s new end_len ≡ line_of s.place s.line h.is.pieces
+    = λ i. record { kind = kind i; text = spells i; tokens = tokens i; offset = s.place; line = s.line; indent = indent i; end_len = ends i } in
+    let to = further (reader_at text s) stop (line_ends (spelled h.is.pieces)) in
+    let now : reader_at text new ≡ to = λ i. record { text = text; place = place i; line = line i; fault = fault i } in (
+      subst (λ r. PassesLine (reader_at text s) (line_between text s new end_len) r) (sym now) (subst (λ l. PassesLine (reader_at text s) l to) (sym is) (passes_next (reader_at text s) h from none)),
+      subst (λ (l : LogicalLine). EachLiesIn l.text l.tokens) (sym is) (each_after [] s.line h.is.pieces h.is.text.scalars),
+    )
 
--- the line has ended, and the reader stands where it stood
-record IsEndedFrom (self new : Source) (result : Result ℕ LineFault) : Type 0 where
-  ended : HasEnded new result
-  kept : reader_of new ≡ reader_of self
-
-ended_from : (self mid new : Source) (begun : LineState) (text : List ℕ) (stop : Stop) (result : Result ℕ LineFault) → mid.bytes ≡ self.bytes → mid.characters ≡ self.characters → mid.state ≡ record begun { scan = mid.state.scan }
-    → BeginsAnew self.state begun → self.state.place ≢ length self.bytes.now → self.state.fault ≡ None
-    → text ≡ take (length mid.characters.now - begun.place) (drop begun.place mid.characters.now) → WhereverReached begun.scan text (λ m whole. ScansIn m whole mid.state.scan stop) → EndsLine mid stop result new → IsEndedFrom self new result
-ended_from self mid new begun text stop result bytes characters is begins other none next scans ends =
-    let scanned = has_scanned mid self.state begun text stop is begins (subst (λ (b : Bor (List ℕ)). self.state.place < length b.now) (sym bytes) (is_before_end self other)) none next scans in
-    let same : mid.state ≡ record self.state { scan = mid.state.scan; tokens = begun.tokens } = is ∙ ap (λ (l : LineState). record l { scan = mid.state.scan }) begins.same in
+-- or the reader fails with what is wrong in it
+fails : (text : List ℕ) {s mid new : LineState} {bytes : List ℕ} {f : LineFault} {error : LexError} → HasNextFault s bytes f → bytes ≡ drop s.place text → 0 < length bytes → s.fault ≡ None → mid ≡ rescanned s mid
+    → (keeps : KeepsFault mid f.kind (length (take f.place bytes)) (take f.place bytes) error new) → Fails (reader_at text s) keeps.fault (reader_at text new)
+fails text {s} {mid} {new} {bytes} {f} h from some none first keeps =
+    let place : mid.place ≡ s.place = ap (λ (t : LineState). t.place) first in let line : mid.line ≡ s.line = ap (λ (t : LineState). t.line) first in
+    let at : IsFaultAfter s f.kind f.place (take f.place bytes) keeps.fault = record {
+      is = keeps.at.is;
+      place = omega (arith, keeps.at.place, place, length-take-le f.place bytes h.within);
+      line = λ prefix spell. omega (arith, keeps.at.line prefix spell, line);
+    } in
     record {
-      ended = has_ended mid new stop result scanned ends;
-      kept = reader_kept mid new stop result ends
-          ∙ (λ i. record { text = (bytes i).now; place = (same i).place; line = (same i).line; fault = (same i).fault });
+      all = λ lines given. h.lexed keeps.fault at text lines given.first from;
+      again = λ known is. absurd (let clash = sym none ∙ is in cc);
+      more = λ no_fault. omega (arith, some, ap length from, length-drop s.place text);
+      text = refl;
+      place = ap (λ (t : LineState). t.place) keeps.same ∙ place;
+      line = ap (λ (t : LineState). t.line) keeps.same ∙ line;
+      kept = ap (λ (t : LineState). t.fault) keeps.same;
     }
 
--- a line that is given
-next_is : {self new : Source} {result : Result ℕ LineFault} {end_len : ℕ} → IsEndedFrom self new result → result ≡ Ok end_len → IsNext new end_len
-next_is {self} {new} is ok = subst (HasEnded new) ok is.ended
+pub returns-then-is_empty : goal.returns-then-is_empty
+returns-then-is_empty c =
+    let s = c.args.self.now in let end : s.state.place ≡ length s.bytes.now = omega (arith, s.within, length-drop s.state.place s.bytes.now, ap length (from_place s.state.place s.bytes.now), eqb-true _ 0 (sym c.is_empty.ensures ∙ c.if-is_empty.true)) in
+    record { all = λ lines given. all_first _ _ _ lines given.first end; place = end; fault = c.in_default.is; same = refl }
 
-given : (self mid new : Source) {result : Result ℕ LineFault} {end_len : ℕ} → (is : IsEndedFrom self mid result) → result ≡ Ok end_len → GivesTokens mid end_len new → Advances self (Ok true) new
-given self mid new {result} {end_len} is ok gives =
-    let gives_it = next_given (next_is is ok) new gives in
-    (subst (λ (r : Reader). Continues r (line_of_source new) (reader_of new)) is.kept gives_it.0, gives_it.1)
+pub invariant_of-self-in-Ok : goal.invariant_of-self-in-Ok
+invariant_of-self-in-Ok c =
+    let s = c.args.self.now in let h = c.in-Ok.ensures.scans in
+    let m = moves {s = s.state} h c.in-Ok.ensures.same c.in_ok-line-in-Ok.ensures.same c.pass.ensures c.in_ok-line-in-Ok.ensures.tokens c.in_ok-line-in-Ok.ensures.after in
+    record { within = omega (arith, m.place, h.is.within, h.is.some, ap length (from_place s.state.place s.bytes.now), length-drop s.state.place s.bytes.now); few_lines = omega (arith, m.place, m.line, m.few, s.few_lines) }
 
--- a fault
-fault_is : {self new : Source} {result : Result ℕ LineFault} {line_fault : LineFault} → IsEndedFrom self new result → result ≡ Err line_fault → IsFaulty new line_fault
-fault_is {self} {new} is wrong = subst (HasEnded new) wrong is.ended
-
-failed : (self mid new : Source) {result : Result ℕ LineFault} {line_fault : LineFault} (error : LexError) → (is : IsEndedFrom self mid result) → result ≡ Err line_fault → FailsAfter mid line_fault error new → Advances self (Err error) new
-failed self mid new {result} {line_fault} error is wrong at =
-    subst (λ (e : LexError). Advances self (Err e) new) (sym at.keeps.error_is)
-    (subst (λ (r : Reader). Fails r at.keeps.fault (reader_of new)) is.kept (fails mid new line_fault error at (fault_is is wrong)))
-
--- so here
-line_ended : (c : After-end_line) → IsEndedFrom c.args.self.now c.end_line.new.self c.end_line.result
-line_ended c =
-    ended_from c.args.self.now _ _ c.restart.new.self _ c.extend-stop.result c.end_line.result refl refl refl c.restart.ensures c.if-self.false c.in_default.is
-    (ap (λ (t : List ℕ). take (length t - c.restart.new.self.place) (drop c.restart.new.self.place t)) c.as_bytes.ensures.value) c.extend-stop.ensures.stops c.end_line.ensures
-
-pub returns-then-self : goal.returns-then-self
-returns-then-self c = record {
-  all = λ lines given. all_first _ _ _ lines given.first c.if-self.true;
-  place = c.if-self.true;
-  fault = c.in_default.is;
-  same = refl;
-}
-
-pub extend-stop-requires-clause-way : goal.extend-stop-requires-clause-way
-extend-stop-requires-clause-way c = may_begin c.args.self.now.state c.restart.new.self _ c.restart.ensures
-
-pub end_line-requires : goal.end_line-requires
-end_line-requires c =
-    has_scanned _ c.args.self.now.state c.restart.new.self _ c.extend-stop.result refl c.restart.ensures (is_before_end c.args.self.now c.if-self.false) c.in_default.is
-    (ap (λ (t : List ℕ). take (length t - c.restart.new.self.place) (drop c.restart.new.self.place t)) c.as_bytes.ensures.value) c.extend-stop.ensures.stops
-
-pub give-requires-clause-boundary : goal.give-requires-clause-boundary
-give-requires-clause-boundary c = next_boundary (next_is (line_ended (goal.at.give-requires-clause-boundary c).After-end_line) c.in-Ok.is)
-
-pub give-requires-clause-text : goal.give-requires-clause-text
-give-requires-clause-text c = next_text (next_is (line_ended (goal.at.give-requires-clause-text c).After-end_line) c.in-Ok.is)
-
-pub fail-requires : goal.fail-requires
-fail-requires c = fault_boundary (fault_is (line_ended (goal.at.fail-requires c).After-end_line) c.in-Err.is)
-
-pub returns-in_ok-give-in-Ok : goal.returns-in_ok-give-in-Ok
-returns-in_ok-give-in-Ok c = given c.args.self.now c.end_line.new.self c.give.new.self (line_ended (goal.at.returns-in_ok-give-in-Ok c).After-end_line) c.in-Ok.is c.in_ok-give-in-Ok.ensures
+pub returns-in_ok-line-in-Ok : goal.returns-in_ok-line-in-Ok
+returns-in_ok-line-in-Ok c =
+    let s = c.args.self.now in let h = c.in-Ok.ensures.scans in
+    gives s.bytes.now h (from_place s.state.place s.bytes.now) c.in_default.is (moves {s = s.state} h c.in-Ok.ensures.same c.in_ok-line-in-Ok.ensures.same c.pass.ensures c.in_ok-line-in-Ok.ensures.tokens c.in_ok-line-in-Ok.ensures.after)
 
 pub returns-in-Err : goal.returns-in-Err
-returns-in-Err c = failed c.args.self.now c.end_line.new.self c.fail.new.self c.fail.result (line_ended (goal.at.returns-in-Err c).After-end_line) c.in-Err.is c.fail.ensures
+returns-in-Err c =
+    let s = c.args.self.now in
+    rw (c.fail.ensures.error_is) (fails s.bytes.now {s = s.state} c.in-Err.ensures.scans (from_place s.state.place s.bytes.now) (omega (arith, eqb-false _ 0 (sym c.is_empty.ensures ∙ c.if-is_empty.false))) c.in_default.is c.in-Err.ensures.same c.fail.ensures)

@@ -1,0 +1,74 @@
+-- A short string with fields whose text is simple, after plain bytes that end with its prefix, as the scan would take it.
+use Rattle.std.proofs.Common.{◌≡◌, ℕ, suc, ◌+◌, ◌-◌, ◌<◌, ◌≤◌, not, Bool, true, false, Option, Some, List, ◌∷◌, length, take, drop, slice_index, refl, ap, ◌∙◌, subst, arith, drop-cons, get_or-drop}
+use Rattle.std.specs.Prelude.{codes}
+use Rattle.std.specs.List.{list_all}
+use Rattle.std.proofs.lemmas.Bool.{and_right, both_ways, false_from_ne_true}
+use Rattle.std.proofs.lemmas.List.{get_or-take, length-take-le}
+use Rattle.std.proofs.lemmas.List.Folds.{list_all_at}
+use Rattle.py_lines.specs.Character.{is_backslash, is_break, is_quote}
+use Rattle.py_lines.specs.declared.host.Region.TheVariants as regions
+use Rattle.py_lines.specs.declared.host.StringWithFields.{StringWithFields}
+use Rattle.py_lines.specs.declared.mode.Mode.{Mode as OpenMode}
+use Rattle.py_lines.specs.declared.mode.Mode.TheVariants as opens
+use Rattle.py_lines.specs.declared.mode.Spelling.{Spelling}
+use Rattle.py_lines.specs.declared.mode.Spelling.TheVariants as spellings
+use Rattle.py_lines.specs.declared.scan.Scan.{Scan}
+use Rattle.py_lines.specs.Private.FieldText.{HasText}
+use Rattle.py_lines.specs.Private.Machine.{begins_string, is_field_spelling, is_raw_spelling}
+use Rattle.py_lines.specs.Private.Marks.{is_plain}
+use Rattle.py_lines.specs.Private.Passing.{tail_of}
+use Rattle.py_lines.specs.Private.Run.{is_line_byte}
+use Rattle.py_lines.specs.Private.Scan.{IsTextAt, mode_from, quotes_in}
+use Rattle.py_lines.proofs.FieldScans.PlainCode.{over_code}
+use Rattle.py_lines.proofs.FieldScans.Runs.{holds_text}
+use Rattle.py_lines.proofs.PassedPieces.CountedEnds.{Unbroken}
+use Rattle.py_lines.proofs.PassedPieces.Items.{Opened, Over, string_taken, with_prefix}
+use Rattle.py_lines.proofs.PassedPieces.PlainBytes.{IsTail, PlainTo}
+use Rattle.py_lines.proofs.Text.CharacterTests.{each_of}
+
+-- the prefix of a string with fields
+abbrev pub IsFieldWord : Option Spelling → Type 0
+IsFieldWord o = (s : Spelling) × (o ≡ Some s) × (is_field_spelling s ≡ true)
+
+field_begins : (s : Spelling) → is_field_spelling s ≡ true → begins_string s ≡ true
+field_begins spellings.F is = grind arith
+field_begins s is = grind arith
+
+-- bytes of ASCII that stand on one line hold no line end
+pub low_unbroken : (bytes : List ℕ) (from n : ℕ) → n ≤ length (drop from bytes) → list_all is_line_byte (take n (drop from bytes)) ≡ true
+    → Unbroken bytes from (from + n)
+low_unbroken bytes from n within low i more less =
+    let k : ℕ = i - from in
+    let early : k < n = omega (arith, more, less) in
+    let same : from + k ≡ i = omega (arith, more) in
+    let there = get_or-take n (drop from bytes) k 0 early ∙ get_or-drop from bytes k 0 ∙ ap (slice_index bytes) same in
+    let size = length-take-le n (drop from bytes) within in
+    false_from_ne_true _ (λ breaks. both_ways _
+    (list_all_at is_line_byte (take n (drop from bytes)) k 0 (omega (arith, early, size)) (and_right _ _ (ap not (ap is_break there ∙ breaks)))) low)
+
+-- the text of a short string with fields
+module _ (q : ℕ) (raw : Bool) (quote : is_quote q ≡ true) where
+  abbrev host : StringWithFields
+  host = record { quote = q; is_long = false; is_raw = raw }
+
+  abbrev mode : OpenMode
+  mode = opens.Fields host regions.Literal false
+
+  at_quote : IsTextAt (mode_from mode) q false q
+  unfolding is_quote is_backslash
+  at_quote =
+      each_of (IsTextAt (mode_from mode) q false) (codes "'\"") q ((refl, refl, refl, refl, refl), ((refl, refl, refl, refl, refl), tt)) quote
+
+-- a string with fields, before whose quote its prefix stands
+pub field_over : {scan : Scan} {run : List ℕ} (p : PlainTo scan run) (q : ℕ) (special : is_plain q ≡ false) (bytes : List ℕ) (n : ℕ)
+    → is_quote q ≡ true → IsFieldWord (tail_of run) → length (over_code scan run).frames ≤ 100
+    → Some 1 ≡ quotes_in (q ∷ bytes) → HasText q bytes n → n < length bytes → slice_index bytes n ≡ q
+    → Over p q bytes special (1 + (n + 1)) (over_code scan run).frames
+field_over {scan} {run} p q special bytes n quote (s, is, prefix) few alone text within last =
+    let raw = is_raw_spelling s in
+    let m : OpenMode = mode q raw quote in
+    let mid : Scan = over_code scan run in
+    string_taken p q special quote s mid.start m n bytes (drop (suc n) bytes)
+    (with_prefix p q special quote s (subst (λ o. IsTail o mid.mode) is p.tail) (field_begins s prefix)) (rw prefix refl)
+    alone refl refl (at_quote q raw quote) (drop-cons bytes n 0 within ∙ ap (λ (c : ℕ). c ∷ drop (suc n) bytes) last)
+    (λ t follow. (holds_text (Opened p q special quote m mid.start) (host q raw quote) bytes n refl quote few text t follow).0)

@@ -1,0 +1,11 @@
+use Rattle.std.proofs.Common.{ℕ, List, take, sym, ap, subst}
+use Rattle.py_lines.specs.Token.{EachLiesIn}
+use Rattle.py_lines.specs.Private.Feed.{StandsSo}
+use Rattle.py_lines.proofs.Feeds.ReadyLines.{ready_lies}
+use Rattle.py_lines.proofs.scanner.Scanner.ready.Goals as goal
+
+pub unit-requires-clause-tokens : goal.unit-requires-clause-tokens
+unit-requires-clause-tokens c =
+    let f = c.self.inside.feed in
+    subst (λ (t : List ℕ). EachLiesIn t f.state.tokens.tokens.items) (sym (ap (take f.state.scan.stop) c.deref.ensures.value))
+    (ready_lies f c.in_ok-end_len.end_len (subst (StandsSo f) c.in_ok-end_len.was c.self.invariant.state))
