@@ -95,8 +95,8 @@ impl<'t> Lines<'t> {
     /// Passes over the next logical lines (2.1.1) without their tokens, one after another, and answers how many bytes they have; 0
     /// where none is passed over, and then nothing changed. It takes no memory, and is quicker than [`Lines::next_unit`].
     ///
-    /// A line is passed over where it ends at byte `before` of the text or before it, and nothing is wrong in it. That each such line is
-    /// passed over is not promised, and one that begins with a byte order mark isn't.
+    /// A line is passed over only where it ends at byte `before` of the text or before it, and nothing is wrong in it. That each such line is
+    /// passed over is not promised.
     pub fn pass_lines(&mut self, before: usize) -> usize
         ensures passes { PassesUpTo self.old before result self.new }
     {

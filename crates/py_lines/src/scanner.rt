@@ -152,9 +152,9 @@ impl Scanner {
     /// then. Where CR alone ends the last one, the byte after it is fed, too, and held. The answer is 0 where no line is passed over, and
     /// then nothing changed. It takes no memory except for that byte, and is quicker than [`Scanner::feed`].
     ///
-    /// A line is passed over where it ends at byte `before` of `bytes` or before it, and nothing is wrong in it. That each such line is
-    /// passed over is not promised, and one that begins with a byte order mark isn't. None is passed over where more is held than one byte,
-    /// as after CR, or once the text has ended or its fault is known.
+    /// A line is passed over only where it ends at byte `before` of `bytes` or before it, and nothing is wrong in it. That each such line is
+    /// passed over is not promised. None is passed over where more is held than one byte, as after CR, or once the text has ended or its
+    /// fault is known.
     pub fn pass_lines(&mut self, bytes: &[u8], before: usize) -> usize
         requires fits { self.old.place + length bytes.now ≤ 2 ^ 62 }
         ensures passes { PassesPieceLines self.old bytes.now before result self.new }
