@@ -41,21 +41,21 @@
 -- TextLengths). What is taken at once is told as a step is (`Takes`, specs/Private/Scan), and such steps are put together (Takes).
 --
 -- Pieces of code that are passed over from mark to mark (proofs/PassedPieces) are what the scan would take item by item. So plain bytes lead it
--- to a word, space or nothing that is open (FieldScans/PlainCode), and what stands at the mark is the next item. How many LF were passed is told by
--- the bytes alone (CountedEnds).
+-- to a word, space or nothing that is open (FieldScans/PlainCode), and what stands at the mark is the next item. LF before it are passed by
+-- their marks alone (LineFeeds).
 --
 -- The scan of logical lines (proofs/LineScan): what it has gone over of the line, the machine has (`IsUnderWay`, specs/Private/LineScan). The
 -- machine is sound there, so where a line ends its pieces are those of the line (LineSteps). What is taken from where the scan stands is
--- taken in each line in which it stands so (Reaching, LineStops). After a line end the machine goes on as it does alone, so the next line is scanned from its own start.
--- Lines that were passed follow one another (WholeLines). That such lines are the text's next is in Readers/PassedLines,
--- and where it comes in pieces in Feeds/PassedLines.
+-- taken in each line in which it stands so (Reaching, LineStops). After a line end the machine goes on as it does alone, so the next line is
+-- scanned from its own start. Lines that were passed follow one another (WholeLines), also those of which each ends with one of many LF that are
+-- passed at once (FeedLines). That such lines are the text's next is in Readers/PassedLines, and where it comes in pieces in Feeds/PassedLines.
 --
 -- The tokens of a whole line (proofs/LineTokens): they are read from its text alone, piece by piece, and so for all pieces
 -- that the text spells. Each class of pieces begins with other bytes. A word, a space or a comment is the run of bytes that
 -- the text begins with, since what follows it can't go on with it. A string is what the scan closes first (FirstString): by one
 -- reading no other piece stands there. So what was read is always the first part of the line's pieces, and at the end all of them.
 --
--- Bytes that open or close something (proofs/SpecialBytes) are found by masks of 64 bytes.
+-- Bytes that open or close something (proofs/SpecialBytes), and LF, are found by masks of 64 bytes.
 --
 -- The reader (proofs/Readers) puts these together for one call: a line, a fault or the end.
 --

@@ -9,4 +9,5 @@ pub mod ClassStarts
 pub mod PlainStrings
 pub mod LineStops
 pub mod WholeLines
+pub mod FeedLines
 pub mod Reaching

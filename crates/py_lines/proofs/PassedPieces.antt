@@ -5,7 +5,7 @@ pub mod PlainBytes
 pub mod Ends
 pub mod Items
 pub mod Passed
-pub mod CountedEnds
+pub mod LineFeeds
 pub mod Reads
 pub mod FieldStrings
 pub mod Pieces

@@ -1,6 +1,7 @@
 //! What bytes are outside strings and comments.
 
 ghost use Rattle.std.specs.Prelude.{◌≡◌, ◌<◌, ◌≤◌, ℕ, true, length, map, not, slice_index};
+ghost use Rattle.py_lines.specs.Character.{is_line_feed};
 ghost use Rattle.py_lines.specs.Private.Marks.{is_of_class, is_plain, is_set, plain_uppers, upper_bit};
 
 use crate::class::Class::{
@@ -94,5 +95,16 @@ pub fn special64(bytes: &[u8]) -> u64
     let lanes = u8x64::from_slice(bytes);
     (plain_uppers(lanes) & upper_bits(lanes))
         .simd_eq(u8x64::splat(0))
+        .to_bitmask()
+}
+
+/// Which of the first 64 bytes are LF, a bit for each.
+#[inline(always)]
+pub fn feeds64(bytes: &[u8]) -> u64
+    requires { 64 ≤ length bytes.now }
+    ensures { (k : ℕ) → k < 64 → is_set result k ≡ is_line_feed (slice_index bytes.now k) }
+{
+    u8x64::from_slice(bytes)
+        .simd_eq(u8x64::splat(b'\n'))
         .to_bitmask()
 }

@@ -45,8 +45,7 @@ impl Feed {
         if self.ready.is_none() {
             return Ok(());
         }
-        let stop = self.state.scan.stop;
-        match self.state.read_tokens(&self.held[..stop]) {
+        match self.state.read_tokens(&self.held) {
             Ok(line) => {
                 self.next_line = line;
                 Ok(())

@@ -1,7 +1,7 @@
 //! The scan of logical lines: where each of them ends.
 
 ghost use Rattle.std.specs.Prelude.{◌≡◌, ℕ, ◌+◌, ◌-◌, ◌<◌, ◌≤◌, ◌^◌, true, List, drop, length, take, encode_utf8_all};
-ghost use Rattle.py_lines.specs.LogicalLine.{byte_len, line_ends};
+ghost use Rattle.py_lines.specs.LogicalLine.{byte_len};
 ghost use Rattle.py_lines.specs.Piece.{Piece, string};
 ghost use Rattle.py_lines.specs.Private.LineTokens.{BeginWithPiece, BeginWithString};
 ghost use Rattle.py_lines.specs.Private.LineScan.{Reached, ReachedInSomeLine, ScansIn, WhereverReached};
@@ -11,20 +11,10 @@ ghost use Rattle.py_lines.specs.Private.WholeLines.{BeginWithLines};
 ghost use Rattle.py_lines.specs.declared.mode.Mode.TheVariants.{Free};
 
 use crate::class::Class;
-use crate::line_ends::line_ends;
 use crate::mode::Mode;
 use crate::passing::{Passing, Special};
 use crate::run::is_ascii_word;
 use crate::scan::{Progress, Scan, Stop};
-
-/// Lines that were passed.
-#[derive(Clone, Copy)]
-pub struct PassedLines {
-    /// How many bytes they have.
-    pub len: usize,
-    /// How many line ends.
-    pub line_ends: u64,
-}
 
 /// How many plain bytes there are up to the last operator, and with it.
 #[inline(always)]
@@ -122,50 +112,36 @@ impl Scan {
         }
     }
 
-    /// The logical lines that the bytes begin with, as far as they are whole and nothing is wrong in them. No line is open before the bytes.
-    /// The scan is lent for them.
-    pub fn pass_lines(&mut self, bytes: &[u8]) -> PassedLines
-        ensures lines { BeginWithLines bytes.now result.len }
-        ensures few { result.line_ends ≤ result.len }
-        ensures count { (characters : List ℕ) → encode_utf8_all characters ≡ take result.len bytes.now
-            → result.line_ends ≡ line_ends characters }
+    /// How many bytes the logical lines have that the bytes begin with, as far as they are whole and nothing is wrong in them. No line is
+    /// open before the bytes. The scan is lent for them.
+    pub fn pass_lines(&mut self, bytes: &[u8]) -> usize
+        ensures { BeginWithLines bytes.now result }
     {
         let mut passing = Passing::new(bytes);
-        let mut lines = PassedLines {
-            len: 0,
-            line_ends: 0,
-        };
         self.restart(Mode::Free);
-        let mut at = passing.marks.next(bytes);
+        let mut at = passing.next(&self.frames, bytes);
         'specials: while at < bytes.len() {
-            match passing.pass(&mut self.frames, bytes, at, at - lines.len) {
-                Special::Passed => {}
-                Special::LineEnd(_) => {
-                    lines.len = passing.all;
-                    lines.line_ends = passing.feeds;
-                }
+            let start = passing.lines;
+            match passing.pass(&mut self.frames, bytes, at, at - start) {
+                Special::Passed | Special::LineEnd(_) => {}
                 Special::Unpassed => {
                     let from = passing.all + word_start(&bytes[passing.all..at]);
                     self.stop = 0;
-                    self.pass(from - lines.len);
+                    self.pass(from - start);
                     match self.take_items(&bytes[from..]) {
-                        None => passing.pass_to(bytes, lines.len + self.stop),
+                        None => passing.pass_to(bytes, start + self.stop),
                         Some(Stop::LineEnd(_)) => {
-                            passing.pass_to(bytes, lines.len + self.stop);
-                            lines.len = passing.all;
-                            lines.line_ends = passing.feeds;
+                            passing.pass_to(bytes, start + self.stop);
+                            passing.lines = passing.all;
                             self.frames.clear();
                         }
                         Some(_) => break,
                     }
                 }
             }
-            at = passing.marks.next(bytes);
+            at = passing.next(&self.frames, bytes);
         }
-        if passing.returned {
-            lines.line_ends = line_ends(&bytes[..lines.len]);
-        }
-        lines
+        passing.lines
     }
 
     /// Takes the string that the bytes begin with, at the start of a line.

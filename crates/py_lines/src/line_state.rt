@@ -2,7 +2,7 @@
 
 ghost use Rattle.py_lines.specs.Private.LineScan.{first_open};
 ghost use Rattle.py_lines.specs.Private.LineState.{first_mode};
-ghost use Rattle.std.specs.Prelude.{◌≡◌, ℕ, ◌+◌, ◌<◌, ◌^◌, length, IfOk, IsUtf8, OnOk};
+ghost use Rattle.std.specs.Prelude.{◌≡◌, ℕ, ◌+◌, ◌<◌, ◌≤◌, ◌^◌, length, take, IfOk, IsUtf8, OnOk};
 
 use crate::fault::{Fault, FaultKind, LexError};
 use crate::line_ends::line_ends;
@@ -88,17 +88,18 @@ impl LineState {
         }
     }
 
-    /// Reads the tokens of the next line, which is this text, and answers the line after it. The scan is lent for its strings: where it
-    /// stopped is as it was.
-    pub fn read_tokens(&mut self, text: &[u8]) -> Result<u64, AllocError>
-        requires text { IsLineText text.now }
-        requires lines { self.old.line + length text.now < 2 ^ 64 }
+    /// Reads the tokens of the next line, with which these bytes begin, up to where the scan stopped, and answers the line after it. The scan is
+    /// lent for its strings: where it stopped is as it was.
+    pub fn read_tokens(&mut self, bytes: &[u8]) -> Result<u64, AllocError>
+        requires within { self.old.scan.stop ≤ length bytes.now }
+        requires text { IsLineText (take self.old.scan.stop bytes.now) }
+        requires lines { self.old.line + self.old.scan.stop < 2 ^ 64 }
         ensures same { self.new ≡ with_tokens self.old self.new }
-        ensures tokens { OnOk result (HoldsTokens text.now self.old.line self.new.tokens) }
-        ensures after { IfOk result (IsLineAfter self.old.line text.now) }
+        ensures tokens { OnOk result (HoldsTokens (take self.old.scan.stop bytes.now) self.old.line self.new.tokens) }
+        ensures after { IfOk result (IsLineAfter self.old.line (take self.old.scan.stop bytes.now)) }
     {
         let stop = self.scan.stop;
-        let read = self.tokens.read(&mut self.scan, text, self.line);
+        let read = self.tokens.read(&mut self.scan, bytes, stop, self.line);
         self.scan.stop = stop;
         read
     }

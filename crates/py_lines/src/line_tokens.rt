@@ -1,12 +1,12 @@
 //! The tokens of a whole logical line, which are read from its text alone.
 
-ghost use Rattle.std.specs.Prelude.{◌≡◌, ℕ, ◌+◌, ◌<◌, ◌^◌, true, [], drop, length, take, IfOk, OnOk};
+ghost use Rattle.std.specs.Prelude.{◌≡◌, ℕ, ◌+◌, ◌<◌, ◌≤◌, ◌^◌, false, true, [], drop, length, take, IfOk, OnOk};
 ghost use Rattle.py_lines.specs.Character.{is_quote, is_space};
-ghost use Rattle.py_lines.specs.Piece.{Piece, begins};
+ghost use Rattle.py_lines.specs.Piece.{Piece, begins, string};
 ghost use Rattle.py_lines.specs.Private.Run.{IsRunOf, is_wide_word, word_spelling};
 ghost use Rattle.py_lines.specs.Private.Machine.{is_field_spelling};
-ghost use Rattle.py_lines.specs.Private.LineTokens.{AddsPiece, BeginWithPiece, BeginWithString, HaveRead, HoldsTokens};
-ghost use Rattle.py_lines.specs.Private.LineTokens.{IsFirstPiece, IsLineAfter, IsLineText, IsStringLen, ends_in, is_prefix_word, line_end_len};
+ghost use Rattle.py_lines.specs.Private.LineTokens.{AddsPiece, BeginWithPiece, HoldsTokens};
+ghost use Rattle.py_lines.specs.Private.LineTokens.{IsFirstPiece, IsLineAfter, IsLineText, line_end_piece, token_piece, is_prefix_word, line_end_len, mark_len};
 
 use crate::character::{is_quote, is_space};
 use crate::class::Class;
@@ -26,19 +26,42 @@ enum Role {
     Token(TokKind),
     /// A join of two lines (Python Language Reference, 2.1.5).
     Join,
-    Space,
     LineEnd,
 }
 
-impl Role {
-    /// How many line ends a piece of this role and text holds.
-    fn line_ends(self, text: &[u8]) -> u64
-        ensures { result ≡ ends_in self text.now }
+/// A piece that is no space.
+#[derive(Clone, Copy)]
+struct FirstPiece {
+    /// What it is to its line.
+    role: Role,
+    /// How many bytes it has.
+    len: usize,
+    /// How many line ends it holds.
+    line_ends: u64,
+}
+
+impl FirstPiece {
+    /// A token on one line.
+    #[inline(always)]
+    fn token(kind: TokKind, len: usize) -> FirstPiece
+        ensures { result ≡ token_piece kind len }
     {
-        match self {
-            Role::Token(TokKind::Str) => line_ends(text),
-            Role::Join | Role::LineEnd => 1,
-            _ => 0,
+        FirstPiece {
+            role: Role::Token(kind),
+            len,
+            line_ends: 0,
+        }
+    }
+
+    /// A piece with one line end.
+    #[inline(always)]
+    fn line_end(role: Role, len: usize) -> FirstPiece
+        ensures { result ≡ line_end_piece role len }
+    {
+        FirstPiece {
+            role,
+            len,
+            line_ends: 1,
         }
     }
 }
@@ -50,37 +73,42 @@ fn line_end_len(bytes: &[u8]) -> usize
     if bytes.starts_with(b"\r\n") { 2 } else { 1 }
 }
 
-/// How many bytes the string has that the bytes begin with, with fields or without, whose prefix has so many of them, or none. Most
-/// are short and simple, and are passed at once. This scan goes through the others.
-fn string_len(scan: &mut Scan, bytes: &[u8], prefix: usize, has_fields: bool) -> usize
+/// The string that the bytes begin with, with fields or without, whose prefix has so many of them, or none. Most are short and simple, and
+/// are passed at once. This scan goes through the others.
+fn first_string(scan: &mut Scan, bytes: &[u8], prefix: usize, has_fields: bool) -> FirstPiece
     requires quote { begins is_quote (drop prefix bytes.now) ≡ true }
     requires prefix { is_prefix_word (take prefix bytes.now) ≡ true }
     requires fields { has_fields ≡ is_field_spelling (word_spelling (take prefix bytes.now)) }
-    requires string { BeginWithString bytes.now }
-    ensures { IsStringLen bytes.now result }
+    requires piece { (p : Piece) × BeginWithPiece bytes.now p }
+    requires string { (p : Piece) → BeginWithPiece bytes.now p → p.class ≡ string }
+    ensures { IsFirstPiece bytes.now result }
 {
     if !has_fields {
         if let Some(len) = whole_plain_string(&bytes[prefix..]) {
-            return prefix + len;
+            return FirstPiece::token(TokKind::Str, prefix + len);
         }
     }
     scan.restart(Mode::Free);
     scan.take_first(bytes);
-    scan.stop
+    FirstPiece {
+        role: Role::Token(TokKind::Str),
+        len: scan.stop,
+        line_ends: line_ends(&bytes[..scan.stop]),
+    }
 }
 
-/// The word that the bytes begin with, or the string whose prefix it is, and its length.
-fn word_or_string(scan: &mut Scan, bytes: &[u8]) -> (Role, usize)
+/// The word that the bytes begin with, or the string whose prefix it is. `ahead` are these bytes, and maybe more.
+fn word_or_string(scan: &mut Scan, bytes: &[u8], ahead: &[u8]) -> FirstPiece
     requires piece { (p : Piece) × BeginWithPiece bytes.now p }
     requires word { begins is_wide_word bytes.now ≡ true }
-    ensures { IsFirstPiece bytes.now result.0 result.1 }
+    requires ahead { take (length bytes.now) ahead.now ≡ bytes.now }
+    ensures { IsFirstPiece bytes.now result }
 {
-    let len = ByteRun::WideWord.len_in(bytes);
+    let len = ByteRun::WideWord.len_in(ahead).min(bytes.len());
     if len < bytes.len() && is_quote(bytes[len] as char) {
         let spelling = Spelling::of_word(&bytes[..len]);
         if spelling.is_prefix() {
-            let whole = string_len(scan, bytes, len, spelling.has_fields());
-            return (Role::Token(TokKind::Str), whole);
+            return first_string(scan, bytes, len, spelling.has_fields());
         }
     }
     let kind = if bytes[0].is_ascii_digit() {
@@ -88,36 +116,54 @@ fn word_or_string(scan: &mut Scan, bytes: &[u8]) -> (Role, usize)
     } else {
         TokKind::Name
     };
-    (Role::Token(kind), len)
+    FirstPiece::token(kind, len)
 }
 
-/// How many bytes of space the bytes begin with: mostly one.
+/// How many bytes the mark has that the bytes begin with, if they begin with one.
+#[inline(always)]
+fn mark_len(bytes: &[u8]) -> usize
+    ensures { result ≡ mark_len bytes.now }
+{
+    match bytes {
+        [0xef, 0xbb, 0xbf, ..] => 3,
+        _ => 0,
+    }
+}
+
+/// How many bytes of space the bytes begin with: mostly none or one.
+#[inline(always)]
 fn space_len(bytes: &[u8]) -> usize
-    requires { begins is_space bytes.now ≡ true }
     ensures { IsRunOf is_space bytes.now result }
 {
-    if bytes.len() > 1 && !is_space(bytes[1] as char) {
-        return 1;
+    match bytes {
+        [b, ..] if !is_space(*b as char) => 0,
+        [_, b, ..] if !is_space(*b as char) => 1,
+        _ => ByteRun::Space.len_in(bytes),
     }
-    ByteRun::Space.len_in(bytes)
 }
 
-/// The piece that the bytes begin with, which is no mark, and its length.
+/// The piece that the bytes begin with, which is no mark and no space. `ahead` are these bytes, and maybe more.
 #[tactic(auto, using(crate::proofs::LineTokens::FirstCharacters::some_bytes))]
-fn first_piece(scan: &mut Scan, bytes: &[u8]) -> (Role, usize)
-    requires { (p : Piece) × BeginWithPiece bytes.now p }
-    ensures { IsFirstPiece bytes.now result.0 result.1 }
+#[inline(always)]
+fn first_piece(scan: &mut Scan, bytes: &[u8], ahead: &[u8]) -> FirstPiece
+    requires piece { (p : Piece) × BeginWithPiece bytes.now p }
+    requires no_space { begins is_space bytes.now ≡ false }
+    requires ahead { take (length bytes.now) ahead.now ≡ bytes.now }
+    ensures { IsFirstPiece bytes.now result }
 {
     let first = bytes[0];
     match Class::of(first) {
-        Class::Word | Class::Wide => word_or_string(scan, bytes),
-        Class::Quote => (Role::Token(TokKind::Str), string_len(scan, bytes, 0, false)),
-        Class::Operator | Class::Opening | Class::Closing => (Role::Token(TokKind::Op(first)), 1),
-        Class::Hash => (Role::Token(TokKind::Remark), 1 + comment_run(&bytes[1..])),
-        Class::Backslash => (Role::Join, 1 + line_end_len(&bytes[1..])),
-        Class::LineFeed | Class::Return => (Role::LineEnd, line_end_len(bytes)),
-        Class::Space => (Role::Space, space_len(bytes)),
-        Class::Other => unreachable!(),
+        Class::Word | Class::Wide => word_or_string(scan, bytes, ahead),
+        Class::Quote => first_string(scan, bytes, 0, false),
+        Class::Operator | Class::Opening | Class::Closing => {
+            FirstPiece::token(TokKind::Op(first), 1)
+        }
+        Class::Hash => FirstPiece::token(TokKind::Remark, 1 + comment_run(&bytes[1..])),
+        Class::Backslash => FirstPiece::line_end(Role::Join, 1 + line_end_len(&bytes[1..])),
+        Class::LineFeed | Class::Return => {
+            FirstPiece::line_end(Role::LineEnd, line_end_len(bytes))
+        }
+        Class::Space | Class::Other => unreachable!(),
     }
 }
 
@@ -163,35 +209,40 @@ impl LineTokens {
                 })?;
             }
             Role::Join => self.kind = UnitKind::Code,
-            Role::Space | Role::LineEnd => {}
+            Role::LineEnd => {}
         }
         Ok(())
     }
 
-    /// Reads the tokens of a whole logical line without fault, which begins on this line, and answers the line after it. The scan goes
-    /// through the strings that aren't simple. If there is no memory for the tokens, nothing is said of those that it holds.
-    pub fn read(&mut self, scan: &mut Scan, text: &[u8], line: u64) -> Result<u64, AllocError>
-        requires text { IsLineText text.now }
-        requires lines { line + length text.now < 2 ^ 64 }
-        ensures tokens { OnOk result (HoldsTokens text.now line self.new) }
-        ensures after { IfOk result (IsLineAfter line text.now) }
+    /// Reads the tokens of a whole logical line without fault, which begins on this line, and answers the line after it. The line are the first
+    /// `len` of these bytes. The scan goes through the strings that aren't simple. If there is no memory for the tokens, nothing is said of those
+    /// that it holds.
+    pub fn read(
+        &mut self,
+        scan: &mut Scan,
+        bytes: &[u8],
+        len: usize,
+        line: u64,
+    ) -> Result<u64, AllocError>
+        requires within { len ≤ length bytes.now }
+        requires text { IsLineText (take len bytes.now) }
+        requires lines { line + len < 2 ^ 64 }
+        ensures tokens { OnOk result (HoldsTokens (take len bytes.now) line self.new) }
+        ensures after { IfOk result (IsLineAfter line (take len bytes.now)) }
     {
-        let mut start = if text.starts_with(b"\xef\xbb\xbf") {
-            3
-        } else {
-            0
-        };
+        let text = &bytes[..len];
+        let mark = mark_len(text);
         self.kind = UnitKind::Blank;
-        self.indent = ByteRun::Space.len_in(&text[start..]);
+        self.indent = space_len(&text[mark..]);
         self.tokens.clear();
+        let mut start = mark + self.indent;
         let mut line_here = line;
-        'pieces: while start < text.len() {
-            let rest = &text[start..];
-            let (role, len) = first_piece(scan, rest);
-            let stop = start + len;
-            self.add(role, start, stop, line_here)?;
-            line_here += role.line_ends(&rest[..len]);
-            start = stop;
+        'pieces: while start < len {
+            let piece = first_piece(scan, &text[start..], &bytes[start..]);
+            let stop = start + piece.len;
+            self.add(piece.role, start, stop, line_here)?;
+            line_here += piece.line_ends;
+            start = stop + space_len(&text[stop..]);
         }
         Ok(line_here)
     }

@@ -5,6 +5,7 @@ ghost use Rattle.py_lines.specs.Reader.{Reader, GoesOnAt, HasGiven, at_start};
 ghost use Rattle.py_lines.specs.Reader.View.{reader_of};
 
 use crate::fault::LexError;
+use crate::line_ends::line_ends;
 use crate::line_state::LineState;
 use crate::source::Source;
 use crate::unit::Unit;
@@ -105,9 +106,9 @@ impl<'t> Lines<'t> {
         if place >= before || before > source.bytes.len() || source.state.fault.is_some() {
             return 0;
         }
-        let lines = source.state.scan.pass_lines(&source.bytes[place..before]);
-        let line = source.state.line + lines.line_ends;
-        source.state.pass(lines.len, line);
-        lines.len
+        let len = source.state.scan.pass_lines(&source.bytes[place..before]);
+        let line = source.state.line + line_ends(&source.bytes[place..place + len]);
+        source.state.pass(len, line);
+        len
     }
 }

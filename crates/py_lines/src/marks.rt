@@ -1,9 +1,10 @@
 //! Where the next byte of a text stands that is not plain.
 
-ghost use Rattle.std.specs.Prelude.{◌≡◌, ◌+◌, ◌<◌, ◌≤◌, ℕ, List, length};
-ghost use Rattle.py_lines.specs.Private.Marks.{FindsNext, HasMarks, IsSpecial, is_mark, is_set};
+ghost use Rattle.std.specs.Prelude.{◌≡◌, ◌+◌, ◌<◌, ◌≤◌, ◌^◌, ℕ, List, true, length, not, slice_index};
+ghost use Rattle.py_lines.specs.Character.{is_line_feed};
+ghost use Rattle.py_lines.specs.Private.Marks.{Advances, FindsNext, HasMarks, IsSpecial, PassesFeeds, is_feed, is_mark, is_plain, is_set};
 
-use crate::class::special64;
+use crate::class::{feeds64, special64};
 
 /// Of 64 bytes of a text, those that are not plain and were not passed yet.
 #[derive(Clone, Copy)]
@@ -12,36 +13,43 @@ pub struct Marks {
     base: usize,
     /// A bit for each of them.
     bits: u64,
-}
-
-/// Which bytes are not plain of the 64 from `base` on, or of fewer where the text ends.
-#[inline(always)]
-fn bits_at(text: &[u8], base: usize) -> u64
-    requires { base ≤ length text.now }
-    ensures { (k : ℕ) → k < 64 → is_set result k ≡ is_mark text.now base (base + k) }
-{
-    let rest = &text[base..];
-    if rest.len() >= 64 {
-        special64(rest)
-    } else {
-        last_bits(rest)
-    }
-}
-
-/// The same of fewer bytes than 64.
-#[tactic(auto, using(crate::proofs::SpecialBytes::Places::filled))]
-#[inline(never)]
-fn last_bits(rest: &[u8]) -> u64
-    requires { length rest.now < 64 }
-    ensures { (k : ℕ) → k < 64 → is_set result k ≡ is_mark rest.now 0 k }
-{
-    // A space is plain.
-    let mut block = [b' '; 64];
-    block[..rest.len()].copy_from_slice(rest);
-    special64(&block)
+    /// A bit for each of the 64 bytes that is LF, whether it was passed or not.
+    feeds: u64,
 }
 
 impl Marks {
+    /// Those of the first 64 of these bytes, the first of which is this one of the text.
+    #[inline(always)]
+    fn of(block: &[u8], base: usize) -> Marks
+        requires { 64 ≤ length block.now }
+        ensures base { result.base ≡ base }
+        ensures bits { (k : ℕ) → k < 64
+            → is_set result.bits k ≡ not (is_plain (slice_index block.now k)) }
+        ensures feeds { (k : ℕ) → k < 64
+            → is_set result.feeds k ≡ is_line_feed (slice_index block.now k) }
+    {
+        Marks {
+            base,
+            bits: special64(block),
+            feeds: feeds64(block),
+        }
+    }
+
+    /// Those of a text's last bytes, fewer than 64.
+    #[tactic(auto, using(crate::proofs::SpecialBytes::Places::filled, crate::proofs::SpecialBytes::Places::filled_feeds))]
+    #[inline(never)]
+    fn of_last(rest: &[u8], base: usize) -> Marks
+        requires { length rest.now < 64 }
+        ensures base { result.base ≡ base }
+        ensures bits { (k : ℕ) → k < 64 → is_set result.bits k ≡ is_mark rest.now 0 k }
+        ensures feeds { (k : ℕ) → k < 64 → is_set result.feeds k ≡ is_feed rest.now k }
+    {
+        // A space is plain.
+        let mut block = [b' '; 64];
+        block[..rest.len()].copy_from_slice(rest);
+        Marks::of(&block, base)
+    }
+
     /// Those of the text from this byte on.
     #[inline(always)]
     pub fn at(text: &[u8], from: usize) -> Marks
@@ -49,10 +57,27 @@ impl Marks {
         ensures base { result.base ≡ from }
         ensures marks { HasMarks text.now from result }
     {
-        Marks {
-            base: from,
-            bits: bits_at(text, from),
+        let rest = &text[from..];
+        if rest.len() >= 64 {
+            Marks::of(rest, from)
+        } else {
+            Marks::of_last(rest, from)
         }
+    }
+
+    /// Goes on to the next 64 bytes, if none of these is left that is not plain, and the text has more: whether it does.
+    #[inline(always)]
+    pub fn advance(&mut self, text: &[u8]) -> bool
+        requires { self.old.base ≤ length text.now }
+        ensures marks { Advances text.now self.old result self.new }
+        ensures base { result ≡ true
+            → (self.new.base ≡ self.old.base + 64) × (self.new.base ≤ length text.now) }
+    {
+        if self.bits != 0 || text.len() - self.base <= 64 {
+            return false;
+        }
+        *self = Marks::at(text, self.base + 64);
+        true
     }
 
     /// The next byte that is not plain, or the text's end. It is passed.
@@ -62,15 +87,30 @@ impl Marks {
         ensures { (from : ℕ)
             → HasMarks text.now from self.old → FindsNext text.now from result self.new }
     {
-        while self.bits == 0 {
-            if text.len() - self.base <= 64 {
-                return text.len();
-            }
-            *self = Marks::at(text, self.base + 64);
+        'blocks: while self.advance(text) {}
+        if self.bits == 0 {
+            return text.len();
         }
         let place = self.base + self.bits.trailing_zeros() as usize;
         self.bits &= self.bits - 1;
         place
+    }
+
+    /// Passes LF of the 64 bytes, up to the last before any other byte that is not plain: the byte after it, if some are passed.
+    #[inline(always)]
+    pub fn pass_feeds(&mut self) -> Option<usize>
+        requires { self.old.base + 64 < 2 ^ 64 }
+        ensures { (text : List ℕ) (from : ℕ)
+            → HasMarks text from self.old → PassesFeeds text from self.old result self.new }
+    {
+        let others = self.bits & !self.feeds;
+        // The LF below the lowest of the others, or each LF, if there is no other.
+        let passed = self.bits & self.feeds & others.wrapping_sub(1);
+        if passed == 0 {
+            return None;
+        }
+        self.bits ^= passed;
+        Some(self.base + (64 - passed.leading_zeros() as usize))
     }
 
     /// The byte at this place, which was passed last, is not passed.

@@ -1,16 +1,16 @@
 //! Bytes of a line that are passed over at once, from one that isn't plain to the next.
 
-ghost use Rattle.std.specs.Prelude.{◌≡◌, ℕ, ◌+◌, ◌<◌, ◌≤◌, ◌^◌, ◌==◌, true, false, IsTrue, length, slice_index};
-ghost use Rattle.py_lines.specs.Character.{is_backslash, is_hash, is_quote, is_return};
+ghost use Rattle.std.specs.Prelude.{◌≡◌, ℕ, ◌+◌, ◌<◌, ◌≤◌, ◌^◌, ◌==◌, true, false, IsTrue, List, length, slice_index};
+ghost use Rattle.py_lines.specs.Character.{is_hash, is_quote};
 ghost use Rattle.py_lines.specs.Private.Marks.{FindsNext, HasMarks};
-ghost use Rattle.py_lines.specs.Private.Passing.{PassesPiece, PassesSo, PassesSpecial};
-ghost use Rattle.py_lines.specs.Private.Passing.{CountsOn, line_end_special, nothing_passed, passed_line_end};
+ghost use Rattle.py_lines.specs.Private.Passing.{PassesBlock, PassesPiece, PassesSo, PassesSpecial};
+ghost use Rattle.py_lines.specs.Private.Passing.{FindsSpecial, line_end_special, nothing_passed, passed_line_end, passed_to};
 ghost use Rattle.py_lines.specs.Private.Run.{is_line_byte};
 
 use crate::character::is_break;
 use crate::class::Class;
 use crate::frames::{Frame, Frames};
-use crate::line_ends::{line_feeds, outer_end_len};
+use crate::line_ends::outer_end_len;
 use crate::line_scan::word_start;
 use crate::marks::Marks;
 use crate::mode::Spelling;
@@ -41,10 +41,8 @@ fn is_line_byte(b: u8) -> bool
 pub struct Passing {
     /// How many were passed.
     pub all: usize,
-    /// How many of them are LF, where none is CR.
-    pub feeds: u64,
-    /// Whether one may be CR.
-    pub returned: bool,
+    /// How many of them are whole lines.
+    pub lines: usize,
     /// The bytes after them that are not plain.
     pub marks: Marks,
 }
@@ -58,8 +56,7 @@ impl Passing {
     {
         Passing {
             all: 0,
-            feeds: 0,
-            returned: false,
+            lines: 0,
             marks: Marks::at(bytes, 0),
         }
     }
@@ -67,35 +64,57 @@ impl Passing {
     /// Passes the bytes up to this one.
     #[inline(always)]
     pub fn pass_to(&mut self, bytes: &[u8], to: usize)
-        requires further { self.old.all ≤ to }
         requires within { to ≤ length bytes.now }
-        requires few { self.old.feeds ≤ self.old.all }
-        ensures all { self.new.all ≡ to }
-        ensures counts { CountsOn bytes.now self.old self.new }
+        ensures passed { self.new ≡ passed_to self.old to self.new.marks }
         ensures marked { HasMarks bytes.now to self.new.marks }
     {
-        let (feeds, returned) = line_feeds(&bytes[self.all..to]);
-        self.feeds += feeds;
-        self.returned = self.returned || returned;
         self.all = to;
         self.marks = Marks::at(bytes, to);
+    }
+
+    /// Passes LF of the 64 bytes of the marks, up to the last before any other byte that isn't plain, with the plain bytes before it: with
+    /// each of them a line ends, except in brackets.
+    #[inline(always)]
+    fn pass_feeds(&mut self, frames: &Frames)
+        requires fits { self.old.marks.base + 64 < 2 ^ 64 }
+        ensures { (bytes : List ℕ) (from : ℕ) → HasMarks bytes from self.old.marks
+            → PassesBlock bytes from frames.now self.old self.new }
+    {
+        if let Some(end) = self.marks.pass_feeds() {
+            self.all = end;
+            if frames.is_empty() {
+                self.lines = end;
+            }
+        }
+    }
+
+    /// The next byte that isn't plain, or the bytes' end. It is passed by the marks. LF before it are passed first: with each of them a line
+    /// ends, except in brackets.
+    #[inline(always)]
+    pub fn next(&mut self, frames: &Frames, bytes: &[u8]) -> usize
+        requires marked { HasMarks bytes.now self.old.all self.old.marks }
+        ensures { FindsSpecial bytes.now frames.now self.old result self.new }
+    {
+        self.pass_feeds(frames);
+        'feeds: while self.marks.advance(bytes) {
+            self.pass_feeds(frames);
+        }
+        self.marks.next(bytes)
     }
 
     /// Passes the line end of so many bytes at this byte: in brackets the line goes on.
     #[inline(always)]
     fn pass_line_end(&mut self, frames: &Frames, at: usize, len: usize) -> Special
         requires fits { at + len < 2 ^ 64 }
-        requires few { self.old.feeds < at + len }
-        ensures special { result ≡ line_end_special (length frames.now == 0) len }
-        ensures passed { self.new ≡ passed_line_end self.old (at + len) }
+        ensures special { result ≡ line_end_special frames.now len }
+        ensures passed { self.new ≡ passed_line_end frames.now self.old (at + len) }
     {
         self.all = at + len;
-        self.feeds += 1;
-        if frames.is_empty() {
-            Special::LineEnd(len)
-        } else {
-            Special::Passed
+        if !frames.is_empty() {
+            return Special::Passed;
         }
+        self.lines = self.all;
+        Special::LineEnd(len)
     }
 
     /// Passes the string that the quote at this byte begins, if it is empty, or short and ASCII on one line, or one with fields that is short
@@ -108,7 +127,6 @@ impl Passing {
         ensures passed { IsTrue result
             → (place : ℕ) → PassesSo bytes.now at place self.old frames.now self.new frames.now }
         ensures same { result ≡ false → self.new ≡ self.old }
-        ensures counts { CountsOn bytes.now self.old self.new }
     {
         match quotes_len(&bytes[at..]) {
             Some(1) => {}
@@ -164,7 +182,6 @@ impl Passing {
         requires hash { is_hash (slice_index bytes.now at) ≡ true }
         ensures passed { IsTrue result → PassesPiece bytes.now at self.old self.new }
         ensures same { result ≡ false → self.new ≡ self.old }
-        ensures counts { CountsOn bytes.now self.old self.new }
     {
         let mut marks = self.marks;
         let mut end = marks.next(bytes);
@@ -186,10 +203,7 @@ impl Passing {
     pub fn pass(&mut self, frames: &mut Frames, bytes: &[u8], at: usize, place: usize) -> Special
         requires next { FindsNext bytes.now self.old.all at self.old.marks }
         requires within { at < length bytes.now }
-        requires few { self.old.feeds ≤ self.old.all }
-        ensures passes { PassesSpecial bytes.now at place self.old frames.old result
-            self.new frames.new }
-        ensures counts { CountsOn bytes.now self.old self.new }
+        ensures { PassesSpecial bytes.now at place self.old frames.old result self.new frames.new }
     {
         let passed = match Class::of(bytes[at]) {
             Class::LineFeed => return self.pass_line_end(frames, at, 1),
@@ -197,7 +211,6 @@ impl Passing {
                 let Some(len) = outer_end_len(&bytes[at..]) else {
                     return Special::Unpassed;
                 };
-                self.returned = true;
                 self.marks.pass(bytes, at + len);
                 return self.pass_line_end(frames, at, len);
             }
@@ -208,8 +221,6 @@ impl Passing {
                     return Special::Unpassed;
                 };
                 self.all = at + 1 + len;
-                self.feeds += 1;
-                self.returned |= bytes[at + 1] == b'\r';
                 self.marks.pass(bytes, self.all);
                 true
             }

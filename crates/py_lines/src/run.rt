@@ -68,6 +68,8 @@ pub enum ByteRun {
     Text(u8),
     /// The text of a string with fields of this quote, up to a brace too.
     Literal(u8),
+    /// The body of a string of three such quotes, up to a quote or a backslash, as far as it is ASCII.
+    LongText(u8),
     /// Code in a field: words, spaces and the operators that it has mostly.
     Code,
 }
@@ -89,6 +91,7 @@ impl ByteRun {
                 let braces = equal(lanes, b'{') | equal(lanes, b'}');
                 body(quote, lanes) & ascii & !braces
             }
+            ByteRun::LongText(quote) => { !(equal(lanes, quote) | equal(lanes, b'\\')) & ascii }
             ByteRun::Code => {
                 let signs = between(lanes, b'*', b'/') | between(lanes, b' ', b'!');
                 words(lanes) | signs | equal(lanes, b'=')
@@ -98,6 +101,7 @@ impl ByteRun {
     }
 
     /// How many such bytes a text begins with. They are taken sixteen at a time.
+    #[tactic(auto, using(crate::proofs::Text::Lanes::sixteen_on))]
     #[inline(always)]
     pub fn len_in(self, bytes: &[u8]) -> usize
         ensures { IsRunOf (is_in_run self) bytes.now result }
@@ -154,7 +158,13 @@ pub fn characters_in(mode: Mode, bytes: &[u8]) -> usize
 {
     let run = match mode {
         Mode::Short(quote) => ByteRun::Body(quote as u8).len_in(bytes),
-        Mode::Long(quote) => long_run(quote as u8, bytes),
+        Mode::Long(quote) => {
+            let ascii = ByteRun::LongText(quote as u8).len_in(bytes);
+            if ascii == bytes.len() || bytes[ascii] < 128 {
+                return ascii;
+            }
+            long_run(quote as u8, bytes)
+        }
         Mode::Comment => comment_run(bytes),
         Mode::Space => return ByteRun::Space.len_in(bytes),
         // After a character of another script, bytes of words mostly don't go on.

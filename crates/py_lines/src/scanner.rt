@@ -170,23 +170,18 @@ impl Scanner {
             return 0;
         }
         let clear = &bytes[..before.min(bytes.len())];
-        let lines = self.feed.state.scan.pass_lines(clear);
+        let len = self.feed.state.scan.pass_lines(clear);
         // The byte after CR shows that the last line is whole.
-        let end = lines.len + clear[..lines.len].ends_with(b"\r") as usize;
-        if self
-            .feed
-            .held
-            .extend_from_slice(&clear[lines.len..end])
-            .is_err()
-        {
+        let end = len + clear[..len].ends_with(b"\r") as usize;
+        if self.feed.held.extend_from_slice(&clear[len..end]).is_err() {
             self.feed.state.restart();
             return 0;
         }
-        self.feed.held.drain(..held.min(lines.len));
-        let line = self.feed.state.line + lines.line_ends;
-        self.feed.state.pass(lines.len, line);
+        self.feed.held.drain(..held.min(len));
+        let line = self.feed.state.line + line_ends(&clear[..len]);
+        self.feed.state.pass(len, line);
         self.feed.state.restart();
-        lines.len
+        len
     }
 
     /// Ends the text: what is left of it is its last line, if anything is left. No line is ready, and `finish` hasn't

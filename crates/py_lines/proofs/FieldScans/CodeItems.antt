@@ -331,7 +331,6 @@ module _ (old : Scan) (t : FieldScanned) (q : ℕ) (quote : is_quote q ≡ true)
 
 -- the prefix of the string
 field_begins : (s : Spelling) → begins_string s ≡ false → is_field_spelling s ≡ false
-field_begins spellings.F none = grind arith
 field_begins s none = grind arith
 
 prefix_grows : (s : Spelling) (held : List ℕ) (q : ℕ) → HoldsCode (plain (modes.Word s)) held → is_quote q ≡ true → begins_string s ≡ true → field_move (plain (modes.Word s)) held q ≡ grows (one_quote (is_field_spelling s) s q)

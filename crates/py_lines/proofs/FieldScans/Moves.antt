@@ -108,14 +108,18 @@ plain_says m held c moves.Closes is own holds =
     let neutral = closing_neutral m (held ++ c ∷ []) c is in (refl, λ done. neutral_alike done (class_of m) (held ++ c ∷ []) neutral.0 neutral.1)
 plain_says m held c v is own holds = grind (arith, plain_before m held own)
 
+body_says : (host : Host) (place : Place) (named : Bool) (at : At) (held : List ℕ) (c : ℕ) (v : FieldMove) → BodyMoved host place named at c v
+    → Says (body host place named at) held c v
+body_says host place named at held c v moved = grind (arith, λ (done : List Piece). neutral_alike done string (held ++ c ∷ []) refl refl)
+
 says : (m : FieldMode) (held : List ℕ) (c : ℕ) → HoldsCode m held → Says m held c (field_move m held c)
 unfolding field_move body_move escape_move between_move
 says (plain m) held c holds = cond_both (begins_host m held c) (grows (opened (host_of held c))) (plain_move (move_of m c)) (Says (plain m) held c)
     (λ h. record { place = refl; holds = tt }) (λ h. plain_says m held c (move_of m c) refl holds (held_after m held c holds))
 says (empty host) held c holds = cond_both (c == host.quote) (grows (body (long_host host) literal false between)) breaks (Says (empty host) held c)
     (λ h. record { place = refl; holds = tt }) (λ h. ending_before (empty host) held refl tt)
-says (body host literal named after_slash) held c holds = grind (arith, λ (done : List Piece). neutral_alike done string (held ++ c ∷ []) refl refl)
-says (body host specification named after_slash) held c holds = grind (arith, λ (done : List Piece). neutral_alike done string (held ++ c ∷ []) refl refl)
+says (body host place named at) held c holds =
+    body_says host place named at held c (field_move (body host place named at) held c) (body_moved host place named at held c)
 says m held c holds = grind (arith, λ (done : List Piece). neutral_alike done string (held ++ c ∷ []) refl refl)
 
 pub said : (m : FieldMode) (held : List ℕ) (c : ℕ) (v : FieldMove) → HoldsCode m held → field_move m held c ≡ v → Says m held c v

@@ -11,12 +11,11 @@ use Rattle.py_lines.specs.declared.mode.Mode.{Mode as OpenMode}
 use Rattle.py_lines.specs.declared.mode.Mode.TheVariants as opens
 use Rattle.py_lines.specs.declared.scan.Scan.{Scan}
 use Rattle.py_lines.specs.Private.Machine.{Start, long_move, move_of, short_move, start_of, Start as starts}
-use Rattle.py_lines.specs.Private.Mode as modes
 use Rattle.py_lines.specs.Private.FieldFaults.{here}
-use Rattle.py_lines.specs.Private.FieldMachine.{At, after_brace, after_slash, between_move, escape_move, FieldMode, FieldMove, FieldScanned, Level, after_operator, before, begins_code, between, body, body_move, breaks, closes, code_operator, ends_field, field_class_of, field_closed, field_ended, field_fresh, field_move, field_moved, field_operator, field_started, field_step, grows, has_room, is_after_brace, opened_level, openers_with, opens_field, plain, refused, specification_ended, text_place}
+use Rattle.py_lines.specs.Private.FieldMachine.{At, after_brace, between_move, FieldMode, FieldMove, FieldScanned, Level, after_operator, before, begins_code, between, body, body_move, breaks, closes, code_operator, ends_field, field_class_of, field_closed, field_ended, field_fresh, field_move, field_moved, field_operator, field_started, field_step, grows, has_room, is_after_brace, opened_level, openers_with, opens_field, refused, specification_ended, text_place}
 use Rattle.py_lines.specs.Private.Scan.{Follows, FramesFollow, Goes, HasNoList, HoldsCode, NoListAt, host_in, mode_from, region_in}
 use Rattle.py_lines.proofs.FieldScans.Bytes.{byte_len-more, push_three, push_two}
-use Rattle.py_lines.proofs.FieldScans.Moves.{bare_in, holds_plain, list_at, said}
+use Rattle.py_lines.proofs.FieldScans.Moves.{BodyMoved, bare_in, body_moved, holds_plain, list_at, said}
 use Rattle.py_lines.proofs.FieldMachine.WholeRuns.{roomy_parts}
 use Rattle.py_lines.proofs.Machine.Soundness.{StartHolds, start_holds}
 use Rattle.py_lines.proofs.Pieces.PieceLists.{piece, spelled-push}
@@ -66,11 +65,14 @@ abbrev StaysWhole : FieldMove → Type 0
 StaysWhole (grows n) = IsWhole n
 StaysWhole other = Unit {0}
 
+moved_whole : (host : Host) (place : Place) (named : Bool) (at : At) (c : ℕ) (v : FieldMove) → BodyMoved host place named at c v → StaysWhole v
+moved_whole host place named at c (grows n) (b, a, is, fit) = subst IsWhole (sym is) (body_whole host place b a fit)
+moved_whole host place named at c v moved = tt
+
 stays_whole : (m : FieldMode) (held : List ℕ) (c : ℕ) → StaysWhole (field_move m held c)
-unfolding field_move move_of short_move long_move body_move escape_move between_move
-stays_whole (plain (modes.Word s)) held c = grind arith
-stays_whole (body host literal named after_slash) held c = grind arith
-stays_whole (body host specification named after_slash) held c = grind arith
+unfolding field_move move_of short_move long_move body_move between_move
+stays_whole (body host place named at) held c =
+    moved_whole host place named at c (field_move (body host place named at) held c) (body_moved host place named at held c)
 stays_whole m held c = grind arith
 
 -- it has come to this byte, and is laid out so

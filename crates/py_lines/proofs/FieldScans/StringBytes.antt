@@ -200,8 +200,7 @@ module _ (h : StringWithFields) (quotes : is_quote h.quote ≡ true) where
   opens_so = open_moves (host_in h) literal between quotes
 
   pending_brace : (mode : OpenMode) → mode_from mode ≡ text_in h regions.Literal false → is_pending mode (123 ∷ []) ≡ true
-  pending_brace (opens.Fields own regions.Literal false) same = refl
-  pending_brace other same = absurd (cc)
+  pending_brace mode same = grind arith
 
   pub waits_brace : (rest : List ℕ) → StartsWithNoChar rest → WaitsInText (text_in h regions.Literal false) (123 ∷ rest)
   waits_brace rest none = waits_low (text_in h regions.Literal false) opened (123 ∷ []) rest refl none (opened, opens_so, refl) pending_brace
@@ -236,8 +235,7 @@ does_so m bytes r place does = does
 -- where a line end may stand after a backslash
 may_escape : (h : StringWithFields) (region : Region) (c : ℕ) → (is_break c ≡ true → region ≡ regions.Specification → h.is_long ≡ true)
     → is_barred_escape (host_in h) (region_in region) c ≡ false
-may_escape h regions.Literal c long = refl
-may_escape h regions.Specification c long = let long_so : is_break c ≡ true → h.is_long ≡ true = λ is. long is refl in grind arith
+may_escape h region c long = grind arith
 
 -- in the text of this string, where a backslash stands first
 module _ (h : StringWithFields) (region : Region) (named : Bool) (bytes : List ℕ) (slash : is_backslash (slice_index bytes 0) ≡ true)
@@ -252,12 +250,10 @@ module _ (h : StringWithFields) (region : Region) (named : Bool) (bytes : List �
   unfolding field_move body_move is_backslash
   goes = slash_grows (host_in h) (region_in region) named between 92 quotes refl
 
-  one_byte : 92 ∷ drop 1 bytes ≡ bytes
-  unfolding is_backslash
-  one_byte = first_byte_at bytes 92 (the_one 92 (slice_index bytes 0) slash) (omega arith)
-
   two_bytes : 2 ≤ length bytes → 92 ∷ slice_index bytes 1 ∷ drop 2 bytes ≡ bytes
-  two_bytes some = ap (λ t. 92 ∷ t) (sym (drop-cons bytes 1 0 some)) ∙ one_byte
+  unfolding is_backslash
+  two_bytes some =
+      ap (λ t. 92 ∷ t) (sym (drop-cons bytes 1 0 some)) ∙ first_byte_at bytes 92 (the_one 92 (slice_index bytes 0) slash) (omega arith)
 
   -- what doesn't tell yet
   pending : (run : List ℕ) → is_part_of_text h.is_long h.quote run ≡ true

@@ -37,8 +37,7 @@ use Rattle.py_lines.specs.Faults.{kind_of_cause}
 
 -- what the scan keeps count of is never the CR of a line end
 not_return : (m : OpenMode) → is_return_at (mode_from m) ≡ false
-not_return opens.Start = refl
-not_return m = refl
+not_return m = grind arith
 
 pub follows_open : (scan : Scan) (t : FieldScanned) → Follows scan t → has_returned t ≡ false
 follows_open scan t follows = ap (λ b. b && (frames t == 0)) (ap is_return_at (sym follows.mode) ∙ not_return scan.mode)
@@ -116,7 +115,7 @@ one_real t u (b ∷ bytes) (c ∷ d ∷ cs) after alike scalars spell (next, ste
     let first : IsFirstByte b c = first_byte c b (encode_utf8_all (d ∷ cs) ++ after) bytes (and_parts _ _ scalars).0 (sym (append_assoc (encode_utf8 c) (encode_utf8_all (d ∷ cs)) after) ∙ spell) in
     (next, alike.step c first ∙ step, on, others)
 
-some_run : (run : List ℕ) (len : ℕ) → byte_len run ≡ len → 0 < len → 0 < length run
+pub some_run : (run : List ℕ) (len : ℕ) → byte_len run ≡ len → 0 < len → 0 < length run
 some_run [] len size some = absurd (omega (arith, size, some))
 some_run (c ∷ cs) len size some = omega arith
 
@@ -248,15 +247,11 @@ no_line_end m breaks c shuts feeds = feeds refl
 no_line_end m v c shuts feeds = refl
 
 -- what begins no line end is no LF
-feeds_no : (c : ℕ) (x : Start) → start_of c ≡ x → (x ≡ starts.LineEnd → ⊥) → is_line_feed c ≡ false
-feeds_no c x is other = false_from_ne_true _ (λ feed. other (sym is ∙ begun_so.start-feed c feed))
-
 pub no_line_before : (m : FieldMode) (c : ℕ) (x : Start) → start_of c ≡ x → (x ≡ starts.LineEnd → ⊥) → is_line_ending m breaks c ≡ false
-no_line_before m c x is other = no_line_end m breaks c (λ e. absurd (keeps_open breaks refl e)) (λ e. feeds_no c x is other)
+no_line_before m c x is other = no_line_end m breaks c (λ e. absurd (keeps_open breaks refl e)) (λ e. false_from_ne_true _ (λ feed. other (sym is ∙ begun_so.start-feed c feed)))
 
 pub line_before : (m : FieldMode) (c : ℕ) → is_line_feed c ≡ true → is_line_ending m breaks c ≡ true
-line_before (plain modes.Return) c feed = feed
-line_before m c feed = feed
+line_before m c feed = grind arith
 
 -- the scan with no piece open after where it stops
 abbrev pub freed : Scan → Scan
@@ -383,13 +378,11 @@ one_comes t c bytes old new progress.Waits first one follow none = absurd none
 
 -- A piece that ends before the next byte counts as finished: the machine comes to the same from its state and from that after the piece.
 ending_cause : (m : FieldMode) (depth c : ℕ) → is_ending m ≡ true → cause_in depth m c ≡ cause_in depth (plain modes.Free) c
-ending_cause (plain modes.Start) depth c may = refl
 ending_cause m depth c may = grind arith
 
 -- LF ends a line before which a piece ends
 ending_breaks : (m : FieldMode) (c : ℕ) → is_line_ending m breaks c ≡ is_line_ending (plain modes.Free) breaks c
-ending_breaks (plain modes.Return) c = refl
-ending_breaks m c = refl
+ending_breaks m c = grind arith
 
 -- a line end may stand wherever a piece ends
 abbrev pub IsTaken : Start → Type 0
@@ -406,7 +399,6 @@ break_starts c h =
     ) h
 
 taken_some : (outer : List Level) (done : List Piece) (openers : List ℕ) (c : ℕ) (x : Start) → IsTaken x → field_started outer done openers c x ≡ None → ⊥
-taken_some outer done openers c starts.Operator taken none = taken
 taken_some outer done openers c x taken none = grind arith
 
 module _ (b : ℕ) (t : FieldScanned) (may : is_ending t.mode ≡ true) (holds : HoldsCode t.mode t.held) (open_yet : has_returned t ≡ false) (ends : (c : ℕ) → IsFirstByte b c → field_move t.mode t.held c ≡ breaks) where
@@ -427,9 +419,6 @@ module _ (b : ℕ) (t : FieldScanned) (may : is_ending t.mode ≡ true) (holds :
   leads_to : (c : ℕ) → IsFirstByte b c → room_step t c ≡ roomy (has_room_at (frames t) c breaks) (field_started t.outer (field_pieces t) t.openers c (start_of c))
   leads_to c first = ap (λ v. roomy (has_room_at (frames t) c v) (field_moved t c v)) (ends c first)
 
-  step_free : (c : ℕ) → room_step U c ≡ roomy (has_room_at (frames t) c breaks) (field_started t.outer (field_pieces t) t.openers c (start_of c))
-  step_free c = ap (λ v. roomy (has_room_at (frames t) c v) (field_moved U c v)) (free_breaks c)
-
   -- no line end is refused
   pub no_break : (c : ℕ) → IsFirstByte b c → room_step t c ≡ None → is_break c ≡ false
   unfolding has_room_at
@@ -446,7 +435,7 @@ module _ (b : ℕ) (t : FieldScanned) (may : is_ending t.mode ≡ true) (holds :
   ends_alike = record {
     here_is = here_same;
     open_yet = open_yet;
-    step = λ c first. leads_to c first ∙ sym (step_free c);
+    step = λ c first. leads_to c first ∙ sym (ap (λ v. roomy (has_room_at (frames t) c v) (field_moved U c v)) (free_breaks c));
     ending = λ c first.
         ap (λ v. (frames t == 0) && is_line_ending t.mode v c) (ends c first) ∙ ap (λ x. (frames t == 0) && x) (ending_breaks t.mode c)
         ∙ sym (ap (λ v. (frames t == 0) && is_line_ending U.mode v c) (free_breaks c));

@@ -1,24 +1,23 @@
 -- How the machine with fields goes through the text of a string: its mode alone tells what a character does, and it alone changes, with the
 -- text that the string holds. And what the items of the text come to for the scan: it goes on, closes the string, waits, or finds a fault.
 -- What opens and ends a field there stands in Openings.
-use Rattle.std.proofs.Common.{◌≡◌, ℕ, true, false, ◌==◌, ◌&&◌, Some, List, [], ◌∷◌, ◌++◌, refl, sym, ap, ◌∙◌, subst, append-nil, append_assoc, ◌+◌, ◌<◌, inl, inr, ◌⊎◌, not, drop, length, length-append, arith}
+use Rattle.std.proofs.Common.{◌≡◌, ℕ, Bool, true, false, ◌==◌, ◌&&◌, Some, List, [], ◌∷◌, ◌++◌, refl, sym, ap, ◌∙◌, subst, append-nil, append_assoc, ◌+◌, ◌<◌, inl, inr, ◌⊎◌, not, drop, length, length-append, arith}
 use Rattle.std.specs.Prelude.{encode_utf8, encode_utf8_all}
 use Rattle.std.proofs.lemmas.Bool.{both_ways, and_from}
 use Rattle.py_lines.specs.Character.{is_break, is_line_feed, is_quote}
 use Rattle.py_lines.specs.Piece.{Piece, spelled, string}
-use Rattle.py_lines.specs.Faults.{Cause, brace_too_deep, breaks_string, ends_specification, kind_of_cause}
-use Rattle.py_lines.specs.FieldStrings.{Place, literal, specification}
+use Rattle.py_lines.specs.Faults.{Cause, breaks_string, ends_specification, kind_of_cause}
+use Rattle.py_lines.specs.FieldStrings.{Host, Place, literal, specification}
 use Rattle.py_lines.specs.LogicalLine.{byte_len}
 use Rattle.py_lines.specs.Private.Mode as modes
 use Rattle.py_lines.specs.Private.Machine.{move_of, short_move, long_move, Move as moves}
-use Rattle.py_lines.specs.Private.FieldMachine.{after_slash, between_move, body_move, escape_move, FieldMode, FieldMove, FieldScanned, Level, plain, body, grows, closes, breaks, ends_field, before, field_class_of, field_closed, field_move, field_moved, field_state, frames, has_room_at, room_step, roomy, text_place, refused}
-use Rattle.py_lines.specs.Private.FieldFaults.{cause_in, cause_place, here, piece_start, field_start}
+use Rattle.py_lines.specs.Private.FieldMachine.{At, FieldMode, FieldMove, FieldScanned, Level, plain, body, grows, closes, breaks, ends_field, before, field_class_of, field_closed, field_move, field_moved, field_state, frames, has_room_at, room_step, roomy, text_place, refused}
+use Rattle.py_lines.specs.Private.FieldFaults.{cause_in, cause_place, here, field_start}
 use Rattle.py_lines.specs.Private.Scan.{GoAlike, Goes, IsFirstByte, IsOneItem, StandsAs, TextAs, TextGoes, is_break_move, is_line_ending, is_return_at, is_shut, is_text, mode_from, BreaksInText, Follows, GoesOver, GoesOverAll, GrowsInText, HasPending, HasQuote, HoldsCode, IsFieldFault, IsWrongIn, QuotesInText, Rests, WaitsInText, has_returned, passed}
 use Rattle.py_lines.specs.declared.mode.Mode.{Mode as OpenMode}
-use Rattle.py_lines.specs.declared.mode.Mode.TheVariants as opens
 use Rattle.py_lines.proofs.Pieces.PieceLists.{piece}
 use Rattle.py_lines.proofs.FieldMachine.Runs.{room_grows}
-use Rattle.py_lines.proofs.FieldScans.Moves.{list_at}
+use Rattle.py_lines.proofs.FieldScans.Moves.{BodyMoved, body_moved, list_at}
 use Rattle.py_lines.proofs.FieldScans.Taking.{Shut, StandsAt, by_line, by_room, free_at, goes_on, steps, no_step, stands_at, stands_shut, rests_exact}
 use Rattle.std.specs.Char.{len_utf8}
 use Rattle.std.specs.List.{list_all}
@@ -48,7 +47,6 @@ InText (body host place named at) = Unit {0}
 InText other = ⊥
 
 pub text_mode : (m : OpenMode) → is_text m ≡ true → InText (mode_from m)
-text_mode (opens.Short q) is = tt
 text_mode m is = grind arith
 
 -- what it holds counts for nothing
@@ -67,79 +65,71 @@ pub record IsTextMode (m : FieldMode) : Type 0 where
   pub not_shut : is_shut m ≡ false
 
 pub text_is : (m : FieldMode) → InText m → IsTextMode m
-text_is (plain (modes.Inside q)) in_text = grind arith
 text_is m in_text = grind arith
 
--- by a character with which it goes on it stays so, in the same place; it is closed in a literal part, and a field is ended in a
--- specification
+-- by a character with which it goes on it stays so, in the same place; it is closed in a literal part, a field is ended in a
+-- specification, and it never ends before a character
 abbrev pub StaysText : Place → FieldMove → Type 0
 StaysText place (grows n) = InText n × (text_place n ≡ place)
 StaysText place closes = place ≡ literal
 StaysText place ends_field = place ≡ specification
+StaysText place breaks = ⊥
 StaysText place other = Unit {0}
 
+body_stays : (host : Host) (place : Place) (named : Bool) (at : At) (c : ℕ) (v : FieldMove) → BodyMoved host place named at c v → StaysText place v
+body_stays host place named at c v moved = grind arith
+
 pub text_stays : (m : FieldMode) (c : ℕ) → InText m → StaysText (text_place m) (field_move m [] c)
-unfolding field_move move_of short_move long_move body_move escape_move between_move
-text_stays (plain (modes.Inside q)) c in_text = grind arith
-text_stays (body host literal named after_slash) c in_text = grind arith
-text_stays (body host specification named after_slash) c in_text = grind arith
+unfolding field_move move_of short_move long_move
+text_stays (body host place named at) c in_text =
+    body_stays host place named at c (field_move (body host place named at) [] c) (body_moved host place named at [] c)
 text_stays m c in_text = grind arith
 
-grows_text : (m n : FieldMode) (c : ℕ) → InText m → field_move m [] c ≡ grows n → InText n × (text_place n ≡ text_place m)
-grows_text m n c in_text is = subst (StaysText (text_place m)) is (text_stays m c in_text)
+no_break : (m : FieldMode) (held : List ℕ) (c : ℕ) → InText m → is_break_move (field_move m held c) ≡ false
+no_break m held c in_text = ap is_break_move (held_nothing m held c in_text) ∙ by (field_move m [] c) (text_stays m c in_text)
+  where
+    by : (v : FieldMove) → StaysText (text_place m) v → is_break_move v ≡ false
+    by breaks none = absurd none
+    by v stays = refl
 
--- the open piece doesn't end before the first of these characters
-abbrev FirstStays : FieldScanned → List ℕ → Type 0
-FirstStays t [] = Unit {0}
-FirstStays t (c ∷ cs) = is_break_move (field_move t.mode t.held c) ≡ false
-
-item_on : (t u : FieldScanned) (c : ℕ) (cs : List ℕ) → room_step t c ≡ Some u → FirstStays u cs → IsOneItem u cs → IsOneItem t (c ∷ cs)
-item_on t u c [] step stays one = tt
-item_on t u c (d ∷ ds) step stays one = (u, step, stays, one)
-
-first_stays : (outer : List Level) (done : List Piece) (openers : List ℕ) (m n : FieldMode) (held run : List ℕ) → InText m → TextGoes m run n → FirstStays (field_state outer done openers m held) run
-first_stays outer done openers m n held [] in_text goes = tt
-first_stays outer done openers m n held (c ∷ cs) in_text (next, is, goes) = ap is_break_move (held_nothing m held c in_text ∙ is)
-
-first_then : (outer : List Level) (done : List Piece) (openers : List ℕ) (m n : FieldMode) (held run : List ℕ) (c : ℕ) → InText m → TextGoes m run n → is_break_move (field_move n [] c) ≡ false
-    → FirstStays (field_state outer done openers m held) (run ++ c ∷ [])
-first_then outer done openers m n held [] c in_text same stays = ap is_break_move (held_nothing m held c in_text ∙ ap (λ x. field_move x [] c) same) ∙ stays
-first_then outer done openers m n held (d ∷ ds) c in_text (next, is, goes) stays = ap is_break_move (held_nothing m held d in_text ∙ is)
+item_on : (t u : FieldScanned) (c : ℕ) (cs : List ℕ) → room_step t c ≡ Some u → InText u.mode → IsOneItem u cs → IsOneItem t (c ∷ cs)
+item_on t u c [] step in_text one = tt
+item_on t u c (d ∷ ds) step in_text one = (u, step, no_break u.mode u.held d in_text, one)
 
 -- so the machine goes on where nothing else is open in it
-pub record TextWay (outer : List Level) (done : List Piece) (openers : List ℕ) (m n : FieldMode) (held run : List ℕ) : Type 0 where
-  pub goes : Goes (field_state outer done openers m held) run (field_state outer done openers n (held ++ run))
-  pub one : IsOneItem (field_state outer done openers m held) run
-  pub one_then : (c : ℕ) → is_break_move (field_move n [] c) ≡ false → IsOneItem (field_state outer done openers m held) (run ++ c ∷ [])
-  pub in_text : InText n
-  pub place : text_place n ≡ text_place m
+module _ (outer : List Level) (done : List Piece) (openers : List ℕ) (n : FieldMode) where
+  abbrev In : FieldMode → List ℕ → FieldScanned
+  In m held = field_state outer done openers m held
 
-pub text_way : (outer : List Level) (done : List Piece) (openers : List ℕ) (m n : FieldMode) (held run : List ℕ) → InText m → TextGoes m run n → TextWay outer done openers m n held run
-text_way outer done openers m n held [] in_text same = record {
-  goes = ap (λ x. field_state outer done openers x held) same ∙ ap (field_state outer done openers n) (sym (append-nil held));
-  one = tt;
-  one_then = λ c stays. tt;
-  in_text = subst InText same in_text;
-  place = ap text_place (sym same);
-}
-text_way outer done openers m n held (c ∷ cs) in_text (next, is, goes) = let t : FieldScanned = field_state outer done openers m held in
-    let u : FieldScanned = field_state outer done openers next (held ++ c ∷ []) in
-    let move : field_move m held c ≡ grows next = held_nothing m held c in_text ∙ is in let k = grows_text m next c in_text is in
-    let way = text_way outer done openers next n (held ++ c ∷ []) cs k.0 goes in let own = text_is m in_text in
-    let step : room_step t c ≡ Some u = steps t c (grows next) move u (room_grows (frames t) c next) refl in
-    record {
-      goes = (
-        ap (λ b. b && (frames t == 0)) own.no_return,
-        u,
-        step,
-        goes_on t c (grows next) move (own.no_line (grows next) c),
-        subst (λ x. Goes u cs (field_state outer done openers n x)) (append_assoc held (c ∷ []) cs) way.goes,
-      );
-      one = item_on t u c cs step (first_stays outer done openers next n (held ++ c ∷ []) cs k.0 goes) way.one;
-      one_then = λ d stays. item_on t u c (cs ++ d ∷ []) step (first_then outer done openers next n (held ++ c ∷ []) cs d k.0 goes stays) (way.one_then d stays);
-      in_text = way.in_text;
-      place = way.place ∙ k.1;
-    }
+  pub record TextWay (m : FieldMode) (held run : List ℕ) : Type 0 where
+    pub goes : Goes (In m held) run (In n (held ++ run))
+    pub one : IsOneItem (In m held) run
+    pub one_then : (c : ℕ) → IsOneItem (In m held) (run ++ c ∷ [])
+    pub in_text : InText n
+    pub place : text_place n ≡ text_place m
+
+  pub text_way : (m : FieldMode) (held run : List ℕ) → InText m → TextGoes m run n → TextWay m held run
+  text_way m held [] in_text same = record {
+    goes = ap (λ x. In x held) same ∙ ap (In n) (sym (append-nil held));
+    one = tt;
+    one_then = λ c. tt;
+    in_text = subst InText same in_text;
+    place = ap text_place (sym same);
+  }
+  text_way m held (c ∷ cs) in_text (next, is, goes) = let t : FieldScanned = In m held in let u : FieldScanned = In next (held ++ c ∷ []) in
+      let move : field_move m held c ≡ grows next = held_nothing m held c in_text ∙ is in
+      let k : InText next × (text_place next ≡ text_place m) = subst (StaysText (text_place m)) is (text_stays m c in_text) in
+      let way = text_way next (held ++ c ∷ []) cs k.0 goes in let own = text_is m in_text in
+      let step : room_step t c ≡ Some u = steps t c (grows next) move u (room_grows (frames t) c next) refl in
+      let on = goes_on t c (grows next) move (own.no_line (grows next) c) in
+      let others = subst (λ x. Goes u cs (In n x)) (append_assoc held (c ∷ []) cs) way.goes in
+      record {
+        goes = (ap (λ b. b && (frames t == 0)) own.no_return, u, step, on, others);
+        one = item_on t u c cs step k.0 way.one;
+        one_then = λ d. item_on t u c (cs ++ d ∷ []) step k.0 (way.one_then d);
+        in_text = way.in_text;
+        place = way.place ∙ k.1;
+      }
 
 -- the same text in two modes, before a byte after which they come to the same
 module _ (outer : List Level) (done : List Piece) (openers : List ℕ) (m n : FieldMode) (held : List ℕ) where
@@ -154,12 +144,8 @@ module _ (outer : List Level) (done : List Piece) (openers : List ℕ) (m n : Fi
   here_alike : text_place m ≡ text_place n → here (T m) ≡ here (T n)
   here_alike same = ap (λ p. byte_len (before p outer ++ (spelled done ++ held))) same
 
-  start_alike : text_place m ≡ text_place n → piece_start (T m) ≡ piece_start (T n)
-  start_alike same = ap (λ p. byte_len (before p outer ++ spelled done)) same
-
   place_alike : text_place m ≡ text_place n → (cause : Cause) → cause_place (T m) cause ≡ cause_place (T n) cause
-  place_alike same brace_too_deep = grind (arith, here_alike same)
-  place_alike same cause = grind (arith, here_alike same, start_alike same)
+  place_alike same cause = grind (arith, here_alike same, ap (λ p. byte_len (before p outer ++ spelled done)) same)
 
   pub same_alike : (b : ℕ) → IsTextMode m → IsTextMode n → text_place m ≡ text_place n → ((c : ℕ) → IsFirstByte b c → field_move m held c ≡ field_move n held c)
       → ((c depth : ℕ) → IsFirstByte b c → cause_in depth m c ≡ cause_in depth n c) → GoAlike b (T m) (T n)
@@ -200,7 +186,6 @@ pub two_low : (c : ℕ) → c < 128 → AreLow (c ∷ c ∷ [])
 two_low c low = and_from _ _ (is_low_from c low) (one_low c low)
 
 text_holds : (m : FieldMode) (held : List ℕ) → InText m → HoldsCode m held
-text_holds (plain (modes.Inside q)) held in_text = tt
 text_holds m held in_text = grind arith
 
 as_places : (bytes : List ℕ) (m n : FieldMode) → TextAs bytes m n → text_place n ≡ text_place m
@@ -248,7 +233,7 @@ module _ (old : Scan) (t : FieldScanned) (follow : Follows old t) (is : is_text 
 
   -- it goes on
   pub grows_over : (bytes : List ℕ) (mode : OpenMode) (len : ℕ) (new : Scan) → GrowsInText t.mode bytes mode len → new ≡ record old { mode = mode; stop = old.stop + len } → GoesOver t bytes len new
-  grows_over bytes mode len new g like = let way = text_way t.outer t.done t.openers t.mode g.to t.held g.run text_open g.goes in
+  grows_over bytes mode len new g like = let way = text_way t.outer t.done t.openers g.to t.mode t.held g.run text_open g.goes in
       let follows = text_follows mode g.run len g.text g.quote (as_places (drop len bytes) g.to (mode_from mode) g.alike ∙ way.place) g.size in
       let stands = text_stands t.outer t.done t.openers g.to (mode_from mode) (t.held ++ g.run) (drop len bytes) way.in_text (text_mode mode g.text) g.alike in
       let rests : Rests (record old { mode = mode; stop = old.stop + len }) (with_run g.to g.run) (drop len bytes) = record { as_if = _; follows = follows; stands = stands } in
@@ -256,7 +241,7 @@ module _ (old : Scan) (t : FieldScanned) (follow : Follows old t) (is : is_text 
 
   -- quotes close it
   pub closes_over : (bytes : List ℕ) (len : ℕ) (new : Scan) → QuotesInText t.mode bytes len closes → new ≡ passed old len → GoesOver t bytes len new
-  closes_over bytes len new q like = let way = text_way t.outer t.done t.openers t.mode q.to t.held q.run text_open q.goes in
+  closes_over bytes len new q like = let way = text_way t.outer t.done t.openers q.to t.mode t.held q.run text_open q.goes in
       let one = quote_ascii q.quote q.is_one in let low_run : AreLow q.run = quotes_low q.quote q.run q.is_one q.low in
       let run : List ℕ = q.run ++ q.quote ∷ [] in
       let low : AreLow run = list_all-append is_low q.run (q.quote ∷ []) ∙ and_from _ _ low_run (one_low q.quote one) in
@@ -275,12 +260,12 @@ module _ (old : Scan) (t : FieldScanned) (follow : Follows old t) (is : is_text 
       let goes : Goes t run closed = goes-append t at closed q.run (q.quote ∷ []) way.goes
       (ap (λ b. b && (frames at == 0)) own.no_return, closed, shut.0, goes_on at q.quote closes move (own.no_line closes q.quote), refl) in
       let follows : Follows (passed old len) closed = subst (λ n. Follows (free_at old.frames n) closed) far shut.1 in
-      rw like (search (some, spell, low_scalars run low, size, goes, way.one_then q.quote (ap is_break_move q.does), rests_exact (passed old len) closed (drop len bytes) follows))
+      rw like (search (some, spell, low_scalars run low, size, goes, way.one_then q.quote, rests_exact (passed old len) closed (drop len bytes) follows))
 
   -- the bytes don't tell yet
   pub waits_over : (bytes : List ℕ) → WaitsInText (mode_from old.mode) bytes → (all : GoesOverAll t bytes) × (has_returned all.to ≡ true → all.rest ≡ []) × HasPending old.mode bytes × (old ≡ old)
   waits_over bytes w =
-      let way = text_way t.outer t.done t.openers t.mode w.to t.held w.run text_open (subst (λ (m : FieldMode). TextGoes m w.run w.to) follow.mode w.goes) in (
+      let way = text_way t.outer t.done t.openers w.to t.mode t.held w.run text_open (subst (λ (m : FieldMode). TextGoes m w.run w.to) follow.mode w.goes) in (
         record { run = w.run; rest = w.rest; spell = w.spell; scalars = w.scalars; none = w.none; to = with_run w.to w.run; goes = way.goes; one = way.one },
         λ returned. absurd (both_ways _ (ap (λ b. b && (frames t == 0)) (text_is w.to way.in_text).no_return) returned),
         record { run = w.run; rest = w.rest; spell = w.spell; none = w.none; is = w.pending old.mode refl },
@@ -291,7 +276,7 @@ module _ (old : Scan) (t : FieldScanned) (follow : Follows old t) (is : is_text 
   refused_in : (bytes run after : List ℕ) (c : ℕ) (to : FieldMode) (cause : Cause) (f : LineFault) → AreLow run → c < 128 → run ++ c ∷ after ≡ bytes → TextGoes t.mode run to → field_move to [] c ≡ refused
       → cause_in (frames t) to c ≡ cause → f.kind ≡ kind_of_cause cause → f.place ≡ cause_place (with_run to run) cause → IsWrongIn t bytes f
   refused_in bytes run after c to cause f low one spell goes does because kind place =
-      let way = text_way t.outer t.done t.openers t.mode to t.held run text_open goes in let own = text_is to way.in_text in
+      let way = text_way t.outer t.done t.openers to t.mode t.held run text_open goes in let own = text_is to way.in_text in
       let spelled_so : encode_utf8_all run ++ (encode_utf8 c ++ after) ≡ bytes =
       ap (λ x. x ++ (encode_utf8 c ++ after)) (low_encoded run low) ∙ ap (λ x. run ++ (x ++ after)) (encode_ascii c one) ∙ spell in
       let fault : IsFieldFault (with_run to run) c f = (kind ∙ ap kind_of_cause (sym because), place ∙ ap (cause_place (with_run to run)) (sym because)) in
@@ -300,7 +285,7 @@ module _ (old : Scan) (t : FieldScanned) (follow : Follows old t) (is : is_text 
         low_scalars run low,
         low_scalar c (omega (arith, one)),
         way,
-        way.one_then c (ap is_break_move does),
+        way.one_then c,
         ap (λ b. (b && (frames t == 0)) && not (is_line_feed c)) own.no_return,
         no_step (with_run to run) c refused (held_nothing to (t.held ++ run) c way.in_text ∙ does) refl,
         fault,
@@ -308,7 +293,7 @@ module _ (old : Scan) (t : FieldScanned) (follow : Follows old t) (is : is_text 
 
   -- a line end may not stand there
   pub breaks_there : (bytes : List ℕ) (f : LineFault) → BreaksInText t.mode bytes → f ≡ record { kind = fault_kind.OpenString; place = old.start } → IsWrongIn t bytes f
-  breaks_there bytes f x is_f = let way = text_way t.outer t.done t.openers t.mode x.to t.held x.run text_open x.goes in
+  breaks_there bytes f x is_f = let way = text_way t.outer t.done t.openers x.to t.mode t.held x.run text_open x.goes in
       refused_in bytes x.run x.after x.c x.to breaks_string f (slash_low x.run x.first) (break_low x.c x.breaking) x.spell x.goes x.does
       (rw (x.waits, x.breaking)) (ap (λ (g : LineFault). g.kind) is_f)
       (ap (λ (g : LineFault). g.place) is_f ∙ follow.start ∙ ap (λ p. byte_len (before p t.outer ++ spelled t.done)) (sym way.place))

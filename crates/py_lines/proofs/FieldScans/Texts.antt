@@ -1,12 +1,11 @@
 -- Simple text of a string with fields: the machine goes through it, from one place to another.
-use Rattle.std.proofs.Common.{◌≡◌, ℕ, ◌+◌, ◌<◌, ◌≤◌, Bool, true, false, not, ◌&&◌, ◌==◌, Some, List, [], ◌∷◌, ◌++◌, length, refl, sym, ap, ◌∙◌, subst, append_assoc, append-nil, arith}
+use Rattle.std.proofs.Common.{◌≡◌, ℕ, ◌+◌, ◌<◌, ◌≤◌, Bool, true, false, not, ◌&&◌, ◌==◌, Some, List, [], ◌∷◌, ◌++◌, length, refl, sym, ap, ◌∙◌, subst, arith}
 use Rattle.std.specs.Prelude.{nat_lt}
 use Rattle.std.proofs.lemmas.Bool.Decides.{nat_tests}
 use Rattle.std.specs.List.{list_all}
-use Rattle.std.specs.Str.{byte}
 use Rattle.std.proofs.lemmas.Bool.{and_from, and_parts, and_right, eq-eqb}
 use Rattle.std.proofs.lemmas.List.Folds.{list_all-append}
-use Rattle.py_lines.specs.Character.{is_space, is_word_character, is_quote, is_operator, is_break, is_backslash, is_brace, is_line_feed}
+use Rattle.py_lines.specs.Character.{is_space, is_quote, is_operator, is_break, is_backslash, is_brace, is_line_feed}
 use Rattle.py_lines.specs.Piece.{Piece, spelled, operator, string}
 use Rattle.py_lines.specs.Balance.{is_opening, is_closing, closing_of}
 use Rattle.py_lines.specs.FieldStrings.{Host, Place, literal, specification}
@@ -18,7 +17,7 @@ use Rattle.py_lines.specs.Private.FieldText.{is_apart_mode, is_escaped, InText, 
 use Rattle.py_lines.specs.Private.Marks.{is_plain}
 use Rattle.py_lines.specs.Private.Run.{is_ascii_word, is_text_byte, is_body_byte, is_line_byte, is_literal_byte, is_code_sign, is_code_byte}
 use Rattle.py_lines.proofs.Pieces.PieceLists.{piece}
-use Rattle.py_lines.proofs.Text.CharacterTests.{each_of, none_of, not_quote, operator_ascii, excluded}
+use Rattle.py_lines.proofs.Text.CharacterTests.{none_of, not_quote, operator_ascii, excluded}
 use Rattle.py_lines.proofs.Machine.Starts.{opens_no, start-word, start-space, start-operator, start-quote}
 use Rattle.py_lines.proofs.FieldMachine.Runs.{room_at, room_closes, room_grows, stops-fresh}
 use Rattle.py_lines.proofs.FieldMachine.PlainSteps.{plain_moves}
@@ -30,7 +29,7 @@ use Rattle.py_lines.proofs.FieldScans.PlainCode.{code_result, code_results, oper
 use Rattle.py_lines.proofs.FieldScans.Returns.{no_line_end}
 use Rattle.py_lines.proofs.FieldScans.Taking.{goes_on, no_opening, some_level, steps}
 use Rattle.py_lines.proofs.FieldScans.Takes.{goes-append}
-use Rattle.py_lines.proofs.LineScan.AsciiRuns.{all_also, line_byte, operator-no_break, word_starts, low_is, quote_ascii, quote-no_break, space-not-quote, word-no_break}
+use Rattle.py_lines.proofs.LineScan.AsciiRuns.{line_byte, operator-no_break, word_starts, low_is, quote_ascii, quote-no_break, space-not-quote, word-no_break}
 use Rattle.py_lines.proofs.LineScan.Runs.{body_parts}
 use Rattle.py_lines.proofs.FieldMachine.WholeRuns.{roomy_parts}
 use Rattle.py_lines.proofs.LogicalLines.Cuts.{break-return}
@@ -44,16 +43,13 @@ Spot = List Level → Level → FieldScanned → Type 0
 abbrev GoesOpen : FieldScanned → List ℕ → FieldScanned → Type 0
 GoesOpen t run u = Goes t run u × KeepsOpen t run
 
-no_feed : (c : ℕ) → is_break c ≡ false → is_line_feed c ≡ false
-unfolding is_break is_line_feed
-no_feed c none = grind arith
-
 -- one character
 one_step : (t next : FieldScanned) (c : ℕ) (v : FieldMove) → is_return_at t.mode ≡ false → is_break c ≡ false → field_move t.mode t.held c ≡ v
     → has_room_at (frames t) c v ≡ true → field_moved t c v ≡ Some next → (next.outer ≡ [] → is_shut next.mode ≡ false) → GoesOpen t (c ∷ []) next
+unfolding is_break is_line_feed
 one_step t next c v apart none is room comes still =
     let open_yet : has_returned t ≡ false = ap (λ b. b && (frames t == 0)) apart in let step = steps t c v is next room comes in
-    ((open_yet, next, step, no_line_end t c open_yet (no_feed c none), refl), (next, step, still, tt))
+    ((open_yet, next, step, no_line_end t c open_yet (grind arith), refl), (next, step, still, tt))
 
 -- one by which the text of a string grows
 grows_to : (t : FieldScanned) (c : ℕ) (m : FieldMode) → is_return_at t.mode ≡ false → is_break c ≡ false → (t.outer ≡ [] → is_shut m ≡ false)
@@ -96,23 +92,30 @@ one_low c low none = and_from _ _ (line_byte c low none) refl
 operator_line : (c : ℕ) → is_operator c ≡ true → list_all is_line_byte (c ∷ []) ≡ true
 operator_line c h = one_low c (operator_ascii c h) (operator-no_break c h)
 
--- a run of characters each of which leads back
-leads-run : (passes : ℕ → Bool) (quote : ℕ) (P : Spot) → ((c : ℕ) → passes c ≡ true → Leads quote P (c ∷ []) P) → (run : List ℕ)
-    → list_all passes run ≡ true → Leads quote P run P
-leads-run passes quote P each [] all = record { low = refl; goes = λ outer l t same quotes room at. (t, refl, tt, at) }
-leads-run passes quote P each (c ∷ cs) all =
+-- whether a word stands last, where one stands before or none does
+abbrev pub ends_in_word : Bool → List ℕ → Bool
+ends_in_word word [] = word
+ends_in_word word (c ∷ cs) = ends_in_word (is_ascii_word c) cs
+
+-- a run of characters each of which leads on from where a word stands last, or none does
+leads-run : (passes : ℕ → Bool) (quote : ℕ) (P : Bool → Spot)
+    → ((word : Bool) (c : ℕ) → passes c ≡ true → Leads quote (P word) (c ∷ []) (P (is_ascii_word c)))
+    → (word : Bool) (run : List ℕ) → list_all passes run ≡ true → Leads quote (P word) run (P (ends_in_word word run))
+leads-run passes quote P each word [] all = record { low = refl; goes = λ outer l t same quotes room at. (t, refl, tt, at) }
+leads-run passes quote P each word (c ∷ cs) all =
     let parts = and_parts (passes c) (list_all passes cs) all in
-    leads-append quote P P P (c ∷ []) cs (each c parts.0) (leads-run passes quote P each cs parts.1)
+    leads-append quote _ _ _ (c ∷ []) cs (each word c parts.0) (leads-run passes quote P each (is_ascii_word c) cs parts.1)
+
+-- or leads back
+leads-back : (passes : ℕ → Bool) (quote : ℕ) (P : Spot) → ((c : ℕ) → passes c ≡ true → Leads quote P (c ∷ []) P) → (run : List ℕ)
+    → list_all passes run ≡ true → Leads quote P run P
+leads-back passes quote P each = leads-run passes quote (λ word. P) (λ word. each) false
 
 -- what grows a string's text
-brace_parts : (c : ℕ) → is_brace c ≡ false → (c == byte "{" ≡ false) × (c == byte "}" ≡ false)
-unfolding is_brace
-brace_parts c h = (grind (arith, nat_tests), grind (arith, nat_tests))
-
 pub text_stays : (h : Host) (place : Place) (named : Bool) (c : ℕ) → c == h.quote ≡ false → is_backslash c ≡ false → is_break c ≡ false
     → is_brace c ≡ false → body_move h place named between c ≡ grows (body h place named between)
-unfolding body_move between_move
-text_stays h place named c quote slash none brace = let braces = brace_parts c brace in rw (quote, slash, none, braces.0, braces.1) refl
+unfolding body_move between_move is_brace
+text_stays h place named c quote slash none brace = grind (arith, nat_tests)
 
 -- what a character of text is
 pub record IsLiteral (quote c : ℕ) : Type 0 where
@@ -123,9 +126,7 @@ pub record IsLiteral (quote c : ℕ) : Type 0 where
   pub brace : is_brace c ≡ false
 
 pub literal_parts : (quote c : ℕ) → is_literal_byte quote c ≡ true → IsLiteral quote c
-literal_parts quote c h =
-    let parts = body_parts quote c (grind arith) in
-    record { low = grind (arith, nat_tests); other = parts.0; slash = parts.1; none = parts.2; brace = grind arith }
+literal_parts quote c h = grind (arith, nat_tests, body_parts quote c)
 
 text_grows : (h : Host) (quote c : ℕ) → h.quote ≡ quote → IsLiteral quote c → (held : List ℕ) → (place : Place)
     → field_move (body h place false between) held c ≡ grows (body h place false between)
@@ -141,15 +142,14 @@ part_leads : (quote c : ℕ) (a b : At) → c < 128 → is_break c ≡ false
     → Leads quote (InPart a) (c ∷ []) (InPart b)
 part_leads quote c a b low none moves =
     leads_by quote (InPart a) (InPart b) (c ∷ []) (one_low c low none) (λ outer l t few (held, is).
-    subst (λ x. (u : FieldScanned) × GoesOpen x (c ∷ []) u × InPart b outer l u) (sym is) (
-      field_state outer l.done l.openers (body l.host literal false b) (held ++ c ∷ []),
-      grows_to (field_state outer l.done l.openers (body l.host literal false a) held) c (body l.host literal false b) refl none (λ outside. refl) (moves l.host held few.0 (ap is_quote few.0 ∙ few.1)),
-      (held ++ c ∷ [], refl),
-    ))
+    let next : FieldScanned = field_state outer l.done l.openers (body l.host literal false b) (held ++ c ∷ []) in
+    let goes = grows_to (field_state outer l.done l.openers (body l.host literal false a) held) c (body l.host literal false b) refl none (λ outside. refl)
+    (moves l.host held few.0 (ap is_quote few.0 ∙ few.1)) in
+    (next, subst (λ x. GoesOpen x (c ∷ []) next) (sym is) goes, (held ++ c ∷ [], refl)))
 
 pub texts_lead : (quote : ℕ) (run : List ℕ) → list_all (is_literal_byte quote) run ≡ true → Leads quote InText run InText
 texts_lead quote =
-    leads-run (is_literal_byte quote) quote InText (λ c h.
+    leads-back (is_literal_byte quote) quote InText (λ c h.
     let is = literal_parts quote c h in
     part_leads quote c between between is.low is.none (λ host held same quotes. text_grows host quote c same is held literal))
 
@@ -211,12 +211,6 @@ Fits passes (grows (plain n)) = passes n ≡ true
 Fits passes breaks = Unit {0}
 Fits passes other = ⊥
 
-fits_code : (m : Mode) (c : ℕ) → Fits is_code_mode (code_result m c)
-fits_code m c = grind arith
-
-fits_apart : (m : Mode) (c : ℕ) → is_word_character c ≡ false → Fits is_apart_mode (code_result m c)
-fits_apart m c other = grind arith
-
 space-no_break : (c : ℕ) → is_space c ≡ true → is_break c ≡ false
 unfolding is_space is_break
 space-no_break c h = none_of is_break (32 ∷ 9 ∷ 12 ∷ []) c refl h
@@ -248,18 +242,9 @@ leads_to_code word os quote P run leads =
     leads_by quote P (InCode os) run leads.low (λ outer l t few at.
     let (u, goes, keeps, to) = leads.goes outer l t few.0 few.1 few.2 at in (u, (goes, keeps), search (to, passes_code word to.mode to.simple)))
 
--- whether a word stands last, where one stands before or none does
-abbrev pub ends_in_word : Bool → List ℕ → Bool
-ends_in_word word [] = word
-ends_in_word word (c ∷ cs) = ends_in_word (is_ascii_word c) cs
-
--- from a place in the code of a field to another, through these characters
-record CodeTo (passes : Mode → Bool) (outer : List Level) (l : Level) (front os : List ℕ) (t : FieldScanned) (run : List ℕ) : Type 0 where
-  done : List Piece
-  mode : Mode
-  held : List ℕ
-  goes : GoesOpen t run (in_code outer l front done os mode held)
-  simple : passes mode ≡ true
+standing : (passes : Mode → Bool) (os : List ℕ) (outer : List Level) (l : Level) (front : List ℕ) (done : List Piece) (m : Mode) (held : List ℕ)
+    → passes m ≡ true → StandsInCode passes os outer l (in_code outer l front done os m held)
+standing passes os outer l front done m held simple = record { front = front; done = done; mode = m; held = held; is = refl; simple = simple }
 
 code_apart : (m : Mode) → is_code_mode m ≡ true → is_return_at (plain m) ≡ false
 code_apart m simple = grind arith
@@ -269,7 +254,7 @@ module _ (outer : List Level) (l : Level) (front os : List ℕ) (ps : List Piece
   T = in_code outer l front ps os m held
 
   abbrev To : (Mode → Bool) → Type 0
-  To passes = CodeTo passes outer l front os T (c ∷ [])
+  To passes = (u : FieldScanned) × GoesOpen T (c ∷ []) u × StandsInCode passes os outer l u
 
   abbrev Ends : FieldScanned → Type 0
   Ends next = field_started (level_after l front ∷ outer) (closed m ps held) os c (start_of c) ≡ Some next
@@ -288,15 +273,18 @@ module _ (outer : List Level) (l : Level) (front os : List ℕ) (ps : List Piece
   piece_goes passes begun quote none opens fits moves = go (code_result m c) (code_results m held c simple quote) moves
     where
       go : (v : FieldMove) → field_move (plain m) held c ≡ v → Fits passes v → To passes
-      go (grows (plain n)) move more =
-          record { done = ps; mode = n; held = held ++ c ∷ []; goes = grows_to T c (plain n) (code_apart m simple) none (inside (plain n)) move; simple = more }
-      go breaks move more = record {
-        done = closed m ps held;
-        mode = begun;
-        held = c ∷ [];
-        goes = breaks_to (in_code outer l front (closed m ps held) os begun (c ∷ [])) none move (no_opening _ c (opens_no c (starts.Open begun) opens (λ other. absurd (cc)))) (ap (field_started (level_after l front ∷ outer) (closed m ps held) os c) opens) (inside (plain begun));
-        simple = fits;
-      }
+      go (grows (plain n)) move more = (
+        in_code outer l front ps os n (held ++ c ∷ []),
+        grows_to T c (plain n) (code_apart m simple) none (inside (plain n)) move,
+        standing passes os outer l front ps n (held ++ c ∷ []) more,
+      )
+      go breaks move more =
+          let next : FieldScanned = in_code outer l front (closed m ps held) os begun (c ∷ []) in
+          let room = no_opening _ c (opens_no c (starts.Open begun) opens (λ other. absurd (cc))) in (
+            next,
+            breaks_to next none move room (ap (field_started (level_after l front ∷ outer) (closed m ps held) os c) opens) (inside (plain begun)),
+            standing passes os outer l front (closed m ps held) begun (c ∷ []) fits,
+          )
       go v move none_so = absurd none_so
 
   -- it is an operator
@@ -311,50 +299,66 @@ module _ (outer : List Level) (l : Level) (front os : List ℕ) (ps : List Piece
 
   -- a letter or digit, a space or a sign
   signs_go : (is_operator c ≡ true) × (is_opening c ≡ false) × (is_closing c ≡ false) → c == 58 ≡ false → To is_apart_mode
-  signs_go (is, opens, shuts) colon = record {
-    done = closed m ps held ++ piece operator (c ∷ []) ∷ [];
-    mode = modes.Free;
-    held = [];
-    goes = operator_goes os is (others_keep os c opens shuts) (ap (λ b. b && (length os == 0)) colon) (no_opening _ c opens);
-    simple = refl;
-  }
+  signs_go (is, opens, shuts) colon = (
+    Operated os,
+    operator_goes os is (others_keep os c opens shuts) (ap (λ b. b && (length os == 0)) colon) (no_opening _ c opens),
+    standing is_apart_mode os outer l front (closed m ps held ++ piece operator (c ∷ []) ∷ []) modes.Free [] refl,
+  )
 
   code_goes : is_code_byte c ≡ true → To (passing (is_ascii_word c))
   code_goes h = go (is_ascii_word c) (is_space c) refl refl
     where
       go : (word space : Bool) → is_ascii_word c ≡ word → is_space c ≡ space → To (passing word)
       go true space word is =
-          piece_goes is_code_mode (modes.Word (first_spelling c)) (word_is c word).1 (word-no_break c word) (start-word c (word_starts c word)) refl (fits_code m c)
+          piece_goes is_code_mode (modes.Word (first_spelling c)) (word_is c word).1 (word-no_break c word) (start-word c (word_starts c word)) refl (grind arith)
       go false true word is =
-          piece_goes is_apart_mode modes.Space (space_is c is).1 (space-no_break c is) (start-space c is) refl (fits_apart m c (space_is c is).0)
+          piece_goes is_apart_mode modes.Space (space_is c is).1 (space-no_break c is) (start-space c is) refl (grind (arith, (space_is c is).0))
       go false false word is = let plain_so = code_plain c h in signs_go (plain_operator c plain_so.0 word is) plain_so.1
 
 -- and a run of them
-codes_go : (outer : List Level) (l : Level) (front os : List ℕ) (word : Bool) (ps : List Piece) (m : Mode) (held run : List ℕ) → passing word m ≡ true
-    → list_all is_code_byte run ≡ true → CodeTo (passing (ends_in_word word run)) outer l front os (in_code outer l front ps os m held) run
-codes_go outer l front os word ps m held [] simple all = record { done = ps; mode = m; held = held; goes = (refl, tt); simple = simple }
-codes_go outer l front os word ps m held (c ∷ cs) simple all =
-    let parts = and_parts (is_code_byte c) (list_all is_code_byte cs) all in
-    let k = code_goes outer l front os ps m held (passes_code word m simple) c parts.0 in
-    let later = codes_go outer l front os (is_ascii_word c) k.done k.mode k.held cs k.simple parts.1 in
-    record { done = later.done; mode = later.mode; held = later.held; goes = open-append (in_code outer l front ps os m held) (in_code outer l front k.done os k.mode k.held) (in_code outer l front later.done os later.mode later.held) (c ∷ []) cs k.goes later.goes; simple = later.simple }
+code_leads : (word : Bool) (os : List ℕ) (quote c : ℕ) → is_code_byte c ≡ true
+    → Leads quote (StandsInCode (passing word) os) (c ∷ []) (StandsInCode (passing (is_ascii_word c)) os)
+code_leads word os quote c h =
+    from_code (passing word) os quote (c ∷ []) (StandsInCode (passing (is_ascii_word c)) os) (and_from _ _ (code_line c h) refl)
+    (λ outer l front done held m simple few. code_goes outer l front os done m held (passes_code word m simple) c h)
 
 pub codes_lead : (os : List ℕ) (quote : ℕ) (run : List ℕ) → list_all is_code_byte run ≡ true
     → Leads quote (AtCode os) run (StandsInCode (passing (ends_in_word false run)) os)
-codes_lead os quote run all =
-    from_code is_apart_mode os quote run (StandsInCode (passing (ends_in_word false run)) os) (all_also is_code_byte is_line_byte code_line run all)
-    (λ outer l front done held m simple few.
-    let k = codes_go outer l front os false done m held run simple all in
-    (in_code outer l front k.done os k.mode k.held, k.goes, record { front = front; done = k.done; mode = k.mode; held = k.held; is = refl; simple = k.simple }))
+codes_lead os quote = leads-run is_code_byte quote (λ word. StandsInCode (passing word) os) (λ word c. code_leads word os quote c) false
 
--- a string without a prefix
-module _ (outer : List Level) (l : Level) (front os : List ℕ) (q : ℕ) (quotes : is_quote q ≡ true) where
-  -- it grows over a character
-  text_on : (ps : List Piece) (m : Mode) (held : List ℕ) (c : ℕ) → is_return_at (plain m) ≡ false → begins_host m held c ≡ false
-      → move_of m c ≡ moves.Grows (modes.Inside q) → is_text_byte q c ≡ true
-      → GoesOpen (in_code outer l front ps os m held) (c ∷ []) (in_code outer l front ps os (modes.Inside q) (held ++ c ∷ []))
-  text_on ps m held c apart none move passes =
-      grows_to (in_code outer l front ps os m held) c (plain (modes.Inside q)) apart (body_parts q c (and_parts (is_body_byte q c) (nat_lt c 128) passes).0).2 (λ outside. refl) (plain_moves m held c none ∙ ap plain_move move)
+-- in a string without a prefix, whose mode is this one
+abbrev InString : Mode → List ℕ → Spot
+InString m os outer l t = (front : List ℕ) × (done : List Piece) × (held : List ℕ) × (t ≡ in_code outer l front done os m held)
+
+-- no word is open where it begins
+quote_breaks : (m : Mode) (held : List ℕ) (q : ℕ) → is_apart_mode m ≡ true → is_quote q ≡ true → field_move (plain m) held q ≡ breaks
+unfolding field_move move_of
+quote_breaks m held q apart quotes = grind (arith, excluded is_quote is_space q (space-not-quote q) quotes)
+
+module _ (os : List ℕ) (quote q : ℕ) (quotes : is_quote q ≡ true) where
+  one_quote : list_all is_line_byte (q ∷ []) ≡ true
+  one_quote = one_low q (quote_ascii q quotes) (quote-no_break q quotes)
+
+  quote_opens : Leads quote (AtCode os) (q ∷ []) (InString (modes.Opened q) os)
+  quote_opens = from_code is_apart_mode os quote (q ∷ []) (InString (modes.Opened q) os) one_quote (λ outer l front done held m apart few.
+      let ps : List Piece = closed m done held in let opened : FieldScanned = in_code outer l front ps os (modes.Opened q) (q ∷ []) in
+      let opens = start-quote q quotes in let room = no_opening _ q (opens_no q (starts.Open (modes.Opened q)) opens (λ other. absurd (cc))) in (
+        opened,
+        breaks_to outer l front os done m held (passes_code false m apart) q opened (quote-no_break q quotes) (quote_breaks m held q apart quotes) room
+            (ap (field_started (level_after l front ∷ outer) ps os q) opens) (λ none. absurd (some_level (level_after l front) outer none)),
+        (front, ps, q ∷ [], refl),
+      ))
+
+  -- its text grows over a character
+  string_grows : (m : Mode) (c : ℕ) → is_return_at (plain m) ≡ false → ((held : List ℕ) → begins_host m held c ≡ false)
+      → move_of m c ≡ moves.Grows (modes.Inside q) → is_text_byte q c ≡ true → Leads quote (InString m os) (c ∷ []) (InString (modes.Inside q) os)
+  string_grows m c apart none move passes =
+      let is = and_parts (is_body_byte q c) (nat_lt c 128) passes in let break = (body_parts q c is.0).2 in
+      leads_by quote (InString m os) (InString (modes.Inside q) os) (c ∷ []) (one_low c (low_is c is.1) break) (λ outer l t few (front, done, held, at).
+      let next : FieldScanned = in_code outer l front done os (modes.Inside q) (held ++ c ∷ []) in
+      let goes = grows_to (in_code outer l front done os m held) c (plain (modes.Inside q)) apart break (λ outside. refl)
+      (plain_moves m held c (none held) ∙ ap plain_move move) in
+      (next, subst (λ x. GoesOpen x (c ∷ []) next) (sym at) goes, (front, done, held ++ c ∷ [], refl)))
 
   inside_grows : (c : ℕ) → is_text_byte q c ≡ true
       → (move_of (modes.Inside q) c ≡ moves.Grows (modes.Inside q)) × (move_of (modes.Opened q) c ≡ moves.Grows (modes.Inside q))
@@ -362,57 +366,29 @@ module _ (outer : List Level) (l : Level) (front os : List ℕ) (q : ℕ) (quote
   inside_grows c passes =
       let parts = body_parts q c (and_parts (is_body_byte q c) (nat_lt c 128) passes).0 in (rw (parts.0, parts.1, parts.2) refl, rw (parts.0, parts.1, parts.2) refl)
 
-  -- and over a run, up to its quote
-  inside_closes : (held : List ℕ) → field_move (plain (modes.Inside q)) held q ≡ closes
+  -- its quote closes it
+  quote_closes : Leads quote (InString (modes.Inside q) os) (q ∷ []) (AtCode os)
   unfolding move_of
-  inside_closes held = plain_moves (modes.Inside q) held q refl ∙ rw (eq-eqb q q refl) refl
+  quote_closes = leads_by quote (InString (modes.Inside q) os) (AtCode os) (q ∷ []) one_quote (λ outer l t few (front, done, held, at).
+      let ps : List Piece = done ++ piece string (held ++ q ∷ []) ∷ [] in let next : FieldScanned = in_code outer l front ps os modes.Free [] in
+      let move = plain_moves (modes.Inside q) held q refl ∙ rw (eq-eqb q q refl) refl in
+      let goes = one_step (in_code outer l front done os (modes.Inside q) held) next q closes refl (quote-no_break q quotes) move (room_closes _ q) refl
+      (λ none. absurd (some_level (level_after l front) outer none)) in
+      (next, subst (λ x. GoesOpen x (q ∷ []) next) (sym at) goes, standing is_apart_mode os outer l front ps modes.Free [] refl))
 
-  abbrev Closed : List Piece → List ℕ → FieldScanned
-  Closed ps held = field_fresh (level_after l front ∷ outer) (ps ++ piece string (held ++ q ∷ []) ∷ []) os
-
-  texts_on : (ps : List Piece) (held run : List ℕ) → list_all (is_text_byte q) run ≡ true
-      → GoesOpen (in_code outer l front ps os (modes.Inside q) held) (run ++ q ∷ []) (Closed ps (held ++ run))
-  texts_on ps held [] all =
-      subst (λ x. GoesOpen (in_code outer l front ps os (modes.Inside q) held) (q ∷ []) (Closed ps x)) (sym (append-nil held))
-      (one_step (in_code outer l front ps os (modes.Inside q) held) (Closed ps held) q closes refl (quote-no_break q quotes) (inside_closes held) (room_closes _ q) refl (λ none. absurd (some_level (level_after l front) outer none)))
-  texts_on ps held (c ∷ cs) all =
-      let parts = and_parts (is_text_byte q c) (list_all (is_text_byte q) cs) all in
-      subst (λ x. GoesOpen (in_code outer l front ps os (modes.Inside q) held) ((c ∷ cs) ++ q ∷ []) (Closed ps x)) (append_assoc held (c ∷ []) cs)
-      (open-append (in_code outer l front ps os (modes.Inside q) held) (in_code outer l front ps os (modes.Inside q) (held ++ c ∷ [])) (Closed ps ((held ++ c ∷ []) ++ cs)) (c ∷ []) (cs ++ q ∷ []) (text_on ps (modes.Inside q) held c refl refl (inside_grows c parts.0).0 parts.0) (texts_on ps (held ++ c ∷ []) cs parts.1))
-
-  -- from its first quote to its last
-  text_goes : (ps : List Piece) (d : ℕ) (ds : List ℕ) → list_all (is_text_byte q) (d ∷ ds) ≡ true
-      → GoesOpen (in_code outer l front ps os (modes.Opened q) (q ∷ [])) ((d ∷ ds) ++ q ∷ []) (Closed ps ((q ∷ d ∷ []) ++ ds))
-  text_goes ps d ds all =
+  string_on : (d : ℕ) (ds : List ℕ) → list_all (is_text_byte q) (d ∷ ds) ≡ true → Leads quote (AtCode os) (q ∷ ((d ∷ ds) ++ q ∷ [])) (AtCode os)
+  string_on d ds all =
       let parts = and_parts (is_text_byte q d) (list_all (is_text_byte q) ds) all in
-      open-append (in_code outer l front ps os (modes.Opened q) (q ∷ [])) (in_code outer l front ps os (modes.Inside q) (q ∷ d ∷ [])) (Closed ps ((q ∷ d ∷ []) ++ ds)) (d ∷ []) (ds ++ q ∷ []) (text_on ps (modes.Opened q) (q ∷ []) d refl refl (inside_grows d parts.0).1 parts.0) (texts_on ps (q ∷ d ∷ []) ds parts.1)
-
--- no word is open where it begins
-quote_breaks : (m : Mode) (held : List ℕ) (q : ℕ) → is_apart_mode m ≡ true → is_quote q ≡ true → field_move (plain m) held q ≡ breaks
-unfolding field_move move_of
-quote_breaks m held q apart quotes = grind (arith, excluded is_quote is_space q (space-not-quote q) quotes)
-
-string_low : (q : ℕ) (run : List ℕ) → is_quote q ≡ true → list_all (is_text_byte q) run ≡ true → list_all is_line_byte (q ∷ (run ++ q ∷ [])) ≡ true
-string_low q run quotes all =
-    let one = line_byte q (quote_ascii q quotes) (quote-no_break q quotes) in
-    let by : (c : ℕ) → is_text_byte q c ≡ true → is_line_byte c ≡ true = λ c h.
-    let is = and_parts (is_body_byte q c) (nat_lt c 128) h in line_byte c (low_is c is.1) (body_parts q c is.0).2 in
-    let text = all_also (is_text_byte q) is_line_byte by run all in
-    and_from _ _ one (list_all-append is_line_byte run (q ∷ []) ∙ and_from _ _ text (and_from _ _ one refl))
+      let first = string_grows (modes.Opened q) d refl (λ held. refl) (inside_grows d parts.0).1 parts.0 in
+      let others = leads-back (is_text_byte q) quote (InString (modes.Inside q) os)
+      (λ c h. string_grows (modes.Inside q) c refl (λ held. refl) (inside_grows c h).0 h) ds parts.1 in
+      leads-append quote _ _ _ (q ∷ []) ((d ∷ ds) ++ q ∷ []) quote_opens
+      (leads-append quote _ _ _ (d ∷ []) (ds ++ q ∷ []) first (leads-append quote _ _ _ ds (q ∷ []) others quote_closes))
 
 pub string_leads : (os : List ℕ) (quote q : ℕ) (run : List ℕ) → is_quote q ≡ true → IsFull run → list_all (is_text_byte q) run ≡ true
     → Leads quote (AtCode os) (q ∷ (run ++ q ∷ [])) (AtCode os)
 string_leads os quote q [] quotes full all = absurd full
-string_leads os quote q (d ∷ ds) quotes full all =
-    from_code is_apart_mode os quote (q ∷ ((d ∷ ds) ++ q ∷ [])) (AtCode os) (string_low q (d ∷ ds) quotes all) (λ outer l front done held m apart few.
-    let ps : List Piece = closed m done held in let opened : FieldScanned = in_code outer l front ps os (modes.Opened q) (q ∷ []) in
-    let ended : FieldScanned = Closed outer l front os q quotes ps ((q ∷ d ∷ []) ++ ds) in
-    let begins = breaks_to outer l front os done m held (passes_code false m apart) q opened (quote-no_break q quotes) (quote_breaks m held q apart quotes) (no_opening _ q (opens_no q (starts.Open (modes.Opened q)) (start-quote q quotes) (λ other. absurd (cc))))
-    (ap (field_started (level_after l front ∷ outer) ps os q) (start-quote q quotes)) (λ none. absurd (some_level (level_after l front) outer none)) in (
-      ended,
-      open-append (in_code outer l front done os m held) opened ended (q ∷ []) ((d ∷ ds) ++ q ∷ []) begins (text_goes outer l front os q quotes ps d ds all),
-      record { front = front; done = ps ++ piece string (((q ∷ d ∷ []) ++ ds) ++ q ∷ []) ∷ []; mode = modes.Free; held = []; is = refl; simple = refl },
-    ))
+string_leads os quote q (d ∷ ds) quotes full all = string_on os quote q quotes d ds all
 
 -- a bracket, and the one that closes it
 operator_leads : (os after : List ℕ) (quote c : ℕ) → is_operator c ≡ true → openers_with os c ≡ Some after → (c == 58) && (length os == 0) ≡ false
@@ -421,14 +397,13 @@ operator_leads os after quote c h stands colon rooms =
     from_code is_code_mode os quote (c ∷ []) (AtCode after) (operator_line c h) (λ outer l front done held m simple few. (
       field_fresh (level_after l front ∷ outer) (closed m done held ++ piece operator (c ∷ []) ∷ []) after,
       operator_goes outer l front os done m held simple c after h stands colon (rooms (length l.openers + levels_open outer + 1) (let room = few.2 in omega (arith, room))),
-      record { front = front; done = closed m done held ++ piece operator (c ∷ []) ∷ []; mode = modes.Free; held = []; is = refl; simple = refl },
+      standing is_apart_mode after outer l front (closed m done held ++ piece operator (c ∷ []) ∷ []) modes.Free [] refl,
     ))
 
 bracket_is : (c : ℕ) → is_code_bracket c ≡ true
     → (is_operator c ≡ true) × (is_opening c ≡ true) × (c == 58 ≡ false) × (is_operator (closing_of c) ≡ true) × (is_closing (closing_of c) ≡ true)
 unfolding is_code_bracket is_operator is_opening is_closing
-bracket_is c h =
-    each_of (λ x. (is_operator x ≡ true) × (is_opening x ≡ true) × (x == 58 ≡ false) × (is_operator (closing_of x) ≡ true) × (is_closing (closing_of x) ≡ true)) (40 ∷ 91 ∷ []) c ((refl, refl, refl, refl, refl), ((refl, refl, refl, refl, refl), tt)) h
+bracket_is c h = grind (arith, nat_tests)
 
 pub opening_leads : (quote c : ℕ) → is_code_bracket c ≡ true → Leads quote (InCode []) (c ∷ []) (AtCode (c ∷ []))
 opening_leads quote c h =
@@ -477,22 +452,19 @@ specified_leads : (quote c : ℕ) → is_literal_byte quote c ≡ true → Leads
 specified_leads quote c h =
     let own = literal_parts quote c h in
     leads_by quote AtSpecification AtSpecification (c ∷ []) (one_low c own.low own.none) (λ outer l t few (front, held, is).
-    subst (λ x. (u : FieldScanned) × GoesOpen x (c ∷ []) u × AtSpecification outer l u) (sym is) (
-      specified outer l front (held ++ c ∷ []),
-      grows_to (specified outer l front held) c (body l.host specification false between) refl own.none (λ outside. refl) (text_grows l.host quote c few.0 own held specification),
-      (front, held ++ c ∷ [], refl),
-    ))
+    let next : FieldScanned = specified outer l front (held ++ c ∷ []) in
+    let goes = grows_to (specified outer l front held) c (body l.host specification false between) refl own.none (λ outside. refl)
+    (text_grows l.host quote c few.0 own held specification) in
+    (next, subst (λ x. GoesOpen x (c ∷ []) next) (sym is) goes, (front, held ++ c ∷ [], refl)))
 
 pub specifications_lead : (quote : ℕ) (run : List ℕ) → list_all (is_literal_byte quote) run ≡ true → Leads quote AtSpecification run AtSpecification
-specifications_lead quote = leads-run (is_literal_byte quote) quote AtSpecification (specified_leads quote)
+specifications_lead quote = leads-back (is_literal_byte quote) quote AtSpecification (specified_leads quote)
 
 pub specification_ends : (quote : ℕ) → Leads quote AtSpecification (125 ∷ []) InText
 unfolding field_move body_move has_room_at is_break
 specification_ends quote =
     leads_by quote AtSpecification InText (125 ∷ []) refl (λ outer l t few (front, held, is).
     let ended : FieldScanned = field_state outer l.done l.openers (body l.host literal false between) (held ++ 125 ∷ []) in
-    subst (λ x. (u : FieldScanned) × GoesOpen x (125 ∷ []) u × InText outer l u) (sym is) (
-      ended,
-      one_step (specified outer l front held) ended 125 ends_field refl refl (end_moves l.host between (ap is_quote few.0 ∙ few.1)) refl refl (λ outside. refl),
-      (held ++ 125 ∷ [], refl),
-    ))
+    let ends = end_moves l.host between (ap is_quote few.0 ∙ few.1) in
+    let goes = one_step (specified outer l front held) ended 125 ends_field refl refl ends refl refl (λ outside. refl) in
+    (ended, subst (λ x. GoesOpen x (125 ∷ []) ended) (sym is) goes, (held ++ 125 ∷ [], refl)))

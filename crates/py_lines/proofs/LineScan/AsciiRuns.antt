@@ -1,6 +1,6 @@
 -- Runs of bytes of ASCII, and what they begin.
-use Rattle.std.proofs.Common.{◌≡◌, ℕ, zero, suc, ◌<◌, ◌≤◌, Bool, true, false, List, [], ◌∷◌, ◌++◌, length, take, slice_index, refl, leb, ap, ◌∙◌, ◌||◌, ◌&&◌, ◌==◌, sym, arith, Fits, w8}
-use Rattle.std.specs.Prelude.{encode_utf8_all, codes, not, nat_lt, nat_le}
+use Rattle.std.proofs.Common.{◌≡◌, ℕ, zero, suc, ◌<◌, ◌≤◌, Bool, true, false, List, [], ◌∷◌, ◌++◌, length, take, slice_index, refl, leb, ap, ◌∙◌, arith, Fits, w8}
+use Rattle.std.specs.Prelude.{encode_utf8_all, codes, not, nat_lt}
 use Rattle.std.specs.Str.{all_scalars}
 use Rattle.std.specs.List.{list_all}
 use Rattle.std.proofs.lemmas.Bool.{and_parts, and_from, leb-false, lt-ltb, ltb-true}
@@ -11,7 +11,6 @@ use Rattle.py_lines.specs.Private.Machine.{IsFull}
 use Rattle.py_lines.specs.Private.Run.{is_ascii_word, is_line_byte}
 use Rattle.py_lines.proofs.Text.CharacterTests.{none_of, excluded}
 use Rattle.unicode_ident.proofs.IdentLemmas.{is_xid_continue-ascii, is_xid_start-ascii}
-use Rattle.std.proofs.Math.Bool.{or_assoc, or_comm}
 use Rattle.std.proofs.lemmas.Bool.Decides.{nat_tests}
 
 -- space, line ends and quotes are ASCII
@@ -42,12 +41,7 @@ word_byte_continues c low = is_xid_continue-ascii c low
 -- and begins one
 pub word_byte_starts : (c : ℕ) → c < 128 → is_word_start c ≡ is_ascii_word c
 unfolding is_ascii_word is_word_start is_digit
-word_byte_starts c low =
-    let digit = nat_le 48 c && nat_le c 57 in
-    let capital = nat_le 65 c && nat_le c 90 in
-    let small = nat_le 97 c && nat_le c 122 in
-    ap (λ (b : Bool). (b || (c == 95)) || digit) (is_xid_start-ascii c low) ∙ or_comm ((capital || small) || (c == 95)) digit
-    ∙ sym (or_assoc digit (capital || small) (c == 95)) ∙ ap (λ (b : Bool). b || (c == 95)) (sym (or_assoc digit capital small))
+word_byte_starts c low = grind (arith, nat_tests, is_xid_start-ascii c low)
 
 -- a run of bytes as a list
 pub all_pass : (passes : ℕ → Bool) (bytes : List ℕ) (n : ℕ) → n ≤ length bytes → ((i : ℕ) → i < n → passes (slice_index bytes i) ≡ true)

@@ -8,14 +8,15 @@ use Rattle.std.proofs.lemmas.Str.Ascii.{IsAscii-from_all}
 use Rattle.py_lines.specs.Private.Run.{IsRunOf, Spans}
 
 -- a run of ASCII
-pub low_spans : (passes : ℕ → Bool) (bytes : List ℕ) (n : ℕ) → IsRunOf passes bytes n → ((c : ℕ) → passes c ≡ true → c < 128) → Spans passes bytes n
-low_spans passes bytes n is low = record {
-  run = record { within = is.within; each = is.each };
+pub low_spans : (passes runs : ℕ → Bool) (bytes : List ℕ) (n : ℕ) → IsRunOf runs bytes n
+    → ((c : ℕ) → runs c ≡ true → (passes c ≡ true) × c < 128) → Spans passes bytes n
+low_spans passes runs bytes n is low = record {
+  run = record { within = is.within; each = λ i less. (low _ (is.each i less)).0 };
   utf8 =
       let size : length (take n bytes) ≡ n = length-take-le n bytes is.within in
       IsUtf8-from_ascii (take n bytes) (IsAscii-from_all (take n bytes) (All-from_get_or (λ b. b < 128) (take n bytes) 0 (λ i less.
       let short : i < n = omega (arith, less, size) in
-      subst (λ (b : ℕ). b < 128) (sym (get_or-take n bytes i 0 short)) (low (slice_index bytes i) (is.each i short)))));
+      subst (λ (b : ℕ). b < 128) (sym (get_or-take n bytes i 0 short)) (low (slice_index bytes i) (is.each i short)).1)));
 }
 
 -- the text that a run begins with

@@ -1,25 +1,24 @@
 -- Logical lines follow one another.
-use Rattle.std.proofs.Common.{◌≡◌, ℕ, ◌+◌, ◌-◌, ◌<◌, ◌≤◌, false, List, [], ◌∷◌, ◌++◌, length, take, drop, refl, sym, ap, ◌∙◌, subst, arith, append-nil, append_assoc, length-append, length-drop}
+use Rattle.std.proofs.Common.{◌≡◌, ◌⊎◌, inl, inr, ℕ, ◌+◌, ◌-◌, ◌<◌, ◌≤◌, false, List, [], ◌∷◌, ◌++◌, length, take, drop, refl, sym, ap, ◌∙◌, subst, arith, append-nil, append_assoc, length-append, length-drop}
 use Rattle.std.specs.Prelude.{encode_utf8_all}
 use Rattle.std.proofs.Math.Path.{transport}
 use Rattle.std.proofs.Math.Seq.{take-add}
 use Rattle.std.proofs.lemmas.List.{drop_at, drop-drop, take_at, take_rest}
 use Rattle.std.proofs.lemmas.Str.{encodes-append, length-le-encodes}
-use Rattle.py_lines.specs.LogicalLine.{line_ends}
 use Rattle.py_lines.specs.Piece.{spelled}
 use Rattle.py_lines.specs.Private.Frames.{has_field}
 use Rattle.py_lines.specs.Private.Machine.{Mode}
 use Rattle.py_lines.specs.Private.Mode as modes
 use Rattle.py_lines.specs.Private.LineScan.{IsAtLineEnd, Reached, ScansIn}
 use Rattle.py_lines.specs.Private.Marks.{FindsNext, HasMarks}
-use Rattle.py_lines.specs.Private.Passing.{CountsOn, EndsLineSo, PassesSo, StandsFree, nothing_passed}
+use Rattle.py_lines.specs.Private.Passing.{EndsAfter, EndsLineSo, PassesSo, PassesSpecial, StandsFree, passed_to}
 use Rattle.py_lines.specs.Private.Scan.{Takes}
 use Rattle.py_lines.specs.Private.TakenPieces.{ComesToCode, IsWordStart, StopsSo}
 use Rattle.py_lines.specs.Private.WholeLines.{AreWholeLines, BeginWithLines, IsWholeLine}
 use Rattle.py_lines.specs.declared.frames.Frame.{Frame}
-use Rattle.py_lines.specs.declared.line_scan.PassedLines.{PassedLines}
-use Rattle.py_lines.specs.declared.marks.Marks.{Marks}
 use Rattle.py_lines.specs.declared.passing.Passing.{Passing}
+use Rattle.py_lines.specs.declared.passing.Special.{Special}
+use Rattle.py_lines.specs.declared.passing.Special.TheVariants as specials
 use Rattle.py_lines.specs.declared.scan.Scan.{Scan}
 use Rattle.py_lines.specs.declared.scan.Stop.{Stop}
 use Rattle.py_lines.specs.declared.scan.Stop.TheVariants as stops
@@ -27,7 +26,6 @@ use Rattle.py_lines.proofs.FieldScans.Taking.{free_at}
 use Rattle.py_lines.proofs.Lexings.LineEnds.{line_first}
 use Rattle.py_lines.proofs.LineScan.LineSteps.{begun_reached}
 use Rattle.py_lines.proofs.LineScan.Reaching.{ends_over, reached_over}
-use Rattle.py_lines.proofs.PassedPieces.CountedEnds.{counts_kept, counts_on, ends_counted}
 use Rattle.py_lines.proofs.PassedPieces.Ends.{in_code, passes_none}
 use Rattle.py_lines.proofs.PassedPieces.Pieces.{word_left}
 use Rattle.py_lines.proofs.Pieces.PieceLists.{AreReadBefore-second, spelled-push}
@@ -93,151 +91,157 @@ next_line bytes len size to new are s place =
       };
     }
 
--- Lines were passed, and pieces of the next one, over which the scan has come that stands in code with these frames. The next byte that
--- isn't plain stands at `at`. The line ends were counted, up to the line's start and after it.
-pub record HasPassedLines (bytes : List ℕ) (lines : PassedLines) (fs : List Frame) (at : ℕ) (p : Passing) : Type 0 where
-  pub are : BeginWithLines bytes lines.len
-  pub before : lines.len ≤ p.all
+-- Lines were passed up to `lines`, and pieces of the next one up to `all`, over which the scan has come that stands in code with these frames.
+pub record HavePassed (bytes : List ℕ) (fs : List Frame) (lines all : ℕ) : Type 0 where
+  pub are : BeginWithLines bytes lines
+  pub before : lines ≤ all
   pub outside : has_field fs ≡ false
-  pub reached : Reached modes.Free (drop lines.len bytes) (free_at fs (p.all - lines.len)) (drop p.all bytes)
-  pub next : FindsNext bytes p.all at p.marks
-  pub marks : Marks
-  pub counted : CountsOn bytes (nothing_passed marks) p
-  pub few : lines.line_ends ≤ lines.len
-  pub count : p.returned ≡ false → (characters : List ℕ) → encode_utf8_all characters ≡ take lines.len bytes
-      → lines.line_ends ≡ line_ends characters
+  pub reached : Reached modes.Free (drop lines bytes) (free_at fs (all - lines)) (drop all bytes)
 
 -- where a line begins
-begins_next : (bytes : List ℕ) (at : ℕ) (p : Passing) (marks : Marks) → BeginWithLines bytes p.all → CountsOn bytes (nothing_passed marks) p
-    → FindsNext bytes p.all at p.marks → HasPassedLines bytes (record { len = p.all; line_ends = p.feeds }) [] at p
-begins_next bytes at p marks are counted next =
-    let none : p.all - p.all ≡ 0 = omega arith in
-    record {
-      are = are;
-      before = omega arith;
-      outside = refl;
-      reached = begun_reached (ap (free_at []) none) refl (drop p.all bytes);
-      next = next;
-      marks = marks;
-      counted = counted;
-      few = counted.few (omega arith);
-      count = ends_counted bytes p counted;
-    }
+pub begins_next : (bytes : List ℕ) (lines : ℕ) → BeginWithLines bytes lines → HavePassed bytes [] lines lines
+begins_next bytes lines are =
+    let none : lines - lines ≡ 0 = omega arith in
+    record { are = are; before = omega arith; outside = refl; reached = begun_reached (ap (free_at []) none) refl (drop lines bytes) }
 
-pub no_line_passed : {bytes : List ℕ} {at : ℕ} {marks : Marks} → FindsNext bytes 0 at marks
-    → HasPassedLines bytes (record { len = 0; line_ends = 0 }) [] at (nothing_passed marks)
-no_line_passed {bytes} {at} {marks} =
-    begins_next bytes at (nothing_passed marks) marks (record { within = omega arith; read = []; spell = refl; texts = []; whole = refl })
-    (counts_kept bytes _ _ refl refl refl)
+pub no_line_passed : (bytes : List ℕ) → HavePassed bytes [] 0 0
+no_line_passed bytes = begins_next bytes 0 (record { within = omega arith; read = []; spell = refl; texts = []; whole = refl })
 
--- where something is not passed, all is as before
-pub unpassed : {bytes : List ℕ} {lines : PassedLines} {fs c : List Frame} {at : ℕ} {p q : Passing} → HasPassedLines bytes lines fs at p
-    → (q ≡ p) × (c ≡ fs) → HasPassedLines bytes lines c at q
-unpassed on (same, frames) = rw (same, frames) on
+module _ {bytes : List ℕ} {fs : List Frame} {lines all : ℕ} (on : HavePassed bytes fs lines all) where
+  abbrev pub here : Scan
+  here = free_at fs (all - lines)
 
--- bytes were passed up to this one
-abbrev pub PassesTo : List ℕ → Passing → ℕ → Passing → Type 0
-PassesTo bytes p to q = record { all : q.all ≡ to; counts : CountsOn bytes p q; marked : HasMarks bytes to q.marks }
-
--- more was passed, beyond these lines or beyond what was passed
-pub record PassesOn (bytes : List ℕ) (lines : PassedLines) (p : Passing) (later : PassedLines) (c : List Frame) (q : Passing) : Type 0 where
-  pub on : {at : ℕ} {marks : Marks} → FindsNext bytes q.all at marks → HasPassedLines bytes later c at (record q { marks = marks })
-  pub marked : HasMarks bytes q.all q.marks
-  pub smaller : (length bytes - q.all) + (length bytes - later.len) < (length bytes - p.all) + (length bytes - lines.len)
-
-module _ {bytes : List ℕ} {lines : PassedLines} {fs : List Frame} {at : ℕ} {p : Passing} (on : HasPassedLines bytes lines fs at p)
-    (inside : at < length bytes) where
-  abbrev line : List ℕ
-  line = drop lines.len bytes
-
-  abbrev here : Scan
-  here = free_at fs (p.all - lines.len)
-
-  -- the scan comes over so many bytes more
-  reached_on : (c : List Frame) (d to : ℕ) → p.all + d ≡ to → Takes here (drop p.all bytes) d (free_at c (p.all - lines.len + d))
-      → Reached modes.Free line (free_at c (to - lines.len)) (drop to bytes)
-  reached_on c d to is takes =
-      let far : p.all - lines.len + d ≡ to - lines.len = omega (arith, is, on.before) in
-      transport (λ i. Reached modes.Free line (free_at c (far i)) ((drop-drop d p.all bytes ∙ ap (λ n. drop n bytes) is) i))
-      (reached_over on.reached _ d takes)
-
-  stands : StandsFree (p.all - lines.len) fs here
+  stands : StandsFree (all - lines) fs here
   stands = record { mode = refl; stop = refl; frames = refl; outside = on.outside }
 
-  module _ {q : Passing} {to : ℕ} (so : PassesTo bytes p to q) where
-    counted : (marks : Marks) → CountsOn bytes (nothing_passed on.marks) (record q { marks = marks })
-    counted marks = counts_on bytes _ q _ (counts_on bytes _ p q on.counted so.counts) (counts_kept bytes q _ refl refl refl)
+  -- the scan comes over so many bytes more
+  reached_on : (c : List Frame) (d to : ℕ) → all + d ≡ to → Takes here (drop all bytes) d (free_at c (all - lines + d))
+      → Reached modes.Free (drop lines bytes) (free_at c (to - lines)) (drop to bytes)
+  reached_on c d to is takes =
+      let far : all - lines + d ≡ to - lines = omega (arith, is, on.before) in
+      transport (λ i. Reached modes.Free (drop lines bytes) (free_at c (far i)) ((drop-drop d all bytes ∙ ap (λ n. drop n bytes) is) i))
+      (reached_over on.reached _ d takes)
 
-    marked : HasMarks bytes q.all q.marks
-    marked = subst (λ n. HasMarks bytes n q.marks) (sym so.all) so.marked
+  -- the line goes on
+  pub goes_on : (c : List Frame) (d to : ℕ) → all + d ≡ to → has_field c ≡ false → Takes here (drop all bytes) d (free_at c (all - lines + d))
+      → HavePassed bytes c lines to
+  goes_on c d to is outside takes =
+      record { are = on.are; before = omega (arith, is, on.before); outside = outside; reached = reached_on c d to is takes }
 
-    -- the line goes on
-    passes_on : {c : List Frame} → p.all < to → has_field c ≡ false → Reached modes.Free line (free_at c (to - lines.len)) (drop to bytes)
-        → PassesOn bytes lines p lines c q
-    passes_on {c} more outside reached = record {
-      on = λ {at} {marks} next. record {
-        are = on.are;
-        before = omega (arith, on.before, more, so.all);
-        outside = outside;
-        reached = subst (λ n. Reached modes.Free line (free_at c (n - lines.len)) (drop n bytes)) (sym so.all) reached;
-        next = next;
-        marks = on.marks;
-        counted = counted marks;
-        few = on.few;
-        count = λ no. on.count (so.counts.unreturned no).0;
-      };
-      marked = marked;
-      smaller = omega (arith, more, so.all, on.next.after, inside);
-    }
+  -- or it ends
+  pub ends_there : (before len to : ℕ) (new : Scan) → EndsAfter here (drop all bytes) before len new → to ≡ lines + new.stop
+      → HavePassed bytes [] to to
+  ends_there before len to new ends is =
+      begins_next bytes to (next_line bytes lines len to new on.are (ends_over refl on.reached new before len ends) is).lines
 
-    -- or it ends
-    pub passes_end : {c : List Frame} → NextLine bytes lines.len to → c ≡ []
-        → PassesOn bytes lines p (record { len = q.all; line_ends = q.feeds }) c q
-    passes_end ends none = record {
-      on = λ {at} {marks}. rw none (begins_next bytes at _ on.marks (subst (BeginWithLines bytes) (sym so.all) ends.lines) (counted marks));
-      marked = marked;
-      smaller = omega (arith, so.all, ends.further, so.counts.further, on.before, on.next.after, inside);
-    }
+-- and the next byte that isn't plain stands at `at`
+pub record HasPassedLines (bytes : List ℕ) (fs : List Frame) (at : ℕ) (p : Passing) : Type 0 where
+  pub have : HavePassed bytes fs p.lines p.all
+  pub next : FindsNext bytes p.all at p.marks
 
-  pub passes_piece : {c : List Frame} {q : Passing} → CountsOn bytes p q → PassesSo bytes at (at - lines.len) p fs q c
-      → PassesOn bytes lines p lines c q
-  passes_piece {c} {q} counts so =
-      let place : at - lines.len ≡ p.all - lines.len + (at - p.all) = omega (arith, on.before, on.next.after) in
-      passes_on (record { all = refl; counts = counts; marked = so.marked }) (omega (arith, on.next.after, so.further)) (so.outside on.outside)
-      (reached_on c (q.all - p.all) q.all (omega (arith, counts.further)) (so.over (p.all - lines.len) place here stands))
+-- where something is not passed, all is as before
+pub unpassed : {bytes : List ℕ} {fs c : List Frame} {at : ℕ} {p q : Passing} → HasPassedLines bytes fs at p → (q ≡ p) × (c ≡ fs)
+    → HasPassedLines bytes c at q
+unpassed on (same, frames) = rw (same, frames) on
 
-  pub passes_line_end : {c : List Frame} {q : Passing} {len : ℕ} → CountsOn bytes p q → EndsLineSo bytes at p fs len q c
-      → PassesOn bytes lines p (record { len = q.all; line_ends = q.feeds }) c q
-  passes_line_end {q = q} {len} counts so =
-      let ends = ends_over refl on.reached _ (at - p.all) len (so.over (p.all - lines.len) here stands) in
-      passes_end (record { all = refl; counts = counts; marked = so.marked })
-      (next_line bytes lines.len len q.all _ on.are ends (omega (arith, on.before, counts.further))) so.frames
+-- how much is left of the bytes, and of those that are no lines yet
+abbrev pub left : List ℕ → Passing → ℕ
+left bytes p = (length bytes - p.all) + (length bytes - p.lines)
 
-  -- where items are taken from a word or a byte that isn't plain
-  module _ {k : ℕ} (start : IsWordStart (take (at - p.all) (drop p.all bytes)) k) {old : Scan}
-      (set : old ≡ free_at fs (0 + (p.all + k - lines.len))) where
+-- more was passed: a line end leads beyond the line's start, and all else beyond what was passed
+pub record PassesOn (bytes : List ℕ) (p : Passing) (c : List Frame) (q : Passing) : Type 0 where
+  pub have : HavePassed bytes c q.lines q.all
+  pub marked : HasMarks bytes q.all q.marks
+  pub smaller : left bytes q < left bytes p
+
+module _ {bytes : List ℕ} {fs : List Frame} {at : ℕ} {p : Passing} (on : HasPassedLines bytes fs at p) (inside : at < length bytes) where
+  abbrev have : HavePassed bytes fs p.lines p.all
+  have = on.have
+
+  abbrev next : FindsNext bytes p.all at p.marks
+  next = on.next
+
+  passes_piece : {c : List Frame} {q : Passing} → PassesSo bytes at (at - p.lines) p fs q c → PassesOn bytes p c q
+  passes_piece {c} {q} so =
+      let start : at - p.lines ≡ p.all - p.lines + (at - p.all) = omega (arith, have.before, next.after) in
+      let size : p.all + (q.all - p.all) ≡ q.all = omega (arith, next.after, so.further) in
+      record {
+        have = subst (λ n. HavePassed bytes c n q.all) (sym so.lines)
+            (goes_on have c (q.all - p.all) q.all size (so.outside have.outside) (so.over (p.all - p.lines) start (here have) (stands have)));
+        marked = so.marked;
+        smaller = omega (arith, next.after, so.further, so.within, so.lines);
+      }
+
+  passes_line_end : {c : List Frame} {q : Passing} {len : ℕ} → EndsLineSo bytes at p fs len q c → PassesOn bytes p c q
+  passes_line_end {q = q} {len} so =
+      let ends = so.over (p.all - p.lines) (here have) (stands have) in
+      let place : q.all ≡ p.lines + (p.all - p.lines + (q.all - p.all)) = omega (arith, have.before, next.after, so.all) in
+      record {
+        have = rw (so.frames, so.lines) (ends_there have (at - p.all) len q.all _ ends place);
+        marked = so.marked;
+        smaller = omega (arith, have.before, next.after, so.all, so.some, so.within, so.lines);
+      }
+
+  pub passes_special : {s : Special} {c : List Frame} {q : Passing} → (s ≡ specials.Passed) ⊎ ((len : ℕ) × (s ≡ specials.LineEnd len))
+      → PassesSpecial bytes at (at - p.lines) p fs s q c → PassesOn bytes p c q
+  passes_special {s} {c} {q} which so =
+      let came = λ (t : Special). PassesSpecial bytes at (at - p.lines) p fs t q c in
+      elim which [ inl is ↦ passes_piece (subst came is so) | inr ends ↦ passes_line_end (subst came ends.1 so) ]
+
+  -- where items are taken from a word or a byte that isn't plain, after so many bytes of lines
+  module _ {k lines : ℕ} (are : lines ≡ p.lines) (start : IsWordStart (take (at - p.all) (drop p.all bytes)) k) {old : Scan}
+      (set : old ≡ free_at fs (0 + (p.all + k - lines))) where
+    abbrev line : List ℕ
+    line = drop lines bytes
+
     abbrev rest : List ℕ
     rest = take (length bytes - (p.all + k)) (drop (p.all + k) bytes)
 
+    there : HavePassed bytes fs lines p.all
+    there = subst (λ n. HavePassed bytes fs n p.all) (sym are) have
+
     pub reached_word : Reached modes.Free line old rest
     reached_word =
-        let stop : p.all + k - lines.len ≡ 0 + (p.all + k - lines.len) = omega arith in
+        let stop : p.all + k - lines ≡ 0 + (p.all + k - lines) = omega arith in
         transport (λ i. Reached modes.Free line ((ap (free_at fs) stop ∙ sym set) i) (sym (take_rest bytes (p.all + k)) i))
-        (reached_on fs k (p.all + k) refl (word_left here refl on.outside bytes p.all at p.marks on.next k inside start))
+        (reached_on there fs k (p.all + k) refl (word_left (here there) refl there.outside bytes p.all at p.marks next k inside start))
+
+    begun : p.all + k ≡ lines + old.stop
+    begun = omega (arith, ap (λ (s : Scan). s.stop) set, there.before)
 
     pub items_end : {new : Scan} {stop : Stop} {len : ℕ} → stop ≡ stops.LineEnd len → StopsSo rest old stop new
-        → NextLine bytes lines.len (lines.len + new.stop)
+        → NextLine bytes lines (lines + new.stop)
     items_end {new} {len = len} is so =
-        next_line bytes lines.len len (lines.len + new.stop) new on.are
+        next_line bytes lines len (lines + new.stop) new there.are
         (subst (ScansIn modes.Free line new) is (so.scans modes.Free line refl reached_word)) refl
 
-    pub passes_items : {new : Scan} {q : Passing} → PassesTo bytes p (lines.len + new.stop) q → ComesToCode rest old new
-        → PassesOn bytes lines p lines new.frames q
-    passes_items {new} to so =
+    pub passes_end : {new : Scan} {stop : Stop} {len : ℕ} {c : List Frame} {q : Passing} → stop ≡ stops.LineEnd len
+        → StopsSo rest old stop new → c ≡ [] → q ≡ passed_to p (lines + new.stop) q.marks → HasMarks bytes (lines + new.stop) q.marks
+        → PassesOn bytes p c (record q { lines = q.all })
+    passes_end {new} {c = c} {q} is so none to marked =
+        let ends = items_end is so in
+        let all : lines + new.stop ≡ q.all = ap (λ (p : Passing). p.all) (sym to) in
+        record {
+          have = subst (λ n. HavePassed bytes c n n) all (rw none (begins_next bytes _ ends.lines));
+          marked = subst (λ n. HasMarks bytes n q.marks) all marked;
+          smaller = omega (arith, all, are, ends.further, ends.lines.within, begun, so.further);
+        }
+
+    pub passes_items : {new : Scan} {q : Passing} → q ≡ passed_to p (lines + new.stop) q.marks → HasMarks bytes (lines + new.stop) q.marks
+        → ComesToCode rest old new → PassesOn bytes p new.frames q
+    passes_items {new} {q} to marked so =
         let code = in_code new so.code in
-        let beyond : p.all + k + so.len ≡ lines.len + new.stop = omega (arith, so.stop, ap (λ (s : Scan). s.stop) set, on.before) in
-        let far : new.stop + 0 ≡ lines.len + new.stop - lines.len = omega arith in
-        let left = ap (drop so.len) (take_rest bytes (p.all + k)) ∙ drop-drop so.len (p.all + k) bytes ∙ ap (λ n. drop n bytes) beyond in
-        passes_on to (omega (arith, beyond, so.some)) code.1
-        (transport (λ i. Reached modes.Free line (free_at new.frames (far i)) (left i))
-        (reached_over (so.reached modes.Free line refl reached_word) _ 0 (passes_none new (drop so.len rest) code.0)))
+        let reach : p.all + k + so.len ≡ lines + new.stop = omega (arith, so.stop, begun) in
+        let far : new.stop + 0 ≡ lines + new.stop - lines = omega arith in
+        let after = ap (drop so.len) (take_rest bytes (p.all + k)) ∙ drop-drop so.len (p.all + k) bytes ∙ ap (λ n. drop n bytes) reach in
+        subst (PassesOn bytes p new.frames) (sym to) (record {
+          have = subst (λ n. HavePassed bytes new.frames n (lines + new.stop)) are (record {
+            are = there.are;
+            before = omega arith;
+            outside = code.1;
+            reached = transport (λ i. Reached modes.Free line (free_at new.frames (far i)) (after i))
+                (reached_over (so.reached modes.Free line refl reached_word) _ 0 (passes_none new (drop so.len rest) code.0));
+          });
+          marked = marked;
+          smaller = omega (arith, reach, so.some, marked.within);
+        })

@@ -1,14 +1,16 @@
 -- The piece that bytes begin with, where it is no string, as its line takes it: how long it is, and what tells a word from a prefix.
-use Rattle.std.proofs.Common.{◌≡◌, ℕ, zero, suc, ◌≤◌, Bool, true, false, List, [], ◌∷◌, ◌++◌, length, refl, ap, ◌∙◌, arith, zero-add, ⊎_elim, ◌+◌, ◌<◌, ◌⊎◌, inl, inr, ◌&&◌, drop, slice_index, sym, subst, take, append_assoc}
+use Rattle.std.proofs.Common.{◌≡◌, ℕ, zero, suc, ◌≤◌, Bool, true, false, List, [], ◌∷◌, ◌++◌, length, refl, ap, ◌∙◌, arith, min, zero-add, ⊎_elim}
+use Rattle.std.proofs.Common.{◌+◌, ◌<◌, ◌⊎◌, inl, inr, ◌&&◌, drop, slice_index, sym, subst, take, append_assoc}
 use Rattle.std.specs.Prelude.{encode_utf8_all, not, codes, nat_le}
 use Rattle.std.specs.List.{list_all, list_any}
 use Rattle.std.specs.Char.{is_ascii_digit}
-use Rattle.std.proofs.lemmas.Bool.{and_from, and_parts, both_ways, cases_lt, or_parts, or_cases}
+use Rattle.std.proofs.lemmas.Bool.{and_from, and_parts, both_ways, cases_lt, false_from_ne_true, or_parts, or_cases}
+use Rattle.std.proofs.lemmas.List.{get_or-take, length-take}
 use Rattle.std.proofs.Math.Utf8.{encode}
 use Rattle.std.proofs.lemmas.Bool.Decides.{nat_tests}
 use Rattle.std.proofs.lemmas.Str.{encodes-append}
 use Rattle.std.proofs.Math.Seq.{take-append_seam, drop-append_seam, drop-cons}
-use Rattle.py_lines.specs.Piece.{begins, Class, is_mark_class, mark, space, operator, comment, join, line_end, Piece, ends, spelled, word, string}
+use Rattle.py_lines.specs.Piece.{begins, Class, space, operator, comment, join, line_end, Piece, ends, spelled, word, string}
 use Rattle.py_lines.specs.Character.{is_break, is_line_feed, is_return, is_space, is_digit, is_quote, is_word_character, is_word_start}
 use Rattle.py_lines.specs.PieceGrammar.{IsLineEnd, feed, return_feed, return}
 use Rattle.py_lines.specs.Fields.{InClass, MayPrecede, fielded}
@@ -19,11 +21,11 @@ use Rattle.py_lines.specs.declared.line_tokens.Role.{Role}
 use Rattle.py_lines.specs.declared.class.Class.TheVariants as class
 use Rattle.py_lines.specs.declared.token.TokKind.{TokKind}
 use Rattle.py_lines.specs.Private.Run.{IsRunOf, is_comment_byte, is_ascii_word, is_wide_word, word_spelling}
-use Rattle.py_lines.specs.Private.LineTokens.{BeginWithPiece, IsTakenFor, ends_in, line_end_len, role_of, word_kind}
+use Rattle.py_lines.specs.Private.LineTokens.{BeginWithPiece, IsTakenFor, line_end_len, role_of, word_kind}
 use Rattle.py_lines.specs.Private.Machine.{begins_string}
 use Rattle.py_lines.proofs.Text.CharacterTests.{feed_is, operator_ascii, none_of}
 use Rattle.py_lines.proofs.Text.HighBytes.{IsEvenAbove, encoded_begins, encoded_passes, low_even}
-use Rattle.py_lines.proofs.Text.LineEnds.{line_ends-encoded, unbroken}
+use Rattle.py_lines.proofs.Text.LineEnds.{unbroken}
 use Rattle.py_lines.proofs.Text.Utf8Shapes.{one}
 use Rattle.py_lines.proofs.LineTokens.Spellings.{fielded_spelling, prefix_encoded}
 use Rattle.py_lines.proofs.Lexings.LineEnds.{line_text}
@@ -59,7 +61,7 @@ encoded_length passes cs rest n even run all ends =
 comment_even : IsEvenAbove is_comment_byte
 comment_even c b one two = ap not (low_even is_break break_low c b one two)
 
-all_other : (cs : List ℕ) → list_any is_break cs ≡ false → list_all is_comment_byte cs ≡ true
+pub all_other : (cs : List ℕ) → list_any is_break cs ≡ false → list_all is_comment_byte cs ≡ true
 all_other [] none = refl
 all_other (c ∷ cs) none =
     let parts = or_parts (is_break c) (list_any is_break cs) none in and_from (is_comment_byte c) (list_all is_comment_byte cs)
@@ -99,8 +101,10 @@ module _ {bytes : List ℕ} {p : Piece} (b : BeginWithPiece bytes p) where
   pub precedes : (class : Class) → p.class ≡ class → MayPrecede class p.text (spelled b.others ++ b.text.after)
   precedes class is = subst (λ (k : Class). MayPrecede k p.text (spelled b.others ++ b.text.after)) is b.text.fit.1
 
-  pub taken : (class : Class) {role : Role} {len : ℕ} → p.class ≡ class → role ≡ role_of class p.text → len ≡ byte_len p.text → IsTakenFor p role len
-  taken class is role len = (role ∙ ap (λ (k : Class). role_of k p.text) (sym is), len)
+  pub taken : (class : Class) {role : Role} {len ends : ℕ} → p.class ≡ class → role ≡ role_of class p.text → len ≡ byte_len p.text
+      → ends ≡ line_ends p.text → IsTakenFor p (record { role = role; len = len; line_ends = ends })
+  taken class is role len ends =
+      let role_is = role ∙ ap (λ (k : Class). role_of k p.text) (sym is) in λ i. record { role = role_is i; len = len i; line_ends = ends i }
 
   -- the run of bytes that the piece is
   pub run_taken : (passes : ℕ → Bool) (n : ℕ) → IsEvenAbove passes → IsRunOf passes bytes n → list_all passes p.text ≡ true
@@ -108,10 +112,16 @@ module _ {bytes : List ℕ} {p : Piece} (b : BeginWithPiece bytes p) where
   run_taken passes n even run all none =
       encoded_length passes p.text rest n even (subst (λ (t : List ℕ). IsRunOf passes t n) (spelled_bytes bytes p b) run) all none
 
-  pub space_taken : (n : ℕ) → p.class ≡ space → IsRunOf is_space bytes n → IsTakenFor p roles.Space n
+  -- space is taken as what adds nothing to its line
+  pub spaces : (n : ℕ) → p.class ≡ space → IsRunOf is_space bytes n → n ≡ byte_len p.text
+  spaces n is run =
+      run_taken is_space n (low_even is_space space_low) run (in_class space is).3 (begins-prefix is_space rest b.text.after (precedes space is))
+
+  pub space_taken : (n : ℕ) → p.class ≡ space → IsRunOf is_space bytes n → IsTakenFor p (record { role = roles.LineEnd; len = n; line_ends = 0 })
+  unfolding is_space is_break
   space_taken n is run =
-      taken space is refl (run_taken is_space n (low_even is_space space_low) run (in_class space is).3
-      (begins-prefix is_space rest b.text.after (precedes space is)))
+      taken space is refl (spaces n is run)
+      (unbroken p.text (all_other p.text (none_in is_space is_break (λ d. none_of is_space (10 ∷ 13 ∷ []) d refl) p.text (in_class space is).3)))
 
   -- the bytes after the first, which is ASCII
   pub after_first : (c : ℕ) (cs : List ℕ) → p.text ≡ c ∷ cs → c < 128 → bytes ≡ c ∷ (encode_utf8_all cs ++ encode_utf8_all rest)
@@ -124,7 +134,7 @@ module _ {bytes : List ℕ} {p : Piece} (b : BeginWithPiece bytes p) where
       let whole : byte_len p.text ≡ length (c ∷ encode_utf8_all cs) = ap byte_len is ∙ ap (λ t. length (t ++ encode_utf8_all cs)) (one c low) in
       omega (arith, whole, same)
 
-  pub operator_taken : p.class ≡ operator → IsTakenFor p (roles.Token (kind.Op (slice_index bytes 0))) 1
+  pub operator_taken : p.class ≡ operator → IsTakenFor p (record { role = roles.Token (kind.Op (slice_index bytes 0)); len = 1; line_ends = 0 })
   operator_taken is =
       let shape = in_class operator is in
       let c : ℕ = shape.0 in
@@ -132,13 +142,16 @@ module _ {bytes : List ℕ} {p : Piece} (b : BeginWithPiece bytes p) where
       taken operator is
       (ap (λ d. roles.Token (kind.Op d)) (ap (λ t. slice_index t 0) (after_first c [] shape.1 low) ∙ ap first_or_zero (sym shape.1)))
       (longer c [] 0 shape.1 low refl)
+      (unbroken p.text (ap (list_all is_comment_byte) shape.1 ∙ and_from _ true (ap not (operator-no_break c shape.2)) refl))
 
   comment_ends : (text after : List ℕ) → (text ++ after ≡ []) ⊎ (begins is_break (text ++ after) ≡ true) → begins is_comment_byte text ≡ false
   comment_ends [] after h = refl
   comment_ends (c ∷ cs) after (inl none) = absurd (cc)
   comment_ends (c ∷ cs) after (inr breaks) = ap not breaks
 
-  pub comment_taken : (n : ℕ) → p.class ≡ comment → IsRunOf is_comment_byte (rest_of bytes 1) n → IsTakenFor p (roles.Token kind.Remark) (1 + n)
+  pub comment_taken : (n : ℕ) → p.class ≡ comment → IsRunOf is_comment_byte (rest_of bytes 1) n
+      → IsTakenFor p (record { role = roles.Token kind.Remark; len = 1 + n; line_ends = 0 })
+  unfolding is_break
   comment_taken n is run =
       let shape = in_class comment is in
       let body : List ℕ = shape.1 in
@@ -146,11 +159,13 @@ module _ {bytes : List ℕ} {p : Piece} (b : BeginWithPiece bytes p) where
       taken comment is refl (longer 35 body n text (omega arith) (encoded_length is_comment_byte body rest n comment_even
       (subst (λ (t : List ℕ). IsRunOf is_comment_byte t n) (rest_is bytes 1 ∙ ap (drop 1) (after_first 35 body text (omega arith))) run)
       (all_other body shape.4) (comment_ends rest b.text.after (precedes comment is))))
+      (unbroken p.text (ap (list_all is_comment_byte) text ∙ all_other body shape.4))
 
-  pub line_end_taken : p.class ≡ line_end → IsTakenFor p roles.LineEnd (line_end_len bytes)
+  pub line_end_taken : p.class ≡ line_end → IsTakenFor p (record { role = roles.LineEnd; len = line_end_len bytes; line_ends = 1 })
   line_end_taken is =
       taken line_end is refl
       (ap line_end_len (spelled_bytes bytes p b) ∙ end_len p.text rest b.text.after (in_class line_end is) (precedes line_end is))
+      (one_end p.text (in_class line_end is))
 
   -- a join, and the line end in it
   record Joined : Type 0 where
@@ -165,13 +180,15 @@ module _ {bytes : List ℕ} {p : Piece} (b : BeginWithPiece bytes p) where
       let text : p.text ≡ 92 ∷ shape.1 = shape.2 ∙ ap (λ (c : ℕ). c ∷ shape.1) (slash_only shape.0 shape.3) in
       record { end = shape.1; text = text; is = shape.4; later = rest_is bytes 1 ∙ ap (drop 1) (after_first 92 shape.1 text (omega arith)) }
 
-  pub join_taken : p.class ≡ join → IsTakenFor p roles.Join (1 + line_end_len (rest_of bytes 1))
+  pub join_taken : p.class ≡ join → IsTakenFor p (record { role = roles.Join; len = 1 + line_end_len (rest_of bytes 1); line_ends = 1 })
+  unfolding is_line_feed is_return
   join_taken is =
       let j = joined is in
       let uncut : ends is_return j.end && begins is_line_feed (rest ++ b.text.after) ≡ false
       = ap (λ t. t && begins is_line_feed (rest ++ b.text.after)) (sym (ends_later 92 j.end j.is) ∙ ap (ends is_return) (sym j.text))
       ∙ precedes join is in
       taken join is refl (longer 92 j.end _ j.text (omega arith) (ap line_end_len j.later ∙ end_len j.end rest b.text.after j.is uncut))
+      (one_end j.end j.is ∙ sym (ap line_ends j.text ∙ zero-add (line_ends j.end)))
 
 -- the characters of a word are bytes of words, or not ASCII
 wide_even : IsEvenAbove is_wide_word
@@ -197,12 +214,35 @@ begins_at passes [] (suc n) h = absurd (both_ways _ refl h)
 begins_at passes (b ∷ bs) zero h = (omega arith, h)
 begins_at passes (b ∷ bs) (suc n) h = let (within, is) = begins_at passes bs n h in (omega (arith, within), is)
 
+pub first_passes : (passes : ℕ → Bool) (bytes : List ℕ) → 0 < length bytes → begins passes bytes ≡ passes (slice_index bytes 0)
+first_passes passes [] some = absurd (omega (arith, some))
+first_passes passes (b ∷ bs) some = refl
+
+-- so a run ends there
+pub run_ends : (passes : ℕ → Bool) (bytes : List ℕ) (n : ℕ) → IsRunOf passes bytes n → begins passes (drop n bytes) ≡ false
+run_ends passes bytes n run = false_from_ne_true _ (λ h. let (within, is) = begins_at passes bytes n h in both_ways _ (run.ends within) is)
+
+-- and at the end of the bytes, where these go on
+pub run_within : (passes : ℕ → Bool) (bytes ahead : List ℕ) (n k : ℕ) → take (length bytes) ahead ≡ bytes → IsRunOf passes ahead n
+    → k ≡ min n (length bytes) → IsRunOf passes bytes k
+run_within passes bytes ahead n k is run least = record {
+  within = omega (arith, least);
+  each = λ i less. ap passes (same i (omega (arith, less, least))) ∙ run.each i (omega (arith, less, least));
+  ends = λ less.
+      let whole : k ≡ n = omega (arith, less, least) in
+      ap passes (same k less ∙ ap (slice_index ahead) whole)
+      ∙ run.ends (omega (arith, less, whole, ap length is, length-take (length bytes) ahead));
+}
+  where
+    same : (i : ℕ) → i < length bytes → slice_index bytes i ≡ slice_index ahead i
+    same i less = ap (λ l. slice_index l i) (sym is) ∙ get_or-take (length bytes) ahead i 0 less
+
 -- the first bytes, so many of them, are the prefix of a string, whose quote follows
 abbrev EndsPrefix : List ℕ → ℕ → Type 0
 EndsPrefix bytes n = (n < length bytes) × (is_quote (slice_index bytes n) ≡ true) × (begins_string (word_spelling (take n bytes)) ≡ true)
 
 -- where bytes are cut that begin with these
-cut_at : (bytes xs ys : List ℕ) (n : ℕ) → bytes ≡ xs ++ ys → n ≡ length xs → (take n bytes ≡ xs) × (drop n bytes ≡ ys)
+pub cut_at : (bytes xs ys : List ℕ) (n : ℕ) → bytes ≡ xs ++ ys → n ≡ length xs → (take n bytes ≡ xs) × (drop n bytes ≡ ys)
 cut_at bytes xs ys n is size = rw (is, size) (take-append_seam xs ys, drop-append_seam xs ys)
 
 -- the spelling of the word
@@ -230,7 +270,7 @@ module _ {bytes : List ℕ} {p : Piece} (b : BeginWithPiece bytes p) where
       run_taken b is_wide_word n wide_even run (text_wide is) (word_ends b.others b.text.after b.text.fit.3 b.text.fit.2 (precedes b word is).0)
 
   pub word_taken : (n : ℕ) (k : TokKind) → p.class ≡ word → IsRunOf is_wide_word bytes n → k ≡ word_kind (is_ascii_digit (slice_index bytes 0))
-      → IsTakenFor p (roles.Token k) n
+      → IsTakenFor p (record { role = roles.Token k; len = n; line_ends = 0 })
   word_taken n k is run told =
       let shape = in_class b word is in
       let f = first_of bytes p b in
@@ -239,6 +279,7 @@ module _ {bytes : List ℕ} {p : Piece} (b : BeginWithPiece bytes p) where
       = digit_told (slice_index bytes 0) shape.0 (λ low. sym first ∙ f.low low) (λ high. subst (λ c. 128 ≤ c) first (f.high high))
       ∙ ap (begins is_digit) (sym shape.2) in
       taken b word is (ap roles.Token (told ∙ ap word_kind digit)) (word_len n is run)
+      (unbroken p.text (all_other p.text (word-unbroken p.text (in_class b word is))))
 
   -- which is no prefix before a quote
   word_no_prefix : (n : ℕ) → p.class ≡ word → IsRunOf is_wide_word bytes n → EndsPrefix bytes n → ⊥
@@ -293,31 +334,3 @@ module _ {bytes : List ℕ} {p : Piece} (b : BeginWithPiece bytes p) where
 
   pub is_word : (n : ℕ) → begins is_wide_word bytes ≡ true → IsRunOf is_wide_word bytes n → (EndsPrefix bytes n → ⊥) → p.class ≡ word
   is_word n wide run other = ⊎_elim (λ is. is) (λ is. absurd (other (string_prefix n is wide run))) (word_or_string wide)
-
-  -- how many line ends it holds
-  pub lines_told : {role : Role} {len : ℕ} → IsTakenFor p role len → ends_in role (take len bytes) ≡ line_ends p.text
-  unfolding is_break is_line_feed is_return is_space
-  lines_told {len = len} (role_is, len_is) =
-      rw (role_is, (cut_at bytes (encode_utf8_all p.text) (encode_utf8_all (spelled b.others)) len (spelled_bytes bytes p b) len_is).0)
-      (go p.class refl)
-    where
-      words : (digit : Bool) → ends_in (roles.Token (word_kind digit)) (encode_utf8_all p.text) ≡ 0
-      words true = refl
-      words false = refl
-
-      go : (k : Class) → p.class ≡ k → ends_in (role_of k p.text) (encode_utf8_all p.text) ≡ line_ends p.text
-      go mark is = absurd (both_ways _ b.unmarked (ap is_mark_class is))
-      go space is =
-          unbroken p.text (all_other p.text (none_in is_space is_break (λ d. none_of is_space (10 ∷ 13 ∷ []) d refl) p.text (in_class b space is).3))
-      go word is = words (begins is_digit p.text) ∙ unbroken p.text (all_other p.text (word-unbroken p.text (in_class b word is)))
-      go string is = line_ends-encoded p.text
-      go operator is =
-          let shape = in_class b operator is in
-          unbroken p.text (ap (list_all is_comment_byte) shape.1 ∙ and_from _ true (ap not (operator-no_break shape.0 shape.2)) refl)
-      go comment is =
-          let shape = in_class b comment is in
-          let first = ap (λ (c : ℕ). c ∷ shape.1) (hash_is shape.0 shape.3) in
-          unbroken p.text (ap (list_all is_comment_byte) (shape.2 ∙ first) ∙ all_other shape.1 shape.4)
-      go join is =
-          let j = joined b is in one_end j.end j.is ∙ sym (ap line_ends j.text ∙ zero-add (line_ends j.end))
-      go line_end is = one_end p.text (in_class b line_end is)

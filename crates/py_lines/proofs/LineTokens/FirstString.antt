@@ -25,7 +25,7 @@ use Rattle.py_lines.specs.Private.LineTokens.{BeginWithPiece}
 use Rattle.py_lines.proofs.FieldMachine.OuterLists.{outer_alone, started_outer}
 use Rattle.py_lines.proofs.FieldScans.Frames.{frames-length}
 use Rattle.py_lines.proofs.FieldScans.PlainCode.{outside_fields}
-use Rattle.py_lines.proofs.FieldScans.Taking.{comes_real, first_byte, first_real, goes_real}
+use Rattle.py_lines.proofs.FieldScans.Taking.{comes_real, first_byte, first_real, goes_real, some_run}
 use Rattle.py_lines.proofs.FieldSoundness.WholeTexts.{two_hundred}
 use Rattle.py_lines.proofs.Lexings.LineEnds.{return_returns}
 use Rattle.py_lines.proofs.Lexings.OuterRuns.{outer_spells}
@@ -64,10 +64,6 @@ open_at t x (c ∷ []) v some (open_yet, next, step, on, same) (n, again, stays,
     subst (λ (y : FieldScanned). y.outer ≡ [] → is_shut y.mode ≡ false) (some_is n next (sym again ∙ step) ∙ same) stays
 open_at t x (c ∷ e ∷ z) v some (open_yet, next, step, on, goes) (n, again, stays, others) =
     open_at next x (e ∷ z) v (omega arith) goes (subst (λ (y : FieldScanned). KeepsOpen y (e ∷ (z ++ v))) (some_is n next (sym again ∙ step)) others)
-
-some_run : (run : List ℕ) (len : ℕ) → byte_len run ≡ len → 0 < len → 0 < length run
-some_run [] len size some = absurd (omega (arith, size, some))
-some_run (c ∷ cs) len size some = omega arith
 
 -- a scan that keeps count of such a state has nothing open
 shut_free : (m : OpenMode) → is_shut (mode_from m) ≡ true → is_free_mode m ≡ true

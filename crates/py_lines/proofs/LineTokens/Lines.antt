@@ -1,10 +1,11 @@
 -- How a line begins, with its mark and its indentation, and how its pieces are read one after another.
-use Rattle.std.proofs.Common.{◌≡◌, ℕ, ◌+◌, ◌<◌, ◌≤◌, Bool, true, false, cond, ◌||◌, List, [], ◌∷◌, ◌++◌, length, take, drop, refl, sym, ap, ◌∙◌, subst, append_assoc, append-nil, arith, length-drop, zero, suc, ◌⊎◌, inl, inr, ⊎_elim, zero-add, add-zero}
+use Rattle.std.proofs.Common.{◌≡◌, ℕ, ◌+◌, ◌-◌, ◌<◌, ◌≤◌, Bool, true, false, cond, ◌||◌, List, [], ◌∷◌, ◌++◌, length, take, drop, refl, sym, ap, ◌∙◌}
+use Rattle.std.proofs.Common.{subst, append_assoc, append-nil, arith, length-drop, zero, suc, ◌⊎◌, inl, inr, ⊎_elim, zero-add, add-zero}
 use Rattle.std.specs.Prelude.{encode_utf8_all, if◌then◌else◌, nat_eq}
 use Rattle.std.specs.List.{list_any, starts_with}
 use Rattle.std.proofs.Math.Bool.{or-false, or_assoc}
 use Rattle.std.proofs.Math.Seq.{drop-append_seam}
-use Rattle.std.proofs.lemmas.List.{drop-drop}
+use Rattle.std.proofs.lemmas.List.{drop-drop, drop-take, length-take-le}
 use Rattle.std.proofs.lemmas.Str.{encodes-append, length-le-encodes}
 use Rattle.std.proofs.lemmas.Bool.{both_ways, false_from_ne_true}
 use Rattle.std.proofs.lemmas.Bool.Decides.{Decides-eqb}
@@ -13,15 +14,18 @@ use Rattle.std.proofs.Math.Utf8.{encode}
 use Rattle.py_lines.specs.Character.{is_digit, is_mark, is_space, is_line_feed, is_return}
 use Rattle.py_lines.specs.Piece.{Class, mark, word, Piece, begins, spelled, space, begins_marked, is_mark_class}
 use Rattle.py_lines.specs.Balance.{depth_after}
-use Rattle.py_lines.specs.LogicalLine.{byte_len, is_code_class, is_comment_class, line_ends, tokens_of_piece, indent_of, kind_of, space_len, tokens_from}
+use Rattle.py_lines.specs.LogicalLine.{byte_len, is_code_class, is_comment_class, line_ends, tokens_of_piece, indent_of, kind_of, space_len}
+use Rattle.py_lines.specs.LogicalLine.{tokens_from}
 use Rattle.py_lines.specs.Fields.{AreReadBefore, InClass}
-use Rattle.py_lines.specs.declared.line_tokens.Role.{Role}
+use Rattle.py_lines.specs.declared.line_tokens.FirstPiece.{FirstPiece}
 use Rattle.py_lines.specs.declared.line_tokens.LineTokens.{LineTokens}
 use Rattle.py_lines.specs.declared.line_tokens.Role.TheVariants as roles
 use Rattle.py_lines.specs.declared.unit.UnitKind.{UnitKind}
 use Rattle.py_lines.specs.declared.unit.UnitKind.TheVariants as unit_kind
 use Rattle.py_lines.specs.declared.class.Class.TheVariants as class
-use Rattle.py_lines.specs.Private.LineTokens.{AddsPiece, AreTextAt, AreTokensOf, BeginWithPiece, HaveReadOf, IsTakenFor, ends_in, kind_on, kind_with, role_of, token_in, word_kind, AreLineText, HaveRead}
+use Rattle.py_lines.specs.Private.LineTokens.{mark_bytes, mark_len}
+use Rattle.py_lines.specs.Private.LineTokens.{AddsPiece, AreTextAt, AreTokensOf, BeginWithPiece, HaveReadOf, IsTakenFor, kind_on, kind_with, role_of}
+use Rattle.py_lines.specs.Private.LineTokens.{token_in, word_kind, AreLineText, HaveRead}
 use Rattle.py_lines.specs.Private.Run.{IsRunOf}
 use Rattle.py_lines.proofs.FieldScans.TextLengths.{rest_is, rest_of}
 use Rattle.py_lines.proofs.Text.Utf8Prefixes.{all_scalars-parts, prefix_chars}
@@ -29,11 +33,9 @@ use Rattle.py_lines.proofs.LogicalLines.Cuts.{byte_len-append}
 use Rattle.py_lines.proofs.Lexings.FirstLines.{piece_some}
 use Rattle.py_lines.proofs.LineScan.LineCount.{line_ends-bytes}
 use Rattle.py_lines.proofs.Text.CharacterTests.{mark_is}
-use Rattle.py_lines.proofs.Text.HighBytes.{low_even}
-use Rattle.py_lines.proofs.LogicalLines.NextLine.{begins-prefix, line_ends-spelled}
-use Rattle.py_lines.proofs.LineScan.AsciiRuns.{space_low}
+use Rattle.py_lines.proofs.LogicalLines.NextLine.{line_ends-spelled}
 use Rattle.py_lines.proofs.LineTokens.FirstCharacters.{begins_so, class_told, unmarked_first}
-use Rattle.py_lines.proofs.LineTokens.FirstPieces.{in_class, lines_told, precedes, run_taken}
+use Rattle.py_lines.proofs.LineTokens.FirstPieces.{run_ends, space_taken, spaces}
 
 -- what a line holds, with code or without, and with comments or without: with one more piece, and with more of them
 abbrev kind_by : Bool → Bool → UnitKind
@@ -80,12 +82,12 @@ text_after depth bytes p ps is = record {
 }
 
 -- a piece that was taken there: there is room for it, and the line is read so far
-pub record IsTakenNext (text : List ℕ) (pieces : List Piece) (first start line : ℕ) (t : LineTokens) (role : Role) (len : ℕ) : Type 0 where
-  pub some : 0 < len
-  pub within : start + len ≤ length text
-  pub lines : line + ends_in role (take len (rest_of text start)) ≤ first + length text
-  pub more : (u : LineTokens) → AddsPiece t role start (start + len) line u
-      → (left : List Piece) × HaveReadOf text pieces left first (start + len) (line + ends_in role (take len (rest_of text start))) u
+pub record IsTakenNext (text : List ℕ) (pieces : List Piece) (first start line : ℕ) (t : LineTokens) (x : FirstPiece) : Type 0 where
+  pub some : 0 < x.len
+  pub within : start + x.len ≤ length text
+  pub lines : line + x.line_ends ≤ first + length text
+  pub more : (u : LineTokens) → AddsPiece t x.role start (start + x.len) line u
+      → (left : List Piece) × HaveReadOf text pieces left first (start + x.len) (line + x.line_ends) u
 
 -- the line ends of pieces are those of the first and of the others
 line_ends-first : (p : Piece) (ps : List Piece) (after : List ℕ) → AreReadBefore (p ∷ ps) after
@@ -96,7 +98,7 @@ line_ends-first p ps after fit = omega (arith, line_ends-spelled (p ∷ ps) afte
 pub has_next : {text : List ℕ} {pieces : List Piece} {first start line : ℕ} {t : LineTokens} (left : List Piece) → AreLineText text pieces
     → HaveReadOf text pieces left first start line t → start < length text
     → (p : Piece) × BeginWithPiece (rest_of text start) p
-    × ((role : Role) (len : ℕ) → IsTakenFor p role len → IsTakenNext text pieces first start line t role len)
+    × ((x : FirstPiece) → IsTakenFor p x → IsTakenNext text pieces first start line t x)
 has_next {text = text} {start = start} [] is h inside = absurd (omega (arith, inside, ap length h.are.spell, length-drop start text))
 has_next {text = text} {pieces = pieces} {first = first} {start = start} {line = line} {t = t} (p ∷ qs) is h inside =
     let lines : line_ends (spelled (p ∷ qs)) ≡ line_ends p.text + line_ends (spelled qs) = line_ends-first p qs h.are.after h.are.fit in
@@ -111,11 +113,12 @@ has_next {text = text} {pieces = pieces} {first = first} {start = start} {line =
     }) in (
       p,
       begin,
-      λ role len taken.
-          let counted = lines_told begin taken in
+      λ x taken.
+          let size = ap (λ (y : FirstPiece). y.len) taken in
+          let counted = ap (λ (y : FirstPiece). y.line_ends) taken in
           record {
-            some = omega (arith, some, taken.1);
-            within = omega (arith, within, taken.1);
+            some = omega (arith, some, size);
+            within = omega (arith, within, size);
             lines = omega (arith, h.lines, lines, counted, line_ends-bytes (spelled pieces), ap length is.spell);
             more = λ u adds. (
               qs,
@@ -123,16 +126,44 @@ has_next {text = text} {pieces = pieces} {first = first} {start = start} {line =
                 unmarked = h.are.fit.2;
                 depth = depth_after h.depth p;
                 are = subst (λ (l : List ℕ). AreTextAt (depth_after h.depth p) l qs)
-                    (drop-drop (byte_len p.text) start text ∙ ap (λ (n : ℕ). drop (start + n) text) (sym taken.1))
+                    (drop-drop (byte_len p.text) start text ∙ ap (λ (n : ℕ). drop (start + n) text) (sym size))
                     (text_after h.depth (drop start text) p qs h.are);
                 lines = omega (arith, h.lines, lines, counted);
-                kind = h.kind ∙ ap (λ k. kind_on k qs) (sym (adds.kind ∙ ap (λ r. kind_with t.kind r) taken.0));
+                kind = h.kind ∙ ap (λ k. kind_on k qs) (sym (adds.kind ∙ ap (λ (y : FirstPiece). kind_with t.kind y.role) taken));
                 indent = adds.indent ∙ h.indent;
-                tokens = h.tokens ∙ rw (adds.tokens, counted, taken.0, taken.1, append_assoc, own_token p.class p.text);
+                tokens = h.tokens ∙ rw (adds.tokens, taken, append_assoc, own_token p.class p.text);
               },
             );
           },
     )
+
+-- space is passed
+pub past_space : {text : List ℕ} {pieces : List Piece} {first start line : ℕ} {t : LineTokens} (left : List Piece) (n : ℕ) → AreLineText text pieces
+    → HaveReadOf text pieces left first start line t → IsRunOf is_space (rest_of text start) n
+    → (others : List Piece) × HaveReadOf text pieces others first (start + n) line t
+past_space {text = text} {pieces = pieces} {first = first} {start = start} {line = line} {t = t} left zero is h run =
+    (left, subst (λ (k : ℕ). HaveReadOf text pieces left first k line t) (sym (add-zero start)) h)
+past_space {text = text} {pieces = pieces} {first = first} {start = start} {line = line} {t = t} left (suc n) is h run =
+    let (p, begin, next) = has_next left is h (omega (arith, run.within, ap length (rest_is text start), length-drop start text)) in
+    let spaces = class_told _ p class.Space begin (run.each 0 (omega arith)) in
+    let (others, on) = (next _ (space_taken begin (suc n) spaces run)).more t (record { kind = refl; indent = refl; tokens = sym (append-nil _) }) in
+    (others, subst (λ (l : ℕ). HaveReadOf text pieces others first (start + suc n) l t) (add-zero line) on)
+
+-- so that no space follows
+pub space_over : (text : List ℕ) (start n : ℕ) → IsRunOf is_space (rest_of text start) n → begins is_space (drop (start + n) text) ≡ false
+space_over text start n run =
+    ap (begins is_space) (sym (ap (drop n) (rest_is text start) ∙ drop-drop n start text)) ∙ run_ends is_space (rest_of text start) n run
+
+-- what is left of a line, and of the bytes that it begins
+pub left_ahead : (bytes : List ℕ) (len start : ℕ) → len ≤ length bytes → start ≤ len
+    → take (length (rest_of (take len bytes) start)) (rest_of bytes start) ≡ rest_of (take len bytes) start
+left_ahead bytes len start within less =
+    let left : start + (len - start) ≡ len = omega (arith, less) in
+    let is : rest_of (take len bytes) start ≡ take (len - start) (drop start bytes)
+    = rest_is (take len bytes) start ∙ ap (λ k. drop start (take k bytes)) (sym left) ∙ drop-take start (len - start) bytes in
+    let size : length (rest_of (take len bytes) start) ≡ len - start
+    = omega (arith, ap length is, length-take-le (len - start) (drop start bytes) (omega (arith, length-drop start bytes))) in
+    ap (λ k. take k (rest_of bytes start)) size ∙ ap (take (len - start)) (rest_is bytes start) ∙ sym is
 
 -- a line that is read to its end
 pub whole_read : {text : List ℕ} {pieces : List Piece} {first start line : ℕ} {t : LineTokens} (left : List Piece)
@@ -142,14 +173,6 @@ whole_read {line = line} [] h end =
 whole_read {text = text} {start = start} (p ∷ qs) h end =
     let left = ap length h.are.spell ∙ length-drop start text in
     absurd (omega (arith, end, left, piece_some p.class p.text h.are.fit.0, byte_len-append p.text (spelled qs), length-le-encodes p.text))
-
--- the mark in UTF-8
-abbrev mark_bytes : List ℕ
-mark_bytes = 0xEF ∷ 0xBB ∷ 0xBF ∷ []
-
--- how many of it the text begins with
-abbrev mark_len : List ℕ → ℕ
-mark_len text = if starts_with nat_eq text mark_bytes then 3 else 0
 
 mark_encoded : encode_utf8_all (0xFEFF ∷ []) ≡ mark_bytes
 unfolding encode
@@ -204,9 +227,7 @@ first_read bytes depth (p ∷ ps) n is unmarked run = go p.class refl
     none (suc k) r other = absurd (other (class_told bytes p class.Space b (r.each 0 (omega arith))))
 
     go : (kind : Class) → p.class ≡ kind → n ≡ space_len kind p.text
-    go space is =
-        run_taken b is_space n (low_even is_space space_low) run (in_class b space is).3
-        (begins-prefix is_space (spelled ps) b.text.after (precedes b space is))
+    go space is = spaces b n is run
     go mark is = none n run (λ spaces. absurd (cc))
     go other is = none n run (λ spaces. absurd (cc))
 
@@ -262,6 +283,9 @@ module _ (text : List ℕ) (start n first : ℕ) (t : LineTokens) (begins : star
       begun_before ps ps 0 (subst (λ k. AreTextAt 0 (drop k text) ps) place is) unmarked refl
       (ap (λ k. tokens_from k first ps) place) (unmarked_indent ps unmarked) refl
 
-  pub begun : HaveRead text first start first t
-  begun [] is = begun_unmarked [] is refl
-  begun (p ∷ ps) is = ⊎_elim (begun_marked p ps is) (begun_unmarked (p ∷ ps) is) (is_mark_or p.class)
+  begun_at : HaveRead text first start first t
+  begun_at [] is = begun_unmarked [] is refl
+  begun_at (p ∷ ps) is = ⊎_elim (begun_marked p ps is) (begun_unmarked (p ∷ ps) is) (is_mark_or p.class)
+
+  pub begun : HaveRead text first (start + n) first t
+  begun ps is = let (left, h) = begun_at ps is in past_space left n is h run

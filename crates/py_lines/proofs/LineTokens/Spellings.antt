@@ -9,22 +9,13 @@ use Rattle.py_lines.specs.Character.{is_one_of, is_r, is_b, is_f, is_t, is_u}
 use Rattle.py_lines.specs.PieceGrammar.{is_prefix}
 use Rattle.py_lines.specs.FieldStrings.{is_field_prefix}
 use Rattle.py_lines.specs.Fields.{fielded}
-use Rattle.py_lines.specs.declared.mode.Spelling.{Spelling}
-use Rattle.py_lines.specs.declared.mode.Spelling.TheVariants as spellings
 use Rattle.py_lines.specs.Private.Machine.{begins_string, first_spelling, is_field_spelling, spelling_on}
 use Rattle.py_lines.specs.Private.Run.{word_spelling}
 use Rattle.py_lines.proofs.Text.CharacterTests.{none_of}
 use Rattle.py_lines.proofs.LineScan.AsciiRuns.{is_low, low_encodes, low_is}
-use Rattle.py_lines.proofs.Machine.Spellings.{prefix_spelling, other_begins, word_tells}
+use Rattle.py_lines.proofs.Machine.Spellings.{field_begins, prefix_spelling, other_begins, word_tells}
 
 -- a word is a prefix exactly where its spelling says so
-field_begins : (s : Spelling) → is_field_spelling s ≡ true → begins_string s ≡ true
-field_begins spellings.F h = refl
-field_begins spellings.Fr h = refl
-field_begins spellings.T h = refl
-field_begins spellings.Tr h = refl
-field_begins s h = absurd (both_ways _ refl h)
-
 pub fielded_spelling : (first : ℕ) (others : List ℕ) → fielded.is_prefix (first ∷ others) ≡ begins_string (spelling_on (first_spelling first) others)
 fielded_spelling first others =
     let s = spelling_on (first_spelling first) others in

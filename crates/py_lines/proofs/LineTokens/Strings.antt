@@ -1,29 +1,36 @@
 -- A string without fields and without escapes, which is passed at once, is the first piece of the bytes.
-use Rattle.std.proofs.Common.{◌≡◌, ℕ, ◌+◌, ◌<◌, inl, inr, true, false, List, [], ◌∷◌, ◌++◌, length, drop, refl, sym, ap, ◌∙◌, subst, append_assoc, append-nil, arith, length-append, take}
+use Rattle.std.proofs.Common.{◌≡◌, ℕ, ◌+◌, ◌<◌, inl, inr, true, false, List, [], ◌∷◌, ◌++◌, length, drop, refl, sym, ap, ◌∙◌, subst, append_assoc}
+use Rattle.std.proofs.Common.{append-nil, arith, length-append, take}
 use Rattle.std.specs.Prelude.{encode_utf8_all}
 use Rattle.std.specs.List.{list_all}
 use Rattle.std.proofs.lemmas.Bool.{and_from, and_parts}
 use Rattle.std.proofs.lemmas.Bool.Decides.{nat_tests}
+use Rattle.std.proofs.lemmas.List.Folds.{list_all-append}
 use Rattle.std.proofs.lemmas.List.{length-take, same_from_push, take-append-drop}
 use Rattle.std.proofs.lemmas.Str.{encodes-append}
-use Rattle.py_lines.specs.Character.{is_backslash, is_barred, is_quote}
+use Rattle.py_lines.specs.Character.{is_backslash, is_barred, is_break, is_quote}
 use Rattle.py_lines.specs.Piece.{string, Piece, spelled, begins}
 use Rattle.py_lines.specs.PieceGrammar.{IsNoneOr, IsPrefix, IsShortString, is_short_item, joined}
 use Rattle.py_lines.specs.FieldStrings.{is_field_prefix}
 use Rattle.py_lines.specs.Fields.{InClass, MayPrecede, fielded}
-use Rattle.py_lines.specs.LogicalLine.{byte_len}
+use Rattle.py_lines.specs.LogicalLine.{byte_len, line_ends}
+use Rattle.py_lines.specs.declared.token.TokKind.TheVariants as kind
+use Rattle.py_lines.specs.declared.line_tokens.Role.TheVariants as roles
 use Rattle.py_lines.specs.Private.Machine.{IsFull, first_spelling, is_field_spelling, spelling_on}
-use Rattle.py_lines.specs.Private.Run.{IsWholePlainString, is_body_byte, is_text_byte, word_spelling}
-use Rattle.py_lines.specs.Private.LineTokens.{BeginWithPiece, IsStringLen, is_prefix_word}
+use Rattle.py_lines.specs.Private.Run.{IsWholePlainString, is_body_byte, is_comment_byte, is_text_byte, word_spelling}
+use Rattle.py_lines.specs.Private.LineTokens.{BeginWithPiece, IsFirstPiece, is_prefix_word}
 use Rattle.py_lines.proofs.Text.Utf8Prefixes.{prefix_chars}
 use Rattle.py_lines.proofs.Pieces.PieceLists.{piece}
 use Rattle.py_lines.proofs.Fields.OneReading.{compare_pieces}
 use Rattle.py_lines.proofs.Fields.Prefixes.{Compared, first_quote, longer, same, shorter}
 use Rattle.py_lines.proofs.FieldSoundness.BodyMoves.{quoted_prefix}
 use Rattle.py_lines.proofs.Machine.Spellings.{other_begins, prefix_spelling, word_tells}
-use Rattle.py_lines.proofs.LineScan.AsciiRuns.{is_low, low_encodes, low_is, quote_ascii}
+use Rattle.py_lines.proofs.LineScan.AsciiRuns.{all_also, is_low, low_encodes, low_is, quote_ascii}
 use Rattle.py_lines.proofs.Text.Utf8Shapes.{one}
-use Rattle.py_lines.proofs.LineTokens.FirstPieces.{begins_at}
+use Rattle.py_lines.proofs.LineTokens.FirstPieces.{all_other, begins_at, taken}
+use Rattle.py_lines.proofs.LineTokens.FirstCharacters.{prefix_is_word}
+use Rattle.py_lines.proofs.Text.LineEnds.{unbroken}
+use Rattle.py_lines.proofs.WordBreaks.{word-unbroken}
 use Rattle.py_lines.proofs.LineTokens.Spellings.{fielded_spelling, prefix_low}
 use Rattle.py_lines.proofs.FieldScans.TextLengths.{rest_is, rest_of}
 
@@ -54,14 +61,18 @@ record IsPlainPrefix (word : List ℕ) : Type 0 where
   no_field : is_field_prefix word ≡ false
   any : IsNoneOr fielded.is_prefix word
   low : encode_utf8_all word ≡ word
+  unbroken : list_all is_comment_byte word ≡ true
 
 plain_prefix : (word : List ℕ) → is_prefix_word word ≡ true → is_field_spelling (word_spelling word) ≡ false → IsPlainPrefix word
-plain_prefix [] is plain = record { begun = inl refl; no_field = refl; any = inl refl; low = refl }
-plain_prefix (c ∷ cs) is plain = record {
+plain_prefix [] is plain = record { begun = inl refl; no_field = refl; any = inl refl; low = refl; unbroken = refl }
+plain_prefix (c ∷ cs) is plain = let begins = fielded_spelling c cs ∙ is in record {
   begun = inr (prefix_spelling c cs ∙ sym (other_begins (spelling_on (first_spelling c) cs) plain) ∙ is);
   no_field = (word_tells c cs).0 ∙ plain;
-  any = inr (fielded_spelling c cs ∙ is);
+  any = inr begins;
   low = (low_encodes is_low (c ∷ cs) low_is (prefix_low (c ∷ cs) is)).0;
+  unbroken =
+      let (first, others, shape, starts, low, run) = prefix_is_word (c ∷ cs) begins in
+      all_other (c ∷ cs) (word-unbroken (c ∷ cs) (first, others, shape, starts, run));
 }
 
 -- of two lists that are compared, with one piece in the first, the first pieces are the same
@@ -75,6 +86,14 @@ low_quote q text is = ap (λ t. t ++ encode_utf8_all text) (one q (quote_ascii q
 
 text_low : (q c : ℕ) → is_text_byte q c ≡ true → c < 128
 text_low q c h = low_is c (and_parts (is_body_byte q c) (is_low c) h).1
+
+text_unbroken : (q c : ℕ) → is_text_byte q c ≡ true → is_comment_byte c ≡ true
+unfolding is_body_byte is_break
+text_unbroken q c h = grind (arith, nat_tests)
+
+quote_unbroken : (q : ℕ) → is_quote q ≡ true → is_comment_byte q ≡ true
+unfolding is_quote is_break
+quote_unbroken q h = grind (arith, nat_tests)
 
 -- a string that was passed after its prefix, or with none
 module _ (word : List ℕ) (q : ℕ) (run : List ℕ) (w : IsPlainPrefix word) (quote : is_quote q ≡ true) (full : IsFull run)
@@ -125,26 +144,35 @@ module _ (word : List ℕ) (q : ℕ) (run : List ℕ) (w : IsPlainPrefix word) (
       first_same (piece string whole) p b.others (compare_pieces (piece string whole ∷ []) (p ∷ b.others) (y ++ b.text.after) b.text.after
       (in_class, precedes (y ++ b.text.after), refl, tt) b.text.fit at)
 
+  -- nor ends a line in it
+  one_line : 0 ≡ line_ends whole
+  unfolding whole
+  one_line =
+      let outer = quote_unbroken q quote in
+      let inner = all_also (is_text_byte q) is_comment_byte (text_unbroken q) run all in
+      unbroken whole (simp (list_all-append, w.unbroken, inner, outer))
+
   size : length whole ≡ length word + (length run + 2)
   unfolding whole
   size = omega (arith, length-append word (q ∷ (run ++ q ∷ [])), length-append run (q ∷ []))
 
 pub plain_taken : (bytes : List ℕ) (n len : ℕ) → begins is_quote (drop n bytes) ≡ true → is_prefix_word (take n bytes) ≡ true
-    → is_field_spelling (word_spelling (take n bytes)) ≡ false → IsWholePlainString (rest_of bytes n) len → IsStringLen bytes (n + len)
+    → is_field_spelling (word_spelling (take n bytes)) ≡ false → IsWholePlainString (rest_of bytes n) len
+    → IsFirstPiece bytes (record { role = roles.Token kind.Str; len = n + len; line_ends = 0 })
 unfolding whole
-plain_taken bytes n len quotes prefix plain has p is b =
+plain_taken bytes n len quotes prefix plain s p b =
     let word = take n bytes in
     let w = plain_prefix word prefix plain in
-    let s = has in
     let spell : whole word s.q s.run w s.quote s.full s.all ++ s.after ≡ bytes
     = append_assoc word (s.q ∷ (s.run ++ s.q ∷ [])) s.after ∙ ap (λ t. word ++ (s.q ∷ t)) (append_assoc s.run (s.q ∷ []) s.after)
     ∙ ap (λ t. word ++ t) (s.spell ∙ rest_is bytes n) ∙ take-append-drop n bytes in
-    omega (
+    let is = is_first word s.q s.run w s.quote s.full s.all bytes s.after p spell b in
+    taken b string (sym (ap (λ (x : Piece). x.class) is)) refl (omega (
       arith,
       size word s.q s.run w s.quote s.full s.all,
       s.size,
       (begins_at is_quote bytes n quotes).0,
       length-take n bytes,
       ap length (low word s.q s.run w s.quote s.full s.all),
-      ap (λ (x : Piece). byte_len x.text) (is_first word s.q s.run w s.quote s.full s.all bytes s.after p spell b),
-    )
+      ap (λ (x : Piece). byte_len x.text) is,
+    )) (one_line word s.q s.run w s.quote s.full s.all ∙ ap (λ (x : Piece). line_ends x.text) is)

@@ -48,7 +48,10 @@ word_tells first others = (all_told first others).1
 pub word_told : (s : Spelling) (held : List ℕ) → Holds (Mode.Word s) [] held → Tells held s
 word_told s held (first, others, is, opens, run, spells) = rw (is, spells) (word_tells first others)
 
+-- a prefix of a string with fields begins a string
+pub field_begins : (s : Spelling) → is_field_spelling s ≡ true → begins_string s ≡ true
+field_begins s h = grind arith
+
 -- other words are prefixes as the machine without fields has them
 pub other_begins : (s : Spelling) → is_field_spelling s ≡ false → begins_string s ≡ is_prefix_spelling s
-other_begins Spelling.F h = grind arith
 other_begins s h = grind arith

@@ -1,27 +1,21 @@
 -- A short string with fields whose text is simple, after plain bytes that end with its prefix, as the scan would take it.
-use Rattle.std.proofs.Common.{◌≡◌, ℕ, suc, ◌+◌, ◌-◌, ◌<◌, ◌≤◌, not, Bool, true, false, Option, Some, List, ◌∷◌, length, take, drop, slice_index, refl, ap, ◌∙◌, subst, arith, drop-cons, get_or-drop}
+use Rattle.std.proofs.Common.{◌≡◌, ℕ, suc, ◌+◌, ◌<◌, ◌≤◌, Bool, true, false, Option, Some, List, ◌∷◌, length, drop, slice_index, refl, ap, ◌∙◌, subst, drop-cons}
 use Rattle.std.specs.Prelude.{codes}
-use Rattle.std.specs.List.{list_all}
-use Rattle.std.proofs.lemmas.Bool.{and_right, both_ways, false_from_ne_true}
-use Rattle.std.proofs.lemmas.List.{get_or-take, length-take-le}
-use Rattle.std.proofs.lemmas.List.Folds.{list_all_at}
-use Rattle.py_lines.specs.Character.{is_backslash, is_break, is_quote}
+use Rattle.py_lines.specs.Character.{is_backslash, is_quote}
 use Rattle.py_lines.specs.declared.host.Region.TheVariants as regions
 use Rattle.py_lines.specs.declared.host.StringWithFields.{StringWithFields}
 use Rattle.py_lines.specs.declared.mode.Mode.{Mode as OpenMode}
 use Rattle.py_lines.specs.declared.mode.Mode.TheVariants as opens
 use Rattle.py_lines.specs.declared.mode.Spelling.{Spelling}
-use Rattle.py_lines.specs.declared.mode.Spelling.TheVariants as spellings
 use Rattle.py_lines.specs.declared.scan.Scan.{Scan}
 use Rattle.py_lines.specs.Private.FieldText.{HasText}
-use Rattle.py_lines.specs.Private.Machine.{begins_string, is_field_spelling, is_raw_spelling}
+use Rattle.py_lines.specs.Private.Machine.{is_field_spelling, is_raw_spelling}
 use Rattle.py_lines.specs.Private.Marks.{is_plain}
 use Rattle.py_lines.specs.Private.Passing.{tail_of}
-use Rattle.py_lines.specs.Private.Run.{is_line_byte}
 use Rattle.py_lines.specs.Private.Scan.{IsTextAt, mode_from, quotes_in}
+use Rattle.py_lines.proofs.Machine.Spellings.{field_begins}
 use Rattle.py_lines.proofs.FieldScans.PlainCode.{over_code}
 use Rattle.py_lines.proofs.FieldScans.Runs.{holds_text}
-use Rattle.py_lines.proofs.PassedPieces.CountedEnds.{Unbroken}
 use Rattle.py_lines.proofs.PassedPieces.Items.{Opened, Over, string_taken, with_prefix}
 use Rattle.py_lines.proofs.PassedPieces.PlainBytes.{IsTail, PlainTo}
 use Rattle.py_lines.proofs.Text.CharacterTests.{each_of}
@@ -29,22 +23,6 @@ use Rattle.py_lines.proofs.Text.CharacterTests.{each_of}
 -- the prefix of a string with fields
 abbrev pub IsFieldWord : Option Spelling → Type 0
 IsFieldWord o = (s : Spelling) × (o ≡ Some s) × (is_field_spelling s ≡ true)
-
-field_begins : (s : Spelling) → is_field_spelling s ≡ true → begins_string s ≡ true
-field_begins spellings.F is = grind arith
-field_begins s is = grind arith
-
--- bytes of ASCII that stand on one line hold no line end
-pub low_unbroken : (bytes : List ℕ) (from n : ℕ) → n ≤ length (drop from bytes) → list_all is_line_byte (take n (drop from bytes)) ≡ true
-    → Unbroken bytes from (from + n)
-low_unbroken bytes from n within low i more less =
-    let k : ℕ = i - from in
-    let early : k < n = omega (arith, more, less) in
-    let same : from + k ≡ i = omega (arith, more) in
-    let there = get_or-take n (drop from bytes) k 0 early ∙ get_or-drop from bytes k 0 ∙ ap (slice_index bytes) same in
-    let size = length-take-le n (drop from bytes) within in
-    false_from_ne_true _ (λ breaks. both_ways _
-    (list_all_at is_line_byte (take n (drop from bytes)) k 0 (omega (arith, early, size)) (and_right _ _ (ap not (ap is_break there ∙ breaks)))) low)
 
 -- the text of a short string with fields
 module _ (q : ℕ) (raw : Bool) (quote : is_quote q ≡ true) where

@@ -1,11 +1,16 @@
 -- The bytes that a slice begins with: one, two or three of them, or a line end.
-use Rattle.std.proofs.Common.{◌≡◌, ℕ, ◌<◌, None, List, [], ◌∷◌, length, take, drop, slice_index, refl, ap, ◌∙◌, arith, add-zero, get_or-drop}
+use Rattle.std.proofs.Common.{◌≡◌, ℕ, suc, ◌+◌, ◌<◌, None, List, [], ◌∷◌, length, take, drop, slice_index, refl, ap, ◌∙◌, arith, add-zero, get_or-drop, drop-cons}
 use Rattle.std.proofs.lemmas.Bool.Decides.{nat_tests}
 use Rattle.py_lines.specs.Character.{is_break}
 use Rattle.py_lines.specs.Private.LineEnds.{HasOuterEnd}
 
 pub first_later : (bytes : List ℕ) (at : ℕ) → slice_index (drop at bytes) 0 ≡ slice_index bytes at
 first_later bytes at = get_or-drop at bytes 0 0 ∙ ap (slice_index bytes) (add-zero at)
+
+pub bytes_from : (bytes : List ℕ) (at : ℕ) → at < length bytes → drop at bytes ≡ slice_index bytes at ∷ drop (at + 1) bytes
+bytes_from bytes at within =
+    let next : suc at ≡ at + 1 = omega arith in
+    drop-cons bytes at 0 within ∙ ap (λ (n : ℕ). slice_index bytes at ∷ drop n bytes) next
 
 pub taken_one : (bytes : List ℕ) → 0 < length bytes → take 1 bytes ≡ slice_index bytes 0 ∷ []
 taken_one [] within = absurd (omega (arith, within))

@@ -1,9 +1,9 @@
 -- What stands at the next byte that isn't plain is passed, with the plain bytes before it.
-use Rattle.std.proofs.Common.{◌≡◌, ℕ, ◌+◌, ◌-◌, ◌<◌, ◌≤◌, ◌==◌, true, false, Bool, List, ◌∷◌, ◌++◌, length, take, drop, slice_index, refl, sym, ap, ◌∙◌, subst, arith, length-drop, get_or-drop, inl, take-append-drop}
+use Rattle.std.proofs.Common.{◌≡◌, ℕ, ◌+◌, ◌-◌, ◌<◌, ◌≤◌, ◌==◌, true, false, List, [], ◌∷◌, ◌++◌, length, take, drop, slice_index, refl, sym, ap, ◌∙◌, subst, arith, length-drop, get_or-drop, inl, take-append-drop}
 use Rattle.std.specs.List.{list_all}
 use Rattle.std.proofs.Math.Path.{transport}
-use Rattle.std.proofs.lemmas.Bool.{eqb-true}
-use Rattle.std.proofs.lemmas.List.{drop-drop, length-take-le, nil_from_length}
+use Rattle.std.proofs.lemmas.Bool.{ne_eqb}
+use Rattle.std.proofs.lemmas.List.{drop-drop, length-take-le}
 use Rattle.py_lines.specs.Balance.{is_closing, is_opening}
 use Rattle.py_lines.specs.Character.{is_break}
 use Rattle.py_lines.specs.declared.frames.Frame.{Frame}
@@ -14,11 +14,11 @@ use Rattle.py_lines.specs.declared.scan.Scan.{Scan}
 use Rattle.py_lines.specs.Private.Frames.{IsClosedBy, OpensFrame, has_field}
 use Rattle.py_lines.specs.Private.LineEnds.{BeginsOuterEnd}
 use Rattle.py_lines.specs.Private.Marks.{FindsNext, HasMarks, is_plain}
-use Rattle.py_lines.specs.Private.Passing.{CountsOn, EndsAfter, PassesSo, PassesSpecial, StandsFree, line_end_special, passed_line_end, with_frames}
+use Rattle.py_lines.specs.Private.Passing.{EndsAfter, PassesSo, PassesSpecial, StandsFree, line_end_special, passed_line_end, with_frames}
 use Rattle.py_lines.specs.Private.Scan.{Takes, passed}
 use Rattle.py_lines.proofs.LineScan.AsciiRuns.{all_pass}
 use Rattle.py_lines.proofs.FieldScans.PlainCode.{over_code}
-use Rattle.py_lines.proofs.PassedPieces.CountedEnds.{bytes_from, counts_end, counts_on, counts_over, plain_unbroken}
+use Rattle.py_lines.proofs.PassedPieces.FirstBytes.{bytes_from}
 use Rattle.py_lines.proofs.PassedPieces.Items.{Over, break_ends, break_over, closing_over, opening_over}
 use Rattle.py_lines.proofs.PassedPieces.PlainBytes.{PlainTo, plain_run}
 
@@ -61,80 +61,80 @@ module _ (bytes : List ℕ) (at : ℕ) (old : Passing) (next : FindsNext bytes o
   run-length = cut-length bytes old.all at next.after next.within
 
   plain_to : (start : ℕ) (b : List Frame) (scan : Scan) → StandsFree start b scan → PlainTo scan run
-  plain_to start b scan stands = plain_run scan run stands.mode (ap has_field stands.frames ∙ stands.outside) (plain_between bytes old.all at old.marks next at next.after (omega arith))
+  plain_to start b scan stands =
+      plain_run scan run stands.mode (ap has_field stands.frames ∙ stands.outside)
+      (plain_between bytes old.all at old.marks next at next.after (omega arith))
 
   -- so many bytes more are passed
-  passes_so : (new : Passing) (b c : List Frame) (k place : ℕ) → 0 < k → at + k ≤ length bytes → new.all ≡ at + k → HasMarks bytes new.all new.marks
-      → (has_field b ≡ false → has_field c ≡ false)
-      → ((scan : Scan) (p : PlainTo scan run) → (over_code scan run).frames ≡ b → (over_code scan run).stop ≡ place → Over p first after special k c) → PassesSo bytes at place old b new c
-  passes_so new b c k place some room all marked outside on =
+  passes_so : (new : Passing) (b c : List Frame) (k place : ℕ) → 0 < k → at + k ≤ length bytes → new.all ≡ at + k → new.lines ≡ old.lines
+      → HasMarks bytes new.all new.marks → (has_field b ≡ false → has_field c ≡ false)
+      → ((scan : Scan) (p : PlainTo scan run) → (over_code scan run).frames ≡ b → (over_code scan run).stop ≡ place
+      → Over p first after special k c) → PassesSo bytes at place old b new c
+  passes_so new b c k place some room all lines marked outside on =
       record {
         further = omega (arith, all, some);
         within = omega (arith, all, room);
+        lines = lines;
         marked = marked;
         outside = outside;
         over = λ start there scan stands.
             let p = plain_to start b scan stands in
             let size : length run + k ≡ new.all - old.all = omega (arith, all, run-length, next.after) in
-            transport (λ i. Takes scan (seen i) (size i) (passed (with_frames scan c) (size i))) (on scan p (p.frames ∙ stands.frames) (omega (arith, p.stop, there, stands.stop, run-length)));
+            transport (λ i. Takes scan (seen i) (size i) (passed (with_frames scan c) (size i)))
+            (on scan p (p.frames ∙ stands.frames) (omega (arith, p.stop, there, stands.stop, run-length)));
       }
 
   -- a bracket
-  pub opening_passed : (new : Passing) (b c : List Frame) (place : ℕ) → new.all ≡ at + 1 → HasMarks bytes new.all new.marks
+  pub opening_passed : (new : Passing) (b c : List Frame) (place : ℕ) → new.all ≡ at + 1 → new.lines ≡ old.lines → HasMarks bytes new.all new.marks
       → is_opening first ≡ true → OpensFrame b (frame.Bracket first place) true c → PassesSo bytes at place old b new c
-  opening_passed new b c place all marked opening met =
-      passes_so new b c 1 place (omega arith) (omega (arith, within)) all marked (λ outside. ap has_field met.1 ∙ outside)
+  opening_passed new b c place all lines marked opening met =
+      passes_so new b c 1 place (omega arith) (omega (arith, within)) all lines marked (λ outside. ap has_field met.1 ∙ outside)
       (λ scan p frames there. opening_over p first after special c opening (rw (frames, there) met))
 
-  pub closing_passed : (new : Passing) (b c : List Frame) (place : ℕ) → new.all ≡ at + 1 → HasMarks bytes new.all new.marks
+  pub closing_passed : (new : Passing) (b c : List Frame) (place : ℕ) → new.all ≡ at + 1 → new.lines ≡ old.lines → HasMarks bytes new.all new.marks
       → is_closing first ≡ true → IsClosedBy b first c → PassesSo bytes at place old b new c
-  closing_passed new b c place all marked closing met =
-      passes_so new b c 1 place (omega arith) (omega (arith, within)) all marked (λ outside. sym (ap has_field met.2) ∙ outside)
+  closing_passed new b c place all lines marked closing met =
+      passes_so new b c 1 place (omega arith) (omega (arith, within)) all lines marked (λ outside. sym (ap has_field met.2) ∙ outside)
       (λ scan p frames there. closing_over p first after special c closing (rw frames met))
 
   -- a piece after which the same frames are open
-  pub passes_same : (new : Passing) (b : List Frame) (k place : ℕ) → 0 < k → at + k ≤ length bytes → new.all ≡ at + k
+  pub passes_same : (new : Passing) (b : List Frame) (k place : ℕ) → 0 < k → at + k ≤ length bytes → new.all ≡ at + k → new.lines ≡ old.lines
       → HasMarks bytes new.all new.marks
-      → ((scan : Scan) (p : PlainTo scan run) → (over_code scan run).frames ≡ b → Over p first after special k (over_code scan run).frames) → PassesSo bytes at place old b new b
-  passes_same new b k place some room all marked on =
-      passes_so new b b k place some room all marked (λ outside. outside) (λ scan p frames there. subst (Over p first after special k) frames (on scan p frames))
+      → ((scan : Scan) (p : PlainTo scan run) → (over_code scan run).frames ≡ b → Over p first after special k (over_code scan run).frames)
+      → PassesSo bytes at place old b new b
+  passes_same new b k place some room all lines marked on =
+      passes_so new b b k place some room all lines marked (λ outside. outside)
+      (λ scan p frames there. subst (Over p first after special k) frames (on scan p frames))
 
-  -- a line end, by whether something is open; where the bytes may hold CR, the other flag says so
-  module _ (len : ℕ) (ends : is_break first ≡ true) (begins : BeginsOuterEnd (drop at bytes) len) (r : Bool) (m : Marks)
-      (marked : HasMarks bytes (at + len) m) (b : List Frame) (place : ℕ) where
-    abbrev new : Passing
-    new = passed_line_end (record old { returned = r; marks = m }) (at + len)
-
+  -- a line end, by whether something is open
+  module _ (len : ℕ) (ends : is_break first ≡ true) (begins : BeginsOuterEnd (drop at bytes) len) (m : Marks)
+      (marked : HasMarks bytes (at + len) m) (place : ℕ) where
     there : BeginsOuterEnd (first ∷ after) len
     there = subst (λ xs. BeginsOuterEnd xs len) (bytes_from bytes at within) begins
 
     room : at + len ≤ length bytes
     room = omega (arith, begins.within, length-drop at bytes, within)
 
-    by : (none : Bool) → length b == 0 ≡ none → PassesSpecial bytes at place old b (line_end_special none len) new b
-    by false some =
-        passes_same new b len place begins.some room refl marked
-        (λ scan p frames. break_over p first after special len ends there (ap (λ (fs : List Frame). length fs == 0) frames ∙ some))
-    by true none = record {
+    pub line_end_passed : (b : List Frame)
+        → PassesSpecial bytes at place old b (line_end_special b len) (passed_line_end b (record old { marks = m }) (at + len)) b
+    line_end_passed [] = record {
       all = refl;
       within = room;
+      lines = refl;
       marked = marked;
       some = begins.some;
-      frames = nil_from_length b (eqb-true (length b) 0 none);
+      frames = refl;
       over = λ start scan stands.
-          let p = plain_to start b scan stands in
+          let p = plain_to start [] scan stands in
           let frames = p.frames ∙ stands.frames in
           let size : length run + len ≡ at + len - old.all = omega (arith, run-length, next.after) in
           transport (λ i. EndsAfter scan (seen i) (run-length i) len (passed (with_frames scan (frames i)) (size i)))
-          (break_ends p first after special len ends there (ap (λ (fs : List Frame). length fs == 0) frames ∙ none));
+          (break_ends p first after special len ends there (ap (λ (fs : List Frame). length fs == 0) frames));
     }
-
-    pub line_end_passed : (r ≡ false → (old.returned ≡ false) × (first == 13 ≡ false))
-        → PassesSpecial bytes at place old b (line_end_special (length b == 0) len) new b × CountsOn bytes old new
-    line_end_passed returned =
-        let mid : Passing = record old { all = at } in
-        let plain = counts_over bytes old mid next.after (plain_unbroken next) refl refl in
-        (by (length b == 0) refl, counts_on bytes old mid new plain (counts_end bytes mid new len begins refl refl returned))
+    line_end_passed (f ∷ fs) =
+        let some : length (f ∷ fs) == 0 ≡ false = ne_eqb _ 0 (λ none. absurd (omega (arith, none))) in
+        passes_same _ (f ∷ fs) len place begins.some room refl refl marked
+        (λ scan p frames. break_over p first after special len ends there (ap (λ (fs : List Frame). length fs == 0) frames ∙ some))
 
 -- LF is a line end
 pub feed_begins : (bytes : List ℕ) (at : ℕ) → at < length bytes → slice_index bytes at ≡ 10 → BeginsOuterEnd (drop at bytes) 1

@@ -1,9 +1,12 @@
 -- Bytes that are read from one that isn't plain to the next, up to the end of a string or a comment.
 use Rattle.std.proofs.Common.{◌≡◌, ℕ, ◌+◌, ◌-◌, ◌<◌, ◌==◌, not, nat_lt, true, false, List, Some, ◌∷◌, ◌++◌, length, take, drop, slice_index, refl, sym, ap, ◌∙◌, subst, arith, length-drop, get_or-drop}
-use Rattle.std.specs.Prelude.{◌≤◌, []}
+use Rattle.std.specs.Prelude.{◌≤◌, [], codes}
 use Rattle.std.proofs.lemmas.Bool.{and_from, and_parts, both_ways, eqb-true, false_from_ne_true, ltb-true, ne_eqb, not-true, or_parts}
 use Rattle.std.proofs.Math.Path.{transport}
-use Rattle.py_lines.specs.Character.{is_backslash, is_break, is_hash, is_quote}
+use Rattle.std.proofs.Math.Seq.{take-add}
+use Rattle.std.proofs.lemmas.List.{drop-drop}
+use Rattle.py_lines.specs.Balance.{is_closing, is_opening}
+use Rattle.py_lines.specs.Character.{is_backslash, is_break, is_hash, is_one_of, is_operator, is_quote, is_space}
 use Rattle.py_lines.specs.declared.frames.Frame.{Frame}
 use Rattle.py_lines.specs.declared.marks.Marks.{Marks}
 use Rattle.py_lines.specs.declared.mode.Mode.{Mode as OpenMode}
@@ -11,14 +14,37 @@ use Rattle.py_lines.specs.declared.mode.Mode.TheVariants as opens
 use Rattle.py_lines.specs.declared.passing.Passing.{Passing}
 use Rattle.py_lines.specs.Private.Marks.{FindsNext, HasMarks, is_plain}
 use Rattle.py_lines.specs.Private.Passing.{PassesSo, tail_of}
-use Rattle.py_lines.specs.Private.Run.{is_body_byte, is_line_byte, is_text_byte}
+use Rattle.py_lines.specs.Private.Run.{is_ascii_word, is_body_byte, is_line_byte, is_text_byte}
 use Rattle.py_lines.specs.Private.Scan.{quotes_in}
 use Rattle.py_lines.proofs.LineScan.AsciiRuns.{is_low_from}
-use Rattle.py_lines.proofs.PassedPieces.CountedEnds.{Unbroken, between, between-append, bytes_from, one_between, plain_unbroken, plain_whole, unbroken_on, unbroken_one}
-use Rattle.py_lines.proofs.PassedPieces.FirstBytes.{first_later, taken_two}
+use Rattle.py_lines.proofs.PassedPieces.FirstBytes.{bytes_from, first_later, taken_one, taken_two}
 use Rattle.py_lines.proofs.PassedPieces.Items.{Over, PlainBefore, Stays, comment_byte, comment_over, escape_stays, stays_on, stays_run, string_over, text_byte}
 use Rattle.py_lines.proofs.PassedPieces.Passed.{cut, cut-length, passes_same, plain_between}
 use Rattle.py_lines.proofs.FieldScans.PlainCode.{over_code, plain_low}
+use Rattle.py_lines.proofs.Text.CharacterTests.{excluded, none_of}
+
+-- the bytes from one place to another
+abbrev between : List ℕ → ℕ → ℕ → List ℕ
+between bytes from to = take (to - from) (drop from bytes)
+
+between-append : (bytes : List ℕ) (a b c : ℕ) → a ≤ b → b ≤ c → between bytes a c ≡ between bytes a b ++ between bytes b c
+between-append bytes a b c first second =
+    let size : c - a ≡ (b - a) + (c - b) = omega (arith, first, second) in
+    let there : a + (b - a) ≡ b = omega (arith, first) in
+    ap (λ (n : ℕ). take n (drop a bytes)) size ∙ take-add (b - a) (c - b) (drop a bytes)
+    ∙ ap (λ x. between bytes a b ++ take (c - b) x) (drop-drop (b - a) a bytes ∙ ap (λ (n : ℕ). drop n bytes) there)
+
+-- one byte
+pub one_between : (bytes : List ℕ) (end : ℕ) → end < length bytes → between bytes end (end + 1) ≡ slice_index bytes end ∷ []
+one_between bytes end within =
+    let one : end + 1 - end ≡ 1 = omega arith in
+    ap (λ (n : ℕ). take n (drop end bytes)) one ∙ taken_one (drop end bytes) (omega (arith, within, length-drop end bytes))
+    ∙ ap (λ (c : ℕ). c ∷ []) (first_later bytes end)
+
+-- a plain byte is no backslash and no line end
+plain_whole : (c : ℕ) → is_plain c ≡ true → is_one_of (codes "\\\n\r") c ≡ false
+unfolding is_plain is_ascii_word is_space is_operator is_opening is_closing
+plain_whole c plain = excluded is_plain (is_one_of (codes "\\\n\r")) c (none_of is_plain (codes "\\\n\r") c refl) plain
 
 -- a plain byte may stand in a string
 plain_text : (q c : ℕ) → is_plain q ≡ false → is_plain c ≡ true → is_text_byte q c ≡ true
@@ -36,7 +62,6 @@ pub record Reads (m : OpenMode) (bytes : List ℕ) (at end : ℕ) (marks : Marks
   pub plain : TakesPlain m
   pub further : at < end
   pub stays : Stays m (between bytes (at + 1) end)
-  pub unbroken : Unbroken bytes (at + 1) end
   pub from : ℕ
   pub next : FindsNext bytes from end marks
 
@@ -46,15 +71,13 @@ pub record Item (m : OpenMode) (bytes : List ℕ) (end : ℕ) (marks : Marks) : 
   pub some : 0 < len
   pub marked : HasMarks bytes (end + len) marks
   pub stays : Stays m (between bytes end (end + len))
-  pub unbroken : Unbroken bytes end (end + len)
 
 module _ {m : OpenMode} {bytes : List ℕ} {end : ℕ} {marks : Marks} where
-  abbrev one_item : end < length bytes → HasMarks bytes (end + 1) marks → Stays m (slice_index bytes end ∷ []) → is_break (slice_index bytes end) ≡ false
-      → Item m bytes end marks
-  one_item within marked stays none =
+  abbrev one_item : end < length bytes → HasMarks bytes (end + 1) marks → Stays m (slice_index bytes end ∷ []) → Item m bytes end marks
+  one_item within marked stays =
       let some : 0 < 1 = omega arith in
       let all = subst (Stays m) (sym (one_between bytes end within)) stays in
-      record { len = 1; some = some; marked = marked; stays = all; unbroken = unbroken_one bytes end none }
+      record { len = 1; some = some; marked = marked; stays = all }
 
   stays_plain : TakesPlain m → (from : ℕ) → FindsNext bytes from end marks → Stays m (between bytes from end)
   stays_plain plain from next =
@@ -65,7 +88,6 @@ module _ {m : OpenMode} {bytes : List ℕ} {end : ℕ} {marks : Marks} where
     plain = plain;
     further = omega (arith, next.after);
     stays = stays_plain plain (at + 1) next;
-    unbroken = plain_unbroken next;
     from = at + 1;
     next = next;
   }
@@ -83,7 +105,6 @@ reads_on {m} {bytes} {at} {end} {to} reads item next =
       further = omega (arith, reads.further, next.after);
       stays = subst (Stays m) (sym all) (stays_on m (between bytes (at + 1) end) _ reads.stays
           (stays_on m (between bytes end then) (between bytes then to) item.stays (stays_plain reads.plain then next)));
-      unbroken = unbroken_on bytes (at + 1) end to reads.unbroken (unbroken_on bytes end then to item.unbroken (plain_unbroken next));
       from = then;
       next = next;
     }
@@ -115,18 +136,20 @@ comment_begun =
 
 abbrev pub comment_item : {bytes : List ℕ} {end : ℕ} {marks : Marks} → end < length bytes → HasMarks bytes (end + 1) marks
     → is_line_byte (slice_index bytes end) ≡ true → Item opens.Comment bytes end marks
-comment_item within marked is = one_item within marked (comment_byte _ is) (not-true _ (and_parts _ _ is).1)
+comment_item within marked is = one_item within marked (comment_byte _ is)
 
 pub comment_passed : (bytes : List ℕ) (at end : ℕ) (last_marks : Marks) (old new : Passing) (b : List Frame) (place : ℕ)
     → FindsNext bytes old.all at old.marks → ReadsComment bytes at end last_marks → end < length bytes
-    → is_hash (slice_index bytes at) ≡ true → is_break (slice_index bytes end) ≡ true → new.all ≡ end → HasMarks bytes new.all new.marks → PassesSo bytes at place old b new b
-comment_passed bytes at end last_marks old new b place next reads within hash ends all marked =
+    → is_hash (slice_index bytes at) ≡ true → is_break (slice_index bytes end) ≡ true → new.all ≡ end → new.lines ≡ old.lines
+    → HasMarks bytes new.all new.marks → PassesSo bytes at place old b new b
+comment_passed bytes at end last_marks old new b place next reads within hash ends all lines marked =
     let text : List ℕ = between bytes (at + 1) end in
     let upto : at + 1 ≤ end = omega (arith, reads.further) in
     let size : length (slice_index bytes at ∷ text) ≡ end - at = omega (arith, cut-length bytes (at + 1) end upto (omega (arith, within)), reads.further) in
     let split : text ++ slice_index bytes end ∷ drop (end + 1) bytes ≡ drop (at + 1) bytes = sym (cut bytes (at + 1) end upto within) in
     let here : at < length bytes = omega (arith, reads.further, within) in
-    passes_same bytes at old next here new b (end - at) place (omega (arith, reads.further)) (omega (arith, reads.further, within)) (omega (arith, all, reads.further)) marked
+    passes_same bytes at old next here new b (end - at) place (omega (arith, reads.further)) (omega (arith, reads.further, within))
+    (omega (arith, all, reads.further)) lines marked
     (λ scan p frames. transport (λ i. Over p (slice_index bytes at) (split i) (next.special here) (size i) (over_code scan (between bytes old.all at)).frames)
     (comment_over p (slice_index bytes at) (next.special here) text (slice_index bytes end) (drop (end + 1) bytes) hash reads.stays ends))
 
@@ -147,14 +170,13 @@ module _ (q : ℕ) (quote : is_quote q ≡ true) {bytes : List ℕ} {end : ℕ} 
   text_item within marked other apart is =
       let c = slice_index bytes end in
       let parts = and_parts (nat_lt c 128) (not (is_break c)) is in
-      one_item within marked (text_byte q quote c (and_from _ _ (rw (ne_eqb c q other, ne_eqb c 92 apart) parts.1) parts.0)) (not-true _ parts.1)
+      one_item within marked (text_byte q quote c (and_from _ _ (rw (ne_eqb c q other, ne_eqb c 92 apart) parts.1) parts.0))
 
   pub escape_item : HasMarks bytes (end + 2) marks → slice_index bytes end ≡ 92 → end + 1 < length bytes
       → is_line_byte (slice_index bytes (end + 1)) ≡ true → TextItem q bytes end marks
   unfolding is_break
   escape_item marked slash within is =
       let two : 0 < 2 = omega arith in
-      let last : end + 1 + 1 ≡ end + 2 = omega arith in
       let c = slice_index bytes (end + 1) in
       let low = and_parts (nat_lt c 128) (not (is_break c)) is in
       record {
@@ -163,8 +185,6 @@ module _ (q : ℕ) (quote : is_quote q ≡ true) {bytes : List ℕ} {end : ℕ} 
         marked = marked;
         stays = subst (Stays (opens.Short q)) (sym (two_between bytes end within ∙ ap (λ (x : ℕ). x ∷ c ∷ []) slash))
             (escape_stays q quote c (ltb-true c 128 low.0) (not-true _ low.1));
-        unbroken = unbroken_on bytes end (end + 1) (end + 2) (unbroken_one bytes end (rw slash refl))
-            (subst (Unbroken bytes (end + 1)) last (unbroken_one bytes (end + 1) (not-true _ low.1)));
       }
 
 pub string_passed : (bytes : List ℕ) (at end : ℕ) (last_marks : Marks) (old new : Passing) (b : List Frame) (place : ℕ)
@@ -172,9 +192,9 @@ pub string_passed : (bytes : List ℕ) (at end : ℕ) (last_marks : Marks) (old 
     → ReadsText (slice_index bytes at) bytes at end last_marks → end < length bytes
     → is_quote (slice_index bytes at) ≡ true → slice_index bytes end ≡ slice_index bytes at
     → Some 1 ≡ quotes_in (drop at bytes)
-    → PlainBefore (tail_of (take (at - old.all) (drop old.all bytes))) → new.all ≡ end + 1 → HasMarks bytes new.all new.marks
+    → PlainBefore (tail_of (take (at - old.all) (drop old.all bytes))) → new.all ≡ end + 1 → new.lines ≡ old.lines → HasMarks bytes new.all new.marks
     → PassesSo bytes at place old b new b
-string_passed bytes at end last_marks old new b place next reads within quote closes alone before all marked =
+string_passed bytes at end last_marks old new b place next reads within quote closes alone before all lines marked =
     let q : ℕ = slice_index bytes at in
     let text : List ℕ = between bytes (at + 1) end in
     let here : at < length bytes = omega (arith, reads.further, within) in
@@ -185,6 +205,7 @@ string_passed bytes at end last_marks old new b place next reads within quote cl
     ap (λ c. text ++ c ∷ drop (end + 1) bytes) (sym closes) ∙ sym (cut bytes (at + 1) end upto within) in
     let one : Some 1 ≡ quotes_in (q ∷ (text ++ q ∷ drop (end + 1) bytes)) =
     alone ∙ ap quotes_in (bytes_from bytes at here ∙ ap (λ x. q ∷ x) (sym split)) in
-    passes_same bytes at old next here new b (end + 1 - at) place (omega (arith, reads.further)) (omega (arith, reads.further, within)) (omega (arith, all, reads.further)) marked
+    passes_same bytes at old next here new b (end + 1 - at) place (omega (arith, reads.further)) (omega (arith, reads.further, within))
+    (omega (arith, all, reads.further)) lines marked
     (λ scan p frames. transport (λ i. Over p q (split i) (next.special here) (size i) (over_code scan (between bytes old.all at)).frames)
     (string_over p q (next.special here) quote text (drop (end + 1) bytes) one reads.stays before))

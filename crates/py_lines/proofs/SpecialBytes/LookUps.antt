@@ -1,9 +1,12 @@
 -- Sixty-four bytes looked up in tables by halves of them, and what the two look-ups say together.
-use Rattle.std.proofs.Common.{◌≡◌, ℕ, ◌+◌, ◌*◌, ◌/◌, ◌%◌, ◌^◌, ◌<◌, ◌≤◌, Bool, true, false, not, cond, eqb, List, length, map, slice_index, slice_index_or, bit_and, replicate, refl, sym, ap, ◌∙◌, arith, w8, Fits, eqb-true}
+use Rattle.std.proofs.Common.{◌≡◌, ℕ, ◌+◌, ◌*◌, ◌/◌, ◌%◌, ◌^◌, ◌<◌, ◌≤◌, Bool, true, false, not, cond, eqb, List, length, map}
+use Rattle.std.proofs.Common.{slice_index, slice_index_or, bit_and, replicate, refl, sym, ap, ◌∙◌, arith, w8, Fits, eqb-true}
 use Rattle.std.specs.Simd.Lanes.{Each1, chunk, mask_l, top, zip2}
 use Rattle.std.proofs.lemmas.Bool.{agree_below, agree_below_at}
 use Rattle.std.proofs.lemmas.List.{ext_get_or, get_or-map, length-map}
-use Rattle.std.proofs.lemmas.Simd.{Each1-from_get_or, Each1-get_or, SwzOk, SwzOk-from_below, bit_mask_l, bitmask_splat, get_or-chunk, get_or-swz_l_below, length-chunk, length-swz_l, swz_l, zip2_of_maps, zip2_splat}
+use Rattle.std.proofs.lemmas.Simd.{Each1-from_get_or, Each1-get_or, SwzOk, SwzOk-from_below, bit_mask_l, bitmask_splat}
+use Rattle.std.proofs.lemmas.Simd.{get_or-chunk, get_or-swz_l_below, length-chunk, length-swz_l, swz_l, zip2_of_maps, zip2_splat}
+use Rattle.py_lines.specs.Character.{is_line_feed}
 use Rattle.py_lines.specs.Private.Marks.{is_plain, is_set, plain_uppers, upper_bit}
 
 -- sixty-four lanes that hold bytes
@@ -65,21 +68,37 @@ looked_up place_of lanes places table of copies =
 abbrev pub is_special : ℕ → Bool
 is_special b = eqb (bit_and (plain_uppers b) (upper_bit b)) 0
 
--- the mask of the lanes for which the two look-ups have no bit in common
-abbrev pub apart_mask : List ℕ → List ℕ → ℕ
-apart_mask uppers bits = mask_l (map (top 7) (zip2 (λ a b. cond (eqb a b) 255 0) (zip2 bit_and uppers bits) (replicate 64 0))) % 2 ^ 64
+-- the mask of the lanes that hold this byte
+abbrev pub mask_of : ℕ → List ℕ → ℕ
+mask_of x lanes = mask_l (map (top 7) (zip2 (λ a b. cond (eqb a b) 255 0) lanes (replicate 64 x))) % 2 ^ 64
 
-pub special_bits : (bytes uppers bits : List ℕ) → agree_below is_special (λ b. not (is_plain b)) 256 ≡ true → 64 ≤ length bytes → ((i : ℕ) → slice_index bytes i < 256)
-    → uppers ≡ map plain_uppers (chunk 0 64 bytes) → bits ≡ map upper_bit (chunk 0 64 bytes)
-    → (k : ℕ) → k < 64 → is_set (apart_mask uppers bits) k ≡ not (is_plain (slice_index bytes k))
+mask_bit : (x : ℕ) (lanes : List ℕ) (k : ℕ) → length lanes ≡ 64 → k < 64 → is_set (mask_of x lanes) k ≡ eqb (slice_index lanes k) x
 unfolding is_set
+mask_bit x lanes k long less =
+    ap (λ n. eqb n 1) (ap (λ m. m / 2 ^ k % 2) (bitmask_splat w8 eqb lanes 64 x long (omega arith)) ∙ bit_mask_l (map (λ a. eqb a x) lanes) k)
+    ∙ back (slice_index_or (map (λ a. eqb a x) lanes) k false)
+    ∙ get_or-map (λ a. eqb a x) lanes k 0 false (omega (arith, less, long))
+  where
+    back : (b : Bool) → eqb (cond b 1 0) 1 ≡ b
+    back b = grind arith
+
+chunk_at : (bytes : List ℕ) (k : ℕ) → k < 64 → slice_index (chunk 0 64 bytes) k ≡ slice_index bytes k
+chunk_at bytes k less = let start : 0 + k ≡ k = omega arith in get_or-chunk 0 64 bytes k 0 less ∙ ap (λ i. slice_index bytes i) start
+
+pub feed_bits : (bytes : List ℕ) → 64 ≤ length bytes → (k : ℕ) → k < 64
+    → is_set (mask_of 10 (chunk 0 64 bytes)) k ≡ is_line_feed (slice_index bytes k)
+unfolding is_line_feed
+feed_bits bytes enough k less =
+    mask_bit 10 (chunk 0 64 bytes) k (length-chunk 0 64 bytes enough) less ∙ ap (λ c. eqb c 10) (chunk_at bytes k less) ∙ grind arith
+
+pub special_bits : (bytes uppers bits : List ℕ) → agree_below is_special (λ b. not (is_plain b)) 256 ≡ true → 64 ≤ length bytes
+    → ((i : ℕ) → slice_index bytes i < 256) → uppers ≡ map plain_uppers (chunk 0 64 bytes) → bits ≡ map upper_bit (chunk 0 64 bytes)
+    → (k : ℕ) → k < 64 → is_set (mask_of 0 (zip2 bit_and uppers bits)) k ≡ not (is_plain (slice_index bytes k))
 special_bits bytes uppers bits agree enough fits e f k less =
-    ap (λ n. eqb n 1) (ap (λ m. m / 2 ^ k % 2) (bitmask_splat w8 eqb both 64 0 both-length (omega arith)) ∙ bit_mask_l (map (λ x. eqb x 0) both) k)
-    ∙ back (slice_index_or (map (λ x. eqb x 0) both) k false)
-    ∙ get_or-map (λ x. eqb x 0) both k 0 false (omega (arith, less, both-length))
+    mask_bit 0 both k (ap (λ l. length l) both_is ∙ length-map (chunk 0 64 bytes) _ ∙ long) less
     ∙ ap (λ l. eqb (slice_index l k) 0) both_is
-    ∙ ap (λ x. eqb x 0) (get_or-map _ (chunk 0 64 bytes) k 0 0 (omega (arith, less, length-chunk 0 64 bytes enough)))
-    ∙ ap is_special (get_or-chunk 0 64 bytes k 0 less ∙ ap (λ i. slice_index bytes i) start)
+    ∙ ap (λ x. eqb x 0) (get_or-map _ (chunk 0 64 bytes) k 0 0 (omega (arith, less, long)))
+    ∙ ap is_special (chunk_at bytes k less)
     ∙ agree_below_at is_special (λ b. not (is_plain b)) 256 (slice_index bytes k) agree (fits k)
   where
     both : List ℕ
@@ -88,11 +107,5 @@ special_bits bytes uppers bits agree enough fits e f k less =
     both_is : both ≡ map (λ b. bit_and (plain_uppers b) (upper_bit b)) (chunk 0 64 bytes)
     both_is = zip2_of_maps bit_and plain_uppers upper_bit (chunk 0 64 bytes) e f
 
-    both-length : length both ≡ 64
-    both-length = ap (λ l. length l) both_is ∙ length-map (chunk 0 64 bytes) (λ b. bit_and (plain_uppers b) (upper_bit b)) ∙ length-chunk 0 64 bytes enough
-
-    start : 0 + k ≡ k
-    start = omega arith
-
-    back : (b : Bool) → eqb (cond b 1 0) 1 ≡ b
-    back b = grind arith
+    long : length (chunk 0 64 bytes) ≡ 64
+    long = length-chunk 0 64 bytes enough

@@ -1,24 +1,27 @@
 -- The marks of a text after some of it is passed.
 use Rattle.std.proofs.lemmas.Bool.Decides.{nat_tests}
-use Rattle.std.proofs.Common.{◌≡◌, ℕ, ◌+◌, ◌-◌, ◌*◌, ◌%◌, ◌^◌, ◌<◌, ◌≤◌, true, false, not, eqb, List, length, slice_index, bit_and, bit_or, refl, sym, ap, ◌∙◌, inl, inr, arith, w64, ◌++◌, drop, replicate}
+use Rattle.std.proofs.Common.{◌≡◌, ℕ, ◌+◌, ◌-◌, ◌*◌, ◌%◌, ◌^◌, ◌<◌, ◌≤◌, Bool, true, false, ◌&&◌, ◌||◌, not, eqb, Some, List, length, slice_index}
+use Rattle.std.proofs.Common.{bit_and, bit_or, bit_xor, refl, sym, ap, ◌∙◌, inl, inr, arith, w64, ◌++◌, drop, replicate}
 use Rattle.std.specs.Int.{bit_at, trailing_zeros}
-use Rattle.std.proofs.lemmas.Bool.{cases_eq, cases_lt}
+use Rattle.std.specs.Int.Count.{count_leading_zeros}
+use Rattle.std.specs.Prelude.{nat_lt}
+use Rattle.std.proofs.lemmas.Bool.{cases_Bool, cases_eq, cases_lt}
 use Rattle.std.proofs.lemmas.List.{get_or_append_left}
 use Rattle.std.proofs.lemmas.Nat.Bits.{bit_at_set_other, bit_at_set_same}
 use Rattle.py_lines.specs.declared.marks.Marks.{Marks}
-use Rattle.py_lines.specs.Character.{is_space}
+use Rattle.py_lines.specs.Character.{is_line_feed, is_space}
 use Rattle.py_lines.specs.Private.Run.{is_ascii_word}
-use Rattle.py_lines.specs.Private.Marks.{FindsNext, HasMarks, IsSpecial, is_mark, is_plain, is_set}
+use Rattle.py_lines.specs.Private.Marks.{Advances, ArePlain, FindsNext, HasMarks, IsSpecial, PassesFeeds, is_feed, is_mark, is_plain, is_set}
 use Rattle.py_lines.proofs.Text.Lanes.{filled_past}
-use Rattle.py_lines.proofs.SpecialBytes.Bits.{HasLowest, cleared_below-is, lowest, unset}
+use Rattle.py_lines.proofs.SpecialBytes.Bits.{HasFeeds, HasLowest, cleared_below-is, first_feeds, first_feeds-are, lowest, unset}
 
 -- a byte of the text that isn't plain
-pub record IsMark (text : List ℕ) (from k : ℕ) : Type 0 where
-  pub unpassed : from ≤ k
-  pub within : k < length text
-  pub special : is_plain (slice_index text k) ≡ false
+record IsMark (text : List ℕ) (from k : ℕ) : Type 0 where
+  unpassed : from ≤ k
+  within : k < length text
+  special : is_plain (slice_index text k) ≡ false
 
-pub mark_is : (text : List ℕ) (from k : ℕ) → is_mark text from k ≡ true → IsMark text from k
+mark_is : (text : List ℕ) (from k : ℕ) → is_mark text from k ≡ true → IsMark text from k
 mark_is text from k h = grind (arith, nat_tests)
 
 no_mark_before : (text : List ℕ) (from k : ℕ) → k < from → is_mark text from k ≡ false
@@ -29,11 +32,8 @@ later_mark : (text : List ℕ) (from to k : ℕ) → from ≤ k → to ≤ k →
 later_mark text from to k a b = grind (arith, nat_tests)
 
 -- a byte without a mark is plain, and one that isn't plain has one
-pub unmarked_plain : (text : List ℕ) (from k : ℕ) → is_mark text from k ≡ false → from ≤ k → k < length text → is_plain (slice_index text k) ≡ true
+unmarked_plain : (text : List ℕ) (from k : ℕ) → is_mark text from k ≡ false → from ≤ k → k < length text → is_plain (slice_index text k) ≡ true
 unmarked_plain text from k none le within = grind (arith, nat_tests)
-
-no_mark_past : (text : List ℕ) (from k : ℕ) → length text ≤ k → is_mark text from k ≡ false
-no_mark_past text from k past = grind (arith, nat_tests)
 
 marked : (text : List ℕ) (from k : ℕ) → from ≤ k → k < length text → is_mark text from k ≡ not (is_plain (slice_index text k))
 marked text from k le within = grind (arith, nat_tests)
@@ -43,32 +43,40 @@ in_block : (base k : ℕ) → base ≤ k → base + (k - base) ≡ k
 in_block base k le = omega (arith, le)
 
 -- a byte between, whose bit is not set, is plain
-unset_plain : (text : List ℕ) (from : ℕ) (m : Marks) (k : ℕ) → HasMarks text from m → from ≤ k → k < m.base + 64 → k < length text → is_set m.bits (k - m.base) ≡ false
-    → is_plain (slice_index text k) ≡ true
+unset_plain : (text : List ℕ) (from : ℕ) (m : Marks) (k : ℕ) → HasMarks text from m → from ≤ k → k < m.base + 64 → k < length text
+    → is_set m.bits (k - m.base) ≡ false → is_plain (slice_index text k) ≡ true
 unset_plain text from m k has le near within none =
-    let base = has.base in
-    unmarked_plain text from k (ap (is_mark text from) (sym (in_block m.base k (omega (arith, le, base)))) ∙ sym (has.bits (k - m.base) (omega (arith, near, base, le))) ∙ none) le within
+    let here = in_block m.base k (omega (arith, le, has.base)) in
+    let bit = has.bits (k - m.base) (omega (arith, near, le, has.base)) in
+    unmarked_plain text from k (ap (is_mark text from) (sym here) ∙ sym bit ∙ none) le within
 
--- the bytes are passed up to `to`, in the block
-pub passes_in_block : (text : List ℕ) (from to : ℕ) (m : Marks) → HasMarks text from m → from ≤ to → to ≤ length text → to - m.base < 64
-    → HasMarks text to (record { base = m.base; bits = bit_and m.bits ((2 ^ 64 - 1) * 2 ^ (to - m.base) % 2 ^ 64) })
-passes_in_block text from to m has le within near =
-    let base = has.base in
+-- the bytes are passed up to `to`, in the block: the bits before it are cleared
+passed_to : (text : List ℕ) (from to bits : ℕ) (m : Marks) → HasMarks text from m → from ≤ to → to ≤ length text → to ≤ m.base + 64
+    → ((k : ℕ) → k < 64 → m.base + k < to → is_set bits k ≡ false) → ((k : ℕ) → k < 64 → to ≤ m.base + k → is_set bits k ≡ is_set m.bits k)
+    → HasMarks text to (record m { bits = bits })
+passed_to text from to bits m has le within reach cleared left =
     record {
-      base = omega (arith, base, le);
+      base = omega (arith, has.base, le);
       within = within;
-      reach = omega (arith, near);
-      bits = λ k less.
-          let (low, high) = cleared_below-is m.bits (to - m.base) k near less in
-          elim (cases_lt k (to - m.base)) [
-            | inl before ↦ low before ∙ sym (no_mark_before text to (m.base + k) (omega (arith, before)))
-            | inr later ↦ high later ∙ has.bits k less ∙ later_mark text from to (m.base + k) (omega (arith, later, le)) (omega (arith, later))
-          ];
+      reach = reach;
+      bits = λ k less. elim (cases_lt (m.base + k) to) [
+        | inl low ↦ cleared k less low ∙ sym (no_mark_before text to (m.base + k) low)
+        | inr high ↦ left k less high ∙ has.bits k less ∙ later_mark text from to (m.base + k) (omega (arith, high, le)) high
+      ];
+      feeds = has.feeds;
     }
+
+pub passes_in_block : (text : List ℕ) (from to : ℕ) (m : Marks) → HasMarks text from m → from ≤ to → to ≤ length text → to - m.base < 64
+    → HasMarks text to (record m { bits = bit_and m.bits ((2 ^ 64 - 1) * 2 ^ (to - m.base) % 2 ^ 64) })
+passes_in_block text from to m has le within near =
+    let base : m.base ≤ to = omega (arith, has.base, le) in
+    let bit = λ (k : ℕ) (less : k < 64). cleared_below-is m.bits (to - m.base) k near less in
+    passed_to text from to _ m has le within (omega (arith, near)) (λ k less low. (bit k less).0 (omega (arith, low)))
+    (λ k less high. (bit k less).1 (omega (arith, high, base)))
 
 -- the byte that was passed last is marked again
 pub kept : (text : List ℕ) (place : ℕ) (m : Marks) → m.base ≤ place → place < m.base + 64 → IsSpecial text place → HasMarks text (place + 1) m
-    → HasMarks text place (record { base = m.base; bits = bit_or m.bits (1 * 2 ^ (place - m.base) % 2 ^ 64) })
+    → HasMarks text place (record m { bits = bit_or m.bits (1 * 2 ^ (place - m.base) % 2 ^ 64) })
 unfolding is_set
 kept text place m base reach (within, special) has =
     record {
@@ -89,6 +97,7 @@ kept text place m base reach (within, special) has =
               | inr high ↦ later_mark text (place + 1) place (m.base + k) (omega (arith, high, other, base)) high
             ]
       ];
+      feeds = has.feeds;
     }
   where
     j : ℕ
@@ -97,40 +106,38 @@ kept text place m base reach (within, special) has =
     near : j < 64
     near = omega (arith, reach, base)
 
--- plain bytes were passed, up to the block of the marks
+-- where no bit is set, the block's bytes are plain
+pub none_left : (text : List ℕ) (from : ℕ) (m : Marks) → HasMarks text from m → m.bits ≡ 0 → ArePlain text from (m.base + 64)
+none_left text from m has none i le near within =
+    unset_plain text from m i has le near within (ap (λ n. is_set n (i - m.base)) none ∙ unset (i - m.base))
+
+-- plain bytes were passed, up to those of the marks
 pub record HasPassed (text : List ℕ) (from : ℕ) (m : Marks) : Type 0 where
   pub to : ℕ
   pub after : from ≤ to
   pub marks : HasMarks text to m
-  pub plain : (k : ℕ) → from ≤ k → k < to → is_plain (slice_index text k) ≡ true
+  pub plain : ArePlain text from to
 
--- where no bit is set, the block's bytes are plain
-plain_on : (text : List ℕ) (from : ℕ) (m : Marks) → HasPassed text from m → m.bits ≡ 0 → (k : ℕ) → from ≤ k → k < m.base + 64 → k < length text
-    → is_plain (slice_index text k) ≡ true
-plain_on text from m passed none k le near within =
-    elim (cases_lt k passed.to) [
-      | inl low ↦ passed.plain k le low
-      | inr high ↦ unset_plain text passed.to m k passed.marks high near within (ap (λ n. is_set n (k - m.base)) none ∙ unset (k - m.base))
-    ]
+more_plain : (text : List ℕ) (a b c : ℕ) → ArePlain text a b → ArePlain text b c → ArePlain text a c
+more_plain text a b c first rest i le less within = elim (cases_lt i b) [ inl low ↦ first i le low within | inr high ↦ rest i high less within ]
 
 -- the next block
-pub passes_block : (text : List ℕ) (from : ℕ) (m next : Marks) → HasPassed text from m → m.bits ≡ 0 → m.base + 64 < length text → HasMarks text (m.base + 64) next
-    → HasPassed text from next
-passes_block text from m next passed none more has =
-    record {
-      to = m.base + 64;
-      after = omega (arith, passed.after, passed.marks.reach);
-      marks = has;
-      plain = λ k le less. plain_on text from m passed none k le less (omega (arith, less, more));
-    }
+pub passes_block : (text : List ℕ) (from : ℕ) (m next : Marks) → HasPassed text from m → Advances text m true next → HasPassed text from next
+passes_block text from m next passed on =
+    let (plain, has) = on passed.to passed.marks in
+    let all = more_plain text from passed.to (m.base + 64) passed.plain plain in
+    record { to = m.base + 64; after = omega (arith, passed.after, passed.marks.reach); marks = has; plain = all }
 
 -- no byte that isn't plain is left
-pub finds_end : (text : List ℕ) (from : ℕ) (m : Marks) → HasPassed text from m → m.bits ≡ 0 → length text ≤ m.base + 64 → FindsNext text from (length text) m
+pub finds_end : (text : List ℕ) (from : ℕ) (m : Marks) → HasPassed text from m → m.bits ≡ 0 → length text ≤ m.base + 64
+    → FindsNext text from (length text) m
 finds_end text from m passed none last =
     record {
       after = omega (arith, passed.after, passed.marks.within);
       within = omega arith;
-      plain = λ k le less. plain_on text from m passed none k le (omega (arith, less, last)) less;
+      plain = λ k le less.
+          let plain = none_left text passed.to m passed.marks none in
+          more_plain text from passed.to (m.base + 64) passed.plain plain k le (omega (arith, less, last)) less;
       special = λ less. absurd (omega (arith, less));
       rest = λ less. absurd (omega (arith, less));
       held = λ less. absurd (omega (arith, less));
@@ -138,25 +145,16 @@ finds_end text from m passed none last =
 
 -- the lowest bit that is set is the next byte that isn't plain
 pub finds_lowest : (text : List ℕ) (from : ℕ) (m : Marks) → HasPassed text from m → 0 < m.bits → m.bits < 2 ^ 64
-    → FindsNext text from (m.base + trailing_zeros w64 m.bits) (record { base = m.base; bits = bit_and m.bits (m.bits - 1) })
+    → FindsNext text from (m.base + trailing_zeros w64 m.bits) (record m { bits = bit_and m.bits (m.bits - 1) })
 finds_lowest text from m passed some fits =
     record {
       after = omega (arith, passed.after, mark.unpassed);
       within = omega (arith, mark.within);
-      plain = λ k le less. elim (cases_lt k passed.to) [
-        | inl low ↦ passed.plain k le low
-        | inr high ↦ unset_plain text passed.to m k passed.marks high (omega (arith, less, first.within)) (omega (arith, less, mark.within)) (first.none (k - m.base) (omega (arith, less, high, base)))
-      ];
+      plain = λ k le less. more_plain text from passed.to (m.base + t) passed.plain plain k le less (omega (arith, less, mark.within));
       special = λ less. mark.special;
-      rest = λ less. record {
-        base = omega arith;
-        within = omega (arith, mark.within);
-        reach = omega (arith, first.within);
-        bits = λ k small. elim (cases_lt t k) [
-          | inl later ↦ first.left k later ∙ passed.marks.bits k small ∙ later_mark text passed.to (m.base + t + 1) (m.base + k) (omega (arith, later, mark.unpassed)) (omega (arith, later))
-          | inr low ↦ first.cleared k low ∙ sym (no_mark_before text (m.base + t + 1) (m.base + k) (omega (arith, low)))
-        ];
-      };
+      rest = λ less.
+          passed_to text passed.to (m.base + t + 1) _ m passed.marks (omega (arith, mark.unpassed)) (omega (arith, mark.within))
+          (omega (arith, first.within)) (λ k _ low. first.cleared k (omega (arith, low))) (λ k _ high. first.left k (omega (arith, high)));
       held = λ less. (omega arith, omega (arith, first.within));
     }
   where
@@ -166,22 +164,81 @@ finds_lowest text from m passed some fits =
     first : HasLowest m.bits t
     first = lowest m.bits some fits
 
-    base : m.base ≤ passed.to
-    base = passed.marks.base
-
     mark : IsMark text passed.to (m.base + t)
     mark = mark_is text passed.to (m.base + t) (sym (passed.marks.bits t first.within) ∙ first.set)
+
+    plain : ArePlain text passed.to (m.base + t)
+    plain k le less within =
+        let none = first.none (k - m.base) (omega (arith, less, le, passed.marks.base)) in
+        unset_plain text passed.to m k passed.marks le (omega (arith, less, first.within)) within none
+
+feed_is : (text : List ℕ) (k : ℕ) → is_feed text k ≡ true → is_line_feed (slice_index text k) ≡ true
+feed_is text k h = grind (arith, nat_tests)
+
+-- the LF before any other byte that isn't plain
+pub passes_feeds : (text : List ℕ) (from : ℕ) (m : Marks) → HasMarks text from m → m.bits < 2 ^ 64 → m.feeds < 2 ^ 64
+    → let passed : ℕ = first_feeds m.bits m.feeds in 0 < passed
+    → PassesFeeds text from m (Some (m.base + (64 - count_leading_zeros 64 passed))) (record m { bits = bit_xor m.bits passed })
+passes_feeds text from m has fits feeds_fit some = (
+  refl,
+  record {
+    further = omega (arith, mark.unpassed, first.at);
+    within = omega (arith, mark.within, first.at);
+    each = each;
+    last =
+        let here : to - 1 ≡ m.base + t = omega (arith, first.at) in
+        ap (λ i. is_line_feed (slice_index text i)) here ∙ feed t (omega arith) first.set;
+  },
+  passed_to text from to _ m has (omega (arith, mark.unpassed, first.at)) (omega (arith, mark.within, first.at)) (omega arith)
+      (λ k _ low. first.cleared k (omega (arith, low, first.at))) (λ k _ high. first.left k (omega (arith, high, first.at))),
+)
+  where
+    first : HasFeeds m.bits m.feeds
+    first = first_feeds-are m.bits m.feeds fits feeds_fit some
+
+    t : ℕ
+    t = first.top
+
+    to : ℕ
+    to = m.base + (64 - count_leading_zeros 64 (first_feeds m.bits m.feeds))
+
+    mark : IsMark text from (m.base + t)
+    mark = mark_is text from (m.base + t) (sym (has.bits t (omega (arith, first.at))) ∙ first.set)
+
+    feed : (k : ℕ) → k ≤ t → is_set m.bits k ≡ true → is_line_feed (slice_index text (m.base + k)) ≡ true
+    feed k le set = feed_is text (m.base + k) (sym (has.feeds k (omega (arith, le, first.at))) ∙ first.each k le set)
+
+    each : (i : ℕ) → from ≤ i → i < to → (is_plain (slice_index text i) || is_line_feed (slice_index text i)) ≡ true
+    each i le less =
+        let under : i ≤ m.base + t = omega (arith, less, first.at) in
+        let here : m.base + (i - m.base) ≡ i = in_block m.base i (omega (arith, le, has.base)) in
+        elim (cases_Bool (is_set m.bits (i - m.base))) [
+          | inl set ↦ grind (arith, ap (λ j. slice_index text j) here, feed (i - m.base) (omega (arith, under)) set)
+          | inr none ↦ grind (arith, unset_plain text from m i has le (omega (arith, under, first.at)) (omega (arith, under, mark.within)) none)
+        ]
 
 space_plain : not (is_plain 32) ≡ false
 unfolding is_plain is_ascii_word is_space
 space_plain = refl
 
--- the bytes of a text that has fewer than 64, with spaces after them
+space_no_feed : is_line_feed 32 ≡ false
+unfolding is_line_feed
+space_no_feed = refl
+
+-- what a test that fails at a space says of the bytes of a text that has fewer than 64, with spaces after them
+tested : (f : ℕ → Bool) (text block : List ℕ) (k : ℕ) → f 32 ≡ false → block ≡ text → length text < 64 → k < 64
+    → f (slice_index (block ++ drop (length text) (replicate 64 32)) k) ≡ (nat_lt k (length text) && f (slice_index text k))
+tested f text block k space same few less =
+    ap (λ l. f (slice_index (l ++ drop (length text) (replicate 64 32)) k)) same
+    ∙ elim (cases_lt k (length text)) [
+      | inl within ↦ ap f (get_or_append_left text (drop (length text) (replicate 64 32)) 0 k within) ∙ grind (arith, nat_tests)
+      | inr past ↦ ap f (filled_past text 64 k 32 past less) ∙ space ∙ grind (arith, nat_tests)
+    ]
+
 pub filled : (text block : List ℕ) (k : ℕ) → block ≡ text → length text < 64 → k < 64
     → not (is_plain (slice_index (block ++ drop (length text) (replicate 64 32)) k)) ≡ is_mark text 0 k
-filled text block k same few less =
-    ap (λ l. not (is_plain (slice_index (l ++ drop (length text) (replicate 64 32)) k))) same
-    ∙ elim (cases_lt k (length text)) [
-      | inl within ↦ ap (λ c. not (is_plain c)) (get_or_append_left text (drop (length text) (replicate 64 32)) 0 k within) ∙ sym (marked text 0 k (omega arith) within)
-      | inr past ↦ ap (λ c. not (is_plain c)) (filled_past text 64 k 32 past less) ∙ space_plain ∙ sym (no_mark_past text 0 k past)
-    ]
+filled text block k same few less = tested (λ c. not (is_plain c)) text block k space_plain same few less ∙ grind (arith, nat_tests)
+
+pub filled_feeds : (text block : List ℕ) (k : ℕ) → block ≡ text → length text < 64 → k < 64
+    → is_line_feed (slice_index (block ++ drop (length text) (replicate 64 32)) k) ≡ is_feed text k
+filled_feeds text block k = tested is_line_feed text block k space_no_feed

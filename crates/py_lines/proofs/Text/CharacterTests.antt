@@ -66,21 +66,15 @@ t-not-u c h = none_of is_u (codes "tT") c refl h
 abbrev BeginsWord : ℕ → Type 0
 BeginsWord c = (is_word_start c ≡ true) × (is_word_character c ≡ true)
 
-letter_word : (c : ℕ) → is_one_of (codes "rRbBfFuU") c ≡ true → BeginsWord c
-unfolding unicode_ident is_word_start is_word_character is_digit
-letter_word c h = each_of BeginsWord (codes "rRbBfFuU") c ((refl, refl), ((refl, refl), ((refl, refl), ((refl, refl), ((refl, refl), ((refl, refl), ((refl, refl), ((refl, refl), tt)))))))) h
-
 one_letter : (c : ℕ) → is_r c || is_b c || is_f c || is_u c ≡ true → BeginsWord c
-unfolding is_r is_b is_f is_u
-one_letter c h = letter_word c (grind (arith, h))
+unfolding unicode_ident is_word_start is_word_character is_digit is_r is_b is_f is_u
+one_letter c h =
+    each_of BeginsWord (codes "rRbBfFuU") c ((refl, refl), ((refl, refl), ((refl, refl), ((refl, refl), ((refl, refl), ((refl, refl), ((refl, refl), ((refl, refl), tt)))))))) (grind (arith, h))
 
 -- a prefix is a word
 pub prefix_word : (a : ℕ) (bs : List ℕ) → is_prefix (a ∷ bs) ≡ true → (is_word_start a ≡ true) × (list_all is_word_character bs ≡ true)
 prefix_word a [] h = ((one_letter a h).0, refl)
-prefix_word a (b ∷ []) h =
-    let first : is_r a || is_b a || is_f a || is_u a ≡ true = grind (arith, h) in
-    let second : is_r b || is_b b || is_f b || is_u b ≡ true = grind (arith, h) in
-    ((one_letter a first).0, and_from (is_word_character b) true (one_letter b second).1 refl)
+prefix_word a (b ∷ []) h = ((one_letter a (grind (arith, h))).0, and_from _ _ (one_letter b (grind (arith, h))).1 refl)
 prefix_word a (b ∷ c ∷ cs) h = absurd (both_ways _ refl h)
 
 pub quote-not-word : (q : ℕ) → is_quote q ≡ true → is_word_character q ≡ false

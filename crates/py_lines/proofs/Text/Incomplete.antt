@@ -20,10 +20,6 @@ In x y = (second_byte_min x ≤ y) × (y ≤ second_byte_max x)
 bounds : (x y : ℕ) → In x y → Follows y × (x ≡ 224 → 160 ≤ y) × (x ≡ 237 → y < 160) × (x ≡ 240 → 144 ≤ y) × (x ≡ 244 → y < 144)
 bounds x y i = grind (arith, nat_tests)
 
--- the least second byte is in its bounds
-least_in : (x : ℕ) → In x (second_byte_min x)
-least_in x = grind (arith, nat_tests)
-
 -- bytes that are a character
 two_char : (x y : ℕ) (r : List ℕ) → 194 ≤ x → x < 224 → Follows y → StartsWithNoChar (x ∷ y ∷ r) → ⊥
 two_char x y r low high f none =
@@ -65,9 +61,6 @@ part_three x y z low high s f hopeless =
 part_two : (x y : ℕ) → 194 ≤ x → x ≤ 244 → In x y → ¬ (IsHopeless (x ∷ y ∷ []))
 part_two x y low high s hopeless = part_three x y 128 low high s (omega arith, omega arith) (λ more. hopeless (128 ∷ more))
 
-part_one : (x : ℕ) → 194 ≤ x → x ≤ 244 → ¬ (IsHopeless (x ∷ []))
-part_one x low high hopeless = part_two x (second_byte_min x) low high (least_in x) (λ more. hopeless (second_byte_min x ∷ more))
-
 pub part_none : ¬ (IsHopeless [])
 part_none hopeless = hopeless (65 ∷ []) 65 [] refl (ap (λ l. l ++ []) (sym (one 65 (omega arith))))
 
@@ -103,7 +96,8 @@ after_two x y (z ∷ r) low high i none = rw (le-ltb (length (x ∷ y ∷ z ∷ 
 
 -- from the second byte on
 after_one : (x : ℕ) (r : List ℕ) → 194 ≤ x → x ≤ 244 → StartsWithNoChar (x ∷ r) → Verdict (x ∷ r) (error_len_after_one (x ∷ r))
-after_one x [] low high none = part_one x low high
+after_one x [] low high none =
+    λ hopeless. part_two x (second_byte_min x) low high (grind (arith, nat_tests)) (λ more. hopeless (second_byte_min x ∷ more))
 after_one x (y ∷ r) low high none = rw (le-ltb (length (x ∷ y ∷ r)) 2 (omega arith))
     (in_or_out (second_byte_min x) (second_byte_max x) y (λ b. Verdict (x ∷ y ∷ r) (cond b (error_len_after_two (x ∷ y ∷ r)) (Some 1)))
     (λ i. after_two x y r low high i none)

@@ -19,8 +19,7 @@ abbrev pub Shows : (ℕ → Bool) → List ℕ → List ℕ → Type 0
 Shows p vs ms = ms ≡ map (λ x. cond (p x) 255 0) vs
 
 signed : (b : Bool) → of_z w8 (to_z w8 (cond b 255 0)) ≡ cond b 255 0
-signed true = refl
-signed false = refl
+signed b = grind arith
 
 -- a function gives the mask that it has
 given : (p : ℕ → Bool) (vs : List ℕ) → map (of_z w8) (map (to_z w8) (map (λ x. cond (p x) 255 0) vs)) ≡ map (λ x. cond (p x) 255 0) vs
@@ -31,35 +30,34 @@ pub gives : (p : ℕ → Bool) (vs : List ℕ) {ms : List ℕ} → Shows p vs ms
 gives p vs e = ap (λ l. map (of_z w8) (map (to_z w8) l)) e ∙ given p vs
 
 -- a comparison with a byte
-pub compared : (t : ℕ → ℕ → Bool) (vs : List ℕ) (y : ℕ) → length vs ≡ 16 → Shows (λ x. t x y) vs (zip2 (λ a b. cond (t a b) 255 0) vs (replicate 16 y))
+pub compared : (t : ℕ → ℕ → Bool) (vs : List ℕ) (y : ℕ) → length vs ≡ 16
+    → Shows (λ x. t x y) vs (zip2 (λ a b. cond (t a b) 255 0) vs (replicate 16 y))
 compared t vs y long = zip2_splat (λ a b. cond (t a b) 255 0) vs 16 y long
 
-and_marks : (a b : Bool) → bit_and (cond a 255 0) (cond b 255 0) ≡ cond {A = ℕ} (a && b) 255 0
-and_marks a b = grind arith
+-- both of two tests, one of them, and none
+module _ (p q : ℕ → Bool) (vs : List ℕ) where
+  two : (f : ℕ → ℕ → ℕ) (g : Bool → Bool → Bool) → ((a b : Bool) → f (cond a 255 0) (cond b 255 0) ≡ cond (g a b) 255 0) → {xs ys : List ℕ}
+      → Shows p vs xs → Shows q vs ys → Shows (λ x. g (p x) (q x)) vs (zip2 f xs ys)
+  two f g marks a b = zip2_of_maps f (λ x. cond (p x) 255 0) (λ x. cond (q x) 255 0) vs a b ∙ (λ i. map (λ x. marks (p x) (q x) i) vs)
 
-or_marks : (a b : Bool) → bit_or (cond a 255 0) (cond b 255 0) ≡ cond {A = ℕ} (a || b) 255 0
-or_marks a b = grind arith
+  pub both : {xs ys : List ℕ} → Shows p vs xs → Shows q vs ys → Shows (λ x. p x && q x) vs (zip2 bit_and xs ys)
+  both = two bit_and (λ a b. a && b) (λ a b. grind arith)
+
+  pub either : {xs ys : List ℕ} → Shows p vs xs → Shows q vs ys → Shows (λ x. p x || q x) vs (zip2 bit_or xs ys)
+  either = two bit_or (λ a b. a || b) (λ a b. grind arith)
+
+  -- the same test in other words
+  pub same : {ms : List ℕ} → Shows p vs ms → ((x : ℕ) → p x ≡ q x) → Shows q vs ms
+  same e alike = e ∙ (λ i. map (λ x. cond (alike x i) 255 0) vs)
 
 not_mark : (b : Bool) → bit_not w8 (cond b 255 0) ≡ cond (not b) 255 0
 not_mark b = grind arith
 
--- both of two tests, one of them, and none
-pub both : (p q : ℕ → Bool) (vs : List ℕ) {xs ys : List ℕ} → Shows p vs xs → Shows q vs ys → Shows (λ x. p x && q x) vs (zip2 bit_and xs ys)
-both p q vs a b = zip2_of_maps bit_and (λ x. cond (p x) 255 0) (λ x. cond (q x) 255 0) vs a b ∙ (λ i. map (λ x. and_marks (p x) (q x) i) vs)
-
-pub either : (p q : ℕ → Bool) (vs : List ℕ) {xs ys : List ℕ} → Shows p vs xs → Shows q vs ys → Shows (λ x. p x || q x) vs (zip2 bit_or xs ys)
-either p q vs a b = zip2_of_maps bit_or (λ x. cond (p x) 255 0) (λ x. cond (q x) 255 0) vs a b ∙ (λ i. map (λ x. or_marks (p x) (q x) i) vs)
-
 pub none : (p : ℕ → Bool) (vs : List ℕ) {xs : List ℕ} → Shows p vs xs → Shows (λ x. not (p x)) vs (map (bit_not w8) xs)
 none p vs e = ap (map (bit_not w8)) e ∙ map-map (bit_not w8) (λ x. cond (p x) 255 0) vs ∙ (λ i. map (λ x. not_mark (p x) i) vs)
 
--- the same test in other words
-pub same : (p q : ℕ → Bool) (vs : List ℕ) {ms : List ℕ} → Shows p vs ms → ((x : ℕ) → p x ≡ q x) → Shows q vs ms
-same p q vs e alike = e ∙ (λ i. map (λ x. cond (alike x i) 255 0) vs)
-
 top_of : (b : Bool) → top 7 (cond b 255 0) ≡ b
-top_of true = refl
-top_of false = refl
+top_of b = grind arith
 
 -- bits from the lowest on: one more, and what comes after it
 next_bit : (b : Bool) (k m r : ℕ) → m < 2 ^ k → count_trailing_zeros k (2 ^ k - 1 - m) ≡ r
@@ -81,17 +79,25 @@ ones_first p (v ∷ vs) (suc k) less =
     next_bit (p v) k (mask_l (map p vs)) (prefix_len p vs) (omega (arith, mask_l-lt (map p vs), grows)) (ones_first p vs k (omega arith))
 
 -- how many lanes are set before the first that isn't: as many bits
-pub set_first : (p : ℕ → Bool) (vs : List ℕ) {ms : List ℕ} {n : ℕ} → length vs ≡ 16 → Shows p vs ms → n ≡ trailing_ones w64 (mask_l (map (top 7) ms) % 2 ^ 64) → n ≡ prefix_len p vs
+pub set_first : (p : ℕ → Bool) (vs : List ℕ) {ms : List ℕ} {n : ℕ} → length vs ≡ 16 → Shows p vs ms
+    → n ≡ trailing_ones w64 (mask_l (map (top 7) ms) % 2 ^ 64) → n ≡ prefix_len p vs
 set_first p vs long e counted =
-    counted ∙ ap (λ l. trailing_ones w64 (mask_l l % 2 ^ 64)) (ap (map (top 7)) e ∙ map-map (top 7) (λ x. cond (p x) 255 0) vs ∙ (λ i. map (λ x. top_of (p x) i) vs))
+    let bits = ap (map (top 7)) e ∙ map-map (top 7) (λ x. cond (p x) 255 0) vs ∙ (λ i. map (λ x. top_of (p x) i) vs) in
+    counted ∙ ap (λ l. trailing_ones w64 (mask_l l % 2 ^ 64)) bits
     ∙ ap (trailing_ones w64) (mask_l-mod (map p vs) 64 (omega (arith, length-map vs p, long))) ∙ ones_first p vs 64 (omega (arith, long))
 
--- a run goes on after sixteen bytes of it
-pub sixteen_on : (p : ℕ → Bool) (xs : List ℕ) (i m : ℕ) → i + 16 ≤ length xs → m ≡ prefix_len p (chunk i 16 xs)
-    → (m < 16 → prefix_len p (drop i xs) ≡ m) × (16 ≤ m → prefix_len p (drop i xs) ≡ 16 + prefix_len p (drop (i + 16) xs))
-sixteen_on p xs i m room counted =
+-- a run ends in sixteen bytes, or goes on after them
+pub ends_within : (p : ℕ → Bool) (xs : List ℕ) (i : ℕ) → i + 16 ≤ length xs → prefix_len p (chunk i 16 xs) < 16
+    → prefix_len p (drop i xs) ≡ prefix_len p (chunk i 16 xs)
+ends_within p xs i room short =
     let split = ap (prefix_len p) (chunk-drop i 16 xs) ∙ prefix_len-append p (chunk i 16 xs) (drop (i + 16) xs) in
-    (λ short. grind (arith, nat_tests, split, counted, length-chunk i 16 xs room), λ all. grind (arith, nat_tests, split, counted, length-chunk i 16 xs room, prefix_len-le-length p (chunk i 16 xs)))
+    grind (arith, nat_tests, split, length-chunk i 16 xs room)
+
+pub sixteen_on : (p : ℕ → Bool) (xs : List ℕ) (i : ℕ) → i + 16 ≤ length xs → 16 ≤ prefix_len p (chunk i 16 xs)
+    → prefix_len p (drop i xs) ≡ 16 + prefix_len p (drop (i + 16) xs)
+sixteen_on p xs i room all =
+    let split = ap (prefix_len p) (chunk-drop i 16 xs) ∙ prefix_len-append p (chunk i 16 xs) (drop (i + 16) xs) in
+    grind (arith, nat_tests, split, length-chunk i 16 xs room, prefix_len-le-length p (chunk i 16 xs))
 
 -- the run of a list that goes on is as long, up to its end
 pub shorter_run : (p : ℕ → Bool) (xs zs ys : List ℕ) (r n : ℕ) → zs ≡ xs → r ≡ prefix_len p (zs ++ ys) → n ≡ min r (length xs) → n ≡ prefix_len p xs
@@ -100,7 +106,8 @@ shorter_run p xs zs ys r n same counted least =
     grind (arith, nat_tests, least, on, prefix_len-le-length p xs)
 
 pub run_is : (p : ℕ → Bool) (xs : List ℕ) (n : ℕ) → n ≡ prefix_len p xs → IsRunOf p xs n
-run_is p xs n is = rw is record { within = prefix_len-le-length p xs; each = λ i less. prefix_len_passes p xs i 0 less; ends = λ less. prefix_len_stops p xs 0 less }
+run_is p xs n is =
+    rw is record { within = prefix_len-le-length p xs; each = λ i less. prefix_len_passes p xs i 0 less; ends = λ less. prefix_len_stops p xs 0 less }
 
 -- past the bytes stands what fills the block
 pub filled_past : (bytes : List ℕ) (n k pad : ℕ) → length bytes ≤ k → k < n → slice_index (bytes ++ drop (length bytes) (replicate n pad)) k ≡ pad

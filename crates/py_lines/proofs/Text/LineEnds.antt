@@ -1,16 +1,14 @@
 -- Line ends, counted in the bytes of a text: the bytes of other characters are neither LF nor CR.
-use Rattle.std.proofs.Common.{◌≡◌, ℕ, ◌+◌, ◌<◌, ◌≤◌, Bool, true, false, cond, not, ◌&&◌, ◌||◌, ◌==◌, List, [], ◌∷◌, ◌++◌, length, refl, sym, ap, ◌∙◌, ⊎_elim, arith, drop, take, slice_index, zero, suc, add-one, drop-cons}
+use Rattle.std.proofs.Common.{◌≡◌, ℕ, ◌+◌, ◌<◌, ◌≤◌, Bool, true, false, cond, not, ◌&&◌, ◌==◌, List, [], ◌∷◌, ◌++◌, length, refl, ap, ◌∙◌, ⊎_elim, arith, drop, take, slice_index, zero, suc, ◌-◌, eqb, length-drop}
 use Rattle.std.specs.Prelude.{if◌then◌else◌, encode_utf8_all}
-use Rattle.std.specs.List.{count_by, list_all, list_any}
+use Rattle.std.specs.List.{count_by, ends_with, list_all}
 use mir.Val.{bool_byte}
-use Rattle.std.proofs.Math.Bool.{or-false}
-use Rattle.std.proofs.lemmas.List.{take-append-drop}
-use Rattle.std.proofs.lemmas.List.Folds.{list_any-append, list_any_more}
+use native.Mathlib.Numerals.{unary_clauses}
+use Rattle.std.proofs.lemmas.List.{drop-drop}
 use Rattle.std.proofs.lemmas.List.Sums.{count_by_more_no, count_by_more_yes, sum_by-cons, sum_by-take-drop}
-use Rattle.std.proofs.lemmas.Bool.{and_parts, both_ways, cases_lt, cases_Bool, false_from_ne_true, not-true, or_parts}
+use Rattle.std.proofs.lemmas.Bool.{cases_lt, false_from_ne_true}
 use Rattle.py_lines.specs.Character.{is_break, is_line_feed, is_return}
-use Rattle.py_lines.specs.Piece.{begins}
-use Rattle.py_lines.specs.LogicalLine.{ends_line, line_ends}
+use Rattle.py_lines.specs.LogicalLine.{line_ends}
 use Rattle.py_lines.specs.Private.LineEnds.{lone_returns}
 use Rattle.py_lines.proofs.Text.CharacterTests.{Each, feed_is, return_is}
 use Rattle.py_lines.proofs.LineScan.LineCount.{line_ends-le}
@@ -18,18 +16,12 @@ use Rattle.py_lines.proofs.Text.HighBytes.{encoded_begins, high_bytes, low_even}
 use Rattle.py_lines.proofs.Text.Utf8Shapes.{one}
 
 -- line ends are LF, and CR that isn't before LF, in any list of numbers
-one_end : (f r n : Bool) → (f ≡ true → r ≡ false) → (if f || (r && n) then 1 else 0) ≡ cond f 1 0 + (if r && n then 1 else 0)
-one_end true true n apart = absurd (both_ways _ (apart refl) refl)
-one_end true false n apart = refl
-one_end false r n apart = omega arith
-
 pub line_ends-is : (cs : List ℕ) → line_ends cs ≡ count_by is_line_feed cs + lone_returns cs
+unfolding is_line_feed is_return
 line_ends-is [] = refl
 line_ends-is (c ∷ cs) =
     let feed = sum_by-cons (λ x. cond (is_line_feed x) 1 0) c cs in
-    let this = one_end (is_line_feed c) (is_return c) (not (begins is_line_feed cs))
-    (λ feeds. false_from_ne_true _ (λ h. omega (arith, feed_is c feeds, return_is c h))) in
-    omega (arith, line_ends-is cs)
+    grind (arith, feed, line_ends-is cs)
 
 -- the bytes of characters hold as many, since both are ASCII
 none_high : (b : ℕ) → 128 ≤ b → (is_line_feed b ≡ false) × (is_return b ≡ false)
@@ -57,64 +49,81 @@ pub ends-le : (bytes : List ℕ) → count_by is_line_feed bytes + lone_returns 
 ends-le bytes = omega (arith, line_ends-is bytes, line_ends-le bytes)
 
 -- a byte more
-feed_test : (b : ℕ) → (b == 10) ≡ is_line_feed b
-unfolding is_line_feed
-feed_test b = sym (or-false (b == 10))
-
 pub feeds_more : (bytes : List ℕ) (i : ℕ) → i < length bytes
     → count_by is_line_feed (take i bytes) + bool_byte (slice_index bytes i == 10) ≡ count_by is_line_feed (take (i + 1) bytes)
+unfolding is_line_feed
 feeds_more bytes i within =
-    let test = feed_test (slice_index bytes i) in
-    ⊎_elim (λ yes. omega (arith, ap bool_byte (test ∙ yes), count_by_more_yes is_line_feed bytes i 0 within yes))
-    (λ no. omega (arith, ap bool_byte (test ∙ no), count_by_more_no is_line_feed bytes i 0 within no))
-    (cases_Bool (is_line_feed (slice_index bytes i)))
+    grind (arith, count_by_more_yes is_line_feed bytes i 0 within, count_by_more_no is_line_feed bytes i 0 within)
 
-pub returned_more : (bytes : List ℕ) (i : ℕ) → i < length bytes
-    → (list_any is_return (take i bytes) || (slice_index bytes i == 13)) ≡ list_any is_return (take (i + 1) bytes)
+pub returns_more : (bytes : List ℕ) (i : ℕ) → i < length bytes
+    → count_by is_return (take i bytes) + bool_byte (slice_index bytes i == 13) ≡ count_by is_return (take (i + 1) bytes)
 unfolding is_return
-returned_more bytes i within = rw (list_any_more is_return bytes i 0 within, or-false (slice_index bytes i == 13)) refl
+returns_more bytes i within =
+    grind (arith, count_by_more_yes is_return bytes i 0 within, count_by_more_no is_return bytes i 0 within)
 
 -- both parts of the bytes
-pub feeds_parted : (n : ℕ) (bytes front back : List ℕ) → front ≡ take n bytes → back ≡ drop n bytes
-    → count_by is_line_feed front + count_by is_line_feed back ≡ count_by is_line_feed bytes
-feeds_parted n bytes front back first last = rw (first, last) (sum_by-take-drop (λ x. cond (is_line_feed x) 1 0) bytes n)
-
-pub returned_parted : (n : ℕ) (bytes front back : List ℕ) → front ≡ take n bytes → back ≡ drop n bytes
-    → (list_any is_return front || list_any is_return back) ≡ list_any is_return bytes
-returned_parted n bytes front back first last =
-    rw (first, last) (sym (list_any-append is_return (take n bytes) (drop n bytes)) ∙ ap (list_any is_return) (take-append-drop n bytes))
+pub parted : (p : ℕ → Bool) (n : ℕ) (bytes front back : List ℕ) → front ≡ take n bytes → back ≡ drop n bytes
+    → count_by p front + count_by p back ≡ count_by p bytes
+parted p n bytes front back first last = rw (first, last) (sum_by-take-drop (λ x. cond (p x) 1 0) bytes n)
 
 -- those that are left
-begins_at : (bytes : List ℕ) (k : ℕ) → begins is_line_feed (drop k bytes) ≡ is_line_feed (slice_index bytes k)
-unfolding is_line_feed
-begins_at [] zero = refl
-begins_at [] (suc k) = refl
-begins_at (b ∷ bs) zero = refl
-begins_at (b ∷ bs) (suc k) = begins_at bs k
-
 pub lone_more : (bytes : List ℕ) (i : ℕ) → i < length bytes
-    → lone_returns (drop i bytes) ≡ (if is_return (slice_index bytes i) && not (is_line_feed (slice_index bytes (i + 1))) then 1 else 0) + lone_returns (drop (i + 1) bytes)
-lone_more bytes i within = rw (add-one i, drop-cons bytes i 0 within, begins_at bytes (suc i)) refl
+    → let lone = is_return (slice_index bytes i) && not (is_line_feed (slice_index bytes (i + 1))) in
+    lone_returns (drop i bytes) ≡ (if lone then 1 else 0) + lone_returns (drop (i + 1) bytes)
+unfolding is_line_feed
+lone_more (b ∷ []) zero within = refl
+lone_more (b ∷ c ∷ bs) zero within = refl
+lone_more (b ∷ bs) (suc i) within = simp unary_clauses (simp unary_clauses at (lone_more bs i (omega (arith, within))))
+lone_more [] i within = absurd (omega (arith, within))
+
+pub few_lone : (bytes : List ℕ) → lone_returns bytes ≤ length bytes
+few_lone bytes = omega (arith, ends-le bytes)
+
+-- those from the last byte on
+abbrev from_last : List ℕ → ℕ
+from_last bytes = lone_returns (drop (length bytes - 1) bytes)
+
+pub lone_last : (bytes : List ℕ) → bool_byte (ends_with eqb bytes (13 ∷ [])) ≡ from_last bytes
+unfolding is_return
+lone_last [] = refl
+lone_last (b ∷ []) = grind arith
+lone_last (b ∷ c ∷ bs) = simp unary_clauses (simp unary_clauses at (lone_last (c ∷ bs)))
+
+-- those of the first bytes, and those from their last on
+lone_first : (bytes : List ℕ) (n : ℕ) → n < length bytes
+    → lone_returns bytes + from_last (take (suc n) bytes) ≡ lone_returns (take (suc n) bytes) + lone_returns (drop n bytes)
+lone_first (b ∷ bs) zero within = grind arith
+lone_first (b ∷ c ∷ bs) (suc n) within =
+    let on = lone_first (c ∷ bs) n (omega (arith, within)) in
+    simp unary_clauses (omega (arith, simp unary_clauses at on))
+lone_first (b ∷ []) (suc n) within = absurd (omega (arith, within))
+lone_first [] n within = absurd (omega (arith, within))
+
+pub lone_block : (bytes block : List ℕ) (i j r : ℕ) → i ≤ j → j < length bytes → block ≡ take (j + 1 - i) (drop i bytes)
+    → r + from_last block ≡ lone_returns block → r + lone_returns (drop j bytes) ≡ lone_returns (drop i bytes)
+lone_block bytes block i j r before within cut is =
+    let n : j + 1 - i ≡ suc (j - i) = omega (arith, before) in
+    let to : i + (j - i) ≡ j = omega (arith, before) in
+    omega (
+      arith,
+      rw (cut, n) at is,
+      lone_first (drop i bytes) (j - i) (omega (arith, before, within, length-drop i bytes)),
+      ap lone_returns (drop-drop (j - i) i bytes ∙ ap (λ m. drop m bytes) to),
+    )
 
 -- bytes without CR hold none
-pub none_lone : (bytes : List ℕ) → list_any is_return bytes ≡ false → lone_returns bytes ≡ 0
+pub none_lone : (bytes : List ℕ) → count_by is_return bytes ≡ 0 → lone_returns bytes ≡ 0
 none_lone [] none = refl
-none_lone (b ∷ bs) none = let parts = or_parts (is_return b) (list_any is_return bs) none in rw (parts.0, none_lone bs parts.1) refl
+none_lone (b ∷ bs) none =
+    let more = sum_by-cons (λ x. cond (is_return x) 1 0) b bs in
+    grind (arith, none, more, none_lone bs)
 
 -- what the count of line ends goes by
 pub ruleset end_facts = (ends-le, line_ends-is, line_ends-encoded, none_lone)
 
 -- characters without a line end
-unbroken_one : (c : ℕ) (cs : List ℕ) → is_break c ≡ false → ends_line c cs ≡ false
-unfolding is_break
-unbroken_one c cs none =
-    let no_feed : is_line_feed c ≡ false = false_from_ne_true _ (λ h. both_ways _ none (ap is_break (feed_is c h))) in
-    let no_return : is_return c ≡ false = false_from_ne_true _ (λ h. both_ways _ none (ap is_break (return_is c h))) in
-    rw (no_feed, no_return) refl
-
 pub unbroken : (cs : List ℕ) → list_all (λ d. not (is_break d)) cs ≡ true → 0 ≡ line_ends cs
+unfolding is_break is_line_feed is_return
 unbroken [] all = refl
 unbroken (c ∷ cs) all =
-    let parts = and_parts (not (is_break c)) (list_all (λ d. not (is_break d)) cs) all in
-    let first = unbroken_one c cs (not-true (is_break c) parts.0) in
-    rw first (omega (arith, unbroken cs parts.1))
+    grind (arith, all, unbroken cs)

@@ -3,7 +3,7 @@ use Rattle.std.specs.Prelude.{◌≡◌, ℕ, ◌+◌, Bool, true, false, List, 
 use Rattle.std.specs.List.{starts_with}
 use Rattle.std.specs.Str.{all_scalars}
 use Rattle.py_lines.specs.Character.{is_digit}
-use Rattle.py_lines.specs.Piece.{Class, space, word, string, operator, comment, join, Piece, begins, begins_marked, is_mark_class, spelled}
+use Rattle.py_lines.specs.Piece.{Class, word, string, operator, comment, join, Piece, begins, begins_marked, is_mark_class, spelled}
 use Rattle.py_lines.specs.Fields.{AreReadBefore, IsShallow}
 use Rattle.py_lines.specs.LogicalLine.{byte_len, line_ends, first_or_zero, token, tokens_from, kind_of, indent_of}
 use Rattle.py_lines.specs.Private.Machine.{begins_string}
@@ -14,6 +14,7 @@ use Rattle.py_lines.specs.declared.token.TokKind.{TokKind}
 use Rattle.py_lines.specs.declared.unit.UnitKind.{UnitKind}
 use Rattle.py_lines.specs.declared.unit.UnitKind.TheVariants as unit_kind
 use Rattle.py_lines.specs.declared.token.TokKind.TheVariants as kind
+use Rattle.py_lines.specs.declared.line_tokens.FirstPiece.{FirstPiece}
 use Rattle.py_lines.specs.declared.line_tokens.Role.{Role}
 use Rattle.py_lines.specs.declared.line_tokens.Role.TheVariants as roles
 use Rattle.py_lines.specs.declared.line_tokens.LineTokens.{LineTokens}
@@ -42,30 +43,36 @@ pub record BeginWithPiece (bytes : List ℕ) (p : Piece) : Type 0 where
 abbrev pub word_kind : Bool → TokKind
 word_kind digit = if digit then kind.Number else kind.Name
 
--- what a piece is to its line
+-- what a piece that is no space is to its line
 abbrev pub role_of : Class → List ℕ → Role
 role_of word text = roles.Token (word_kind (begins is_digit text))
 role_of string text = roles.Token kind.Str
 role_of operator text = roles.Token (kind.Op (first_or_zero text))
 role_of comment text = roles.Token kind.Remark
 role_of join text = roles.Join
-role_of space text = roles.Space
 role_of other text = roles.LineEnd
 
--- the line ends of a piece of this role and text
-abbrev pub ends_in : Role → List ℕ → ℕ
-ends_in (roles.Token kind.Str) text = line_ends text
-ends_in (roles.Token other) text = 0
-ends_in roles.Space text = 0
-ends_in other text = 1
+-- a token on one line, and a piece with one line end
+abbrev pub token_piece : TokKind → ℕ → FirstPiece
+token_piece kind len = record { role = roles.Token kind; len = len; line_ends = 0 }
+
+abbrev pub line_end_piece : Role → ℕ → FirstPiece
+line_end_piece role len = record { role = role; len = len; line_ends = 1 }
 
 -- the piece as its line takes it
-abbrev pub IsTakenFor : Piece → Role → ℕ → Type 0
-IsTakenFor p role len = (role ≡ role_of p.class p.text) × (len ≡ byte_len p.text)
+abbrev pub IsTakenFor : Piece → FirstPiece → Type 0
+IsTakenFor p first = first ≡ record { role = role_of p.class p.text; len = byte_len p.text; line_ends = line_ends p.text }
 
 -- the bytes of the line end that these begin with: of CR LF, or of LF or CR
 abbrev pub line_end_len : List ℕ → ℕ
 line_end_len bytes = if starts_with nat_eq bytes (13 ∷ 10 ∷ []) then 2 else 1
+
+-- the byte order mark in UTF-8, and how many bytes of it the text begins with
+abbrev pub mark_bytes : List ℕ
+mark_bytes = 0xEF ∷ 0xBB ∷ 0xBF ∷ []
+
+abbrev pub mark_len : List ℕ → ℕ
+mark_len text = if starts_with nat_eq text mark_bytes then 3 else 0
 
 -- whether a quote after such a word, or after nothing, begins a string
 abbrev pub is_prefix_word : List ℕ → Bool
@@ -73,12 +80,8 @@ is_prefix_word [] = true
 is_prefix_word text = begins_string (word_spelling text)
 
 -- the first piece of these bytes, whatever it is
-abbrev pub IsFirstPiece : List ℕ → Role → ℕ → Type 0
-IsFirstPiece bytes role len = (p : Piece) → BeginWithPiece bytes p → IsTakenFor p role len
-
--- it has so many bytes, if it is a string
-abbrev pub IsStringLen : List ℕ → ℕ → Type 0
-IsStringLen bytes len = (p : Piece) → p.class ≡ string → BeginWithPiece bytes p → len ≡ byte_len p.text
+abbrev pub IsFirstPiece : List ℕ → FirstPiece → Type 0
+IsFirstPiece bytes first = (p : Piece) → BeginWithPiece bytes p → IsTakenFor p first
 
 -- the bytes begin with a string
 abbrev pub BeginWithString : List ℕ → Type 0
@@ -105,7 +108,6 @@ with_comment other = other
 
 -- what it holds with a piece more
 abbrev pub kind_with : UnitKind → Role → UnitKind
-kind_with old roles.Space = old
 kind_with old roles.LineEnd = old
 kind_with old roles.Join = unit_kind.Code
 kind_with old (roles.Token k) = if is_comment k then with_comment old else unit_kind.Code

@@ -1,5 +1,6 @@
 -- Bytes that aren't plain, and where they stand, in blocks of 64.
-use Rattle.std.specs.Prelude.{bit_and, ◌≡◌, ℕ, ◌+◌, ◌/◌, ◌<◌, ◌≤◌, Bool, true, false, ◌==◌, ◌&&◌, ◌||◌, not, nat_lt, nat_le, List, length, slice_index}
+use Rattle.std.specs.Prelude.{bit_and, ◌≡◌, ℕ, ◌+◌, ◌-◌, ◌/◌, ◌<◌, ◌≤◌, Bool, true, false, ◌==◌, ◌&&◌, ◌||◌, not, nat_lt, nat_le}
+use Rattle.std.specs.Prelude.{Option, None, Some, List, length, slice_index}
 use Rattle.std.specs.Int.{bit_at}
 use Rattle.py_lines.specs.Character.{is_backslash, is_hash, is_line_feed, is_operator, is_quote, is_return, is_space}
 use Rattle.py_lines.specs.Balance.{is_closing, is_opening}
@@ -48,12 +49,17 @@ is_set bits k = bit_at bits k == 1
 abbrev pub is_mark : List ℕ → ℕ → ℕ → Bool
 is_mark text from k = nat_le from k && (nat_lt k (length text) && not (is_plain (slice_index text k)))
 
+-- whether LF stands at this place of the text
+abbrev pub is_feed : List ℕ → ℕ → Bool
+is_feed text k = nat_lt k (length text) && is_line_feed (slice_index text k)
+
 -- the marks are those of the text that is passed up to this byte
 pub record HasMarks (text : List ℕ) (from : ℕ) (marks : Marks) : Type 0 where
   pub base : marks.base ≤ from
   pub within : from ≤ length text
   pub reach : from ≤ marks.base + 64
   pub bits : (k : ℕ) → k < 64 → is_set marks.bits k ≡ is_mark text from (marks.base + k)
+  pub feeds : (k : ℕ) → k < 64 → is_set marks.feeds k ≡ is_feed text (marks.base + k)
 
 -- a byte that isn't plain stands at this place
 abbrev pub IsSpecial : List ℕ → ℕ → Type 0
@@ -67,3 +73,25 @@ pub record FindsNext (text : List ℕ) (from at : ℕ) (marks : Marks) : Type 0 
   pub special : at < length text → is_plain (slice_index text at) ≡ false
   pub rest : at < length text → HasMarks text (at + 1) marks
   pub held : at < length text → (marks.base ≤ at) × (at < marks.base + 64)
+
+-- the bytes between these places of a text are plain
+abbrev pub ArePlain : List ℕ → ℕ → ℕ → Type 0
+ArePlain text from to = (i : ℕ) → from ≤ i → i < to → i < length text → is_plain (slice_index text i) ≡ true
+
+-- the bytes between these places are plain or LF, and the last of them is LF
+pub record EndInFeed (text : List ℕ) (from to : ℕ) : Type 0 where
+  pub further : from < to
+  pub within : to ≤ length text
+  pub each : (i : ℕ) → from ≤ i → i < to → (is_plain (slice_index text i) || is_line_feed (slice_index text i)) ≡ true
+  pub last : is_line_feed (slice_index text (to - 1)) ≡ true
+
+-- bytes up to the last LF before any other byte that isn't plain are passed, if LF stands there; the marks are of the same 64 bytes
+abbrev pub PassesFeeds : List ℕ → ℕ → Marks → Option ℕ → Marks → Type 0
+PassesFeeds text from old None new = new ≡ old
+PassesFeeds text from old (Some to) new = (new.base ≡ old.base) × EndInFeed text from to × HasMarks text to new
+
+-- the marks go on to the next 64 bytes, as all that are left of these are plain, or these have a mark, or are the last
+abbrev pub Advances : List ℕ → Marks → Bool → Marks → Type 0
+Advances text old true new = (from : ℕ) → HasMarks text from old
+    → ArePlain text from (old.base + 64) × HasMarks text (old.base + 64) new
+Advances text old false new = (new ≡ old) × (old.bits ≡ 0 → length text ≤ old.base + 64)

@@ -1,7 +1,5 @@
 -- Bytes of a line that are passed over at one that isn't plain: what that comes to, wherever in a line they stand.
-use Rattle.std.specs.Prelude.{◌≡◌, ℕ, ◌+◌, ◌-◌, ◌<◌, ◌≤◌, Bool, true, false, Option, None, Some, List, [], ◌∷◌, length, take, drop, if◌then◌else◌}
-use Rattle.std.specs.List.{count_by, list_any}
-use Rattle.py_lines.specs.Character.{is_line_feed, is_return}
+use Rattle.std.specs.Prelude.{◌≡◌, ◌⊎◌, ℕ, ◌+◌, ◌-◌, ◌<◌, ◌≤◌, false, Option, None, Some, List, [], ◌∷◌, length, drop, if◌then◌else◌}
 use Rattle.py_lines.specs.declared.frames.Frame.{Frame}
 use Rattle.py_lines.specs.declared.marks.Marks.{Marks}
 use Rattle.py_lines.specs.declared.mode.Mode.TheVariants as opens
@@ -13,7 +11,7 @@ use Rattle.py_lines.specs.declared.scan.Progress.TheVariants as progress
 use Rattle.py_lines.specs.declared.scan.Scan.{Scan}
 use Rattle.py_lines.specs.Private.Frames.{has_field}
 use Rattle.py_lines.specs.Private.Machine.{first_spelling, spelling_with}
-use Rattle.py_lines.specs.Private.Marks.{HasMarks}
+use Rattle.py_lines.specs.Private.Marks.{EndInFeed, FindsNext, HasMarks, PassesFeeds}
 use Rattle.py_lines.specs.Private.Run.{is_ascii_word}
 use Rattle.py_lines.specs.Private.Scan.{Steps, Takes, passed}
 
@@ -31,24 +29,45 @@ tail_of text = tail_on None text
 
 -- no byte was passed
 abbrev pub nothing_passed : Marks → Passing
-nothing_passed marks = record { all = 0; feeds = 0; returned = false; marks = marks }
+nothing_passed marks = record { all = 0; lines = 0; marks = marks }
+
+-- the bytes up to this one were passed
+abbrev pub passed_to : Passing → ℕ → Marks → Passing
+passed_to old to marks = record old { all = to; marks = marks }
+
+-- with a line end up to this byte a line ends, where nothing is open
+abbrev pub lines_with : List Frame → ℕ → ℕ → ℕ
+lines_with [] old to = to
+lines_with (f ∷ fs) old to = old
 
 -- the bytes up to this one were passed, with a line end at their end
-abbrev pub passed_line_end : Passing → ℕ → Passing
-passed_line_end old to = record old { all = to; feeds = old.feeds + 1 }
+abbrev pub passed_line_end : List Frame → Passing → ℕ → Passing
+passed_line_end fs old to = record old { all = to; lines = lines_with fs old.lines to }
 
--- more bytes were passed: where none is CR, so many more LF stand in them
-pub record CountsOn (bytes : List ℕ) (old new : Passing) : Type 0 where
-  pub further : old.all ≤ new.all
-  pub few : old.feeds ≤ old.all → new.feeds ≤ new.all
-  pub unreturned : new.returned ≡ false
-      → (old.returned ≡ false) × (list_any is_return (take (new.all - old.all) (drop old.all bytes)) ≡ false)
-  pub feeds : new.returned ≡ false → new.feeds ≡ old.feeds + count_by is_line_feed (take (new.all - old.all) (drop old.all bytes))
+-- bytes up to this one, which is after LF, were passed, or none
+abbrev pub passed_feeds : List Frame → Passing → Option ℕ → Marks → Passing
+passed_feeds fs old None marks = record old { marks = marks }
+passed_feeds fs old (Some to) marks = record (passed_line_end fs old to) { marks = marks }
+
+-- LF of the 64 bytes of the marks were passed, with all that stand before the last of them, or none
+abbrev pub PassesBlock : List ℕ → ℕ → List Frame → Passing → Passing → Type 0
+PassesBlock bytes from fs old new = (to : Option ℕ) × PassesFeeds bytes from old.marks to new.marks × (new ≡ passed_feeds fs old to new.marks)
+
+-- no LF was passed, or bytes up to one were, with all that stand before it; and then the marks stand where these do
+abbrev pub PassesLineFeeds : List ℕ → List Frame → Passing → Passing → Type 0
+PassesLineFeeds bytes fs old new =
+    (new ≡ record old { marks = new.marks })
+    ⊎ (EndInFeed bytes old.all new.all × (new ≡ record (passed_line_end fs old new.all) { marks = new.marks }))
+
+-- the next byte that isn't plain stands at this place, or the bytes end there; lines that end with LF before it were passed
+pub record FindsSpecial (bytes : List ℕ) (fs : List Frame) (old : Passing) (at : ℕ) (new : Passing) : Type 0 where
+  pub passes : PassesLineFeeds bytes fs old new
+  pub next : FindsNext bytes new.all at new.marks
 
 -- what a line end comes to, where nothing is open or something is
-abbrev pub line_end_special : Bool → ℕ → Special
-line_end_special true len = special.LineEnd len
-line_end_special false len = special.Passed
+abbrev pub line_end_special : List Frame → ℕ → Special
+line_end_special [] len = special.LineEnd len
+line_end_special (f ∷ fs) len = special.Passed
 
 -- the scan with other frames
 abbrev pub with_frames : Scan → List Frame → Scan
@@ -71,6 +90,7 @@ Passes bytes len start before after =
 pub record PassesSo (bytes : List ℕ) (at place : ℕ) (old : Passing) (b : List Frame) (new : Passing) (c : List Frame) : Type 0 where
   pub further : at < new.all
   pub within : new.all ≤ length bytes
+  pub lines : new.lines ≡ old.lines
   pub marked : HasMarks bytes new.all new.marks
   pub outside : has_field b ≡ false → has_field c ≡ false
   pub over : (start : ℕ) → place ≡ start + (at - old.all) → Passes (drop old.all bytes) (new.all - old.all) start b c
@@ -90,6 +110,7 @@ pub record EndsAfter (scan : Scan) (bytes : List ℕ) (before len : ℕ) (new : 
 pub record EndsLineSo (bytes : List ℕ) (at : ℕ) (old : Passing) (b : List Frame) (len : ℕ) (new : Passing) (c : List Frame) : Type 0 where
   pub all : new.all ≡ at + len
   pub within : new.all ≤ length bytes
+  pub lines : new.lines ≡ new.all
   pub marked : HasMarks bytes new.all new.marks
   pub some : 0 < len
   pub frames : c ≡ []

@@ -65,6 +65,10 @@ is_literal_byte quote c = is_text_byte quote c && not (is_brace c)
 abbrev pub is_long_byte : ℕ → ℕ → Bool
 is_long_byte quote c = not ((c == quote) || is_backslash c)
 
+-- the same, of ASCII
+abbrev pub is_long_text_byte : ℕ → ℕ → Bool
+is_long_text_byte quote c = is_long_byte quote c && nat_lt c 128
+
 -- a space, or one of the operators that code in fields has mostly: `!`, `=`, and those from `*` to `/`
 unfoldable pub is_code_sign : ℕ → Bool
 is_code_sign c = is_between 42 47 c || (is_between 32 33 c || (c == byte "="))
@@ -85,6 +89,7 @@ is_in_run runs.Space = is_space
 is_in_run (runs.Body q) = is_body_byte q
 is_in_run (runs.Text q) = is_text_byte q
 is_in_run (runs.Literal q) = is_literal_byte q
+is_in_run (runs.LongText q) = is_long_text_byte q
 is_in_run runs.Code = is_code_byte
 
 -- whether a byte, or a character, leaves the open piece as it is, where that is no string with fields

@@ -1,28 +1,25 @@
-use Rattle.std.proofs.Common.{◌≡◌, refl, sym, arith}
-use Rattle.py_lines.specs.Piece.{Piece, string}
-use Rattle.py_lines.specs.Private.LineTokens.{BeginWithPiece}
-use Rattle.py_lines.proofs.LineTokens.FirstPieces.{is_string, is_word, taken, word_taken}
+use Rattle.std.proofs.Common.{refl, sym, arith}
+use Rattle.py_lines.specs.Private.Run.{IsRunOf, is_wide_word}
+use Rattle.py_lines.proofs.LineTokens.FirstPieces.{is_string, is_word, run_within, word_taken}
 use Rattle.py_lines.proofs.line_tokens.word_or_string.Goals as goal
-use Rattle.py_lines.proofs.line_tokens.word_or_string.Goals.{Then-is_prefix}
+use Rattle.py_lines.proofs.line_tokens.word_or_string.Goals.{After-min-len, else-is_ascii_digit, then-is_ascii_digit}
 
--- a prefix, and its quote
-string_here : (c : Then-is_prefix) (p : Piece) → BeginWithPiece c.args.bytes.now p → p.class ≡ string
-string_here c p b = is_string b c.len_in-len.result c.requires.word c.len_in-len.ensures (search (arith))
+run : (c : After-min-len) → IsRunOf is_wide_word c.args.bytes.now c.min-len.result
+run c = run_within is_wide_word c.args.bytes.now c.args.ahead.now c.len_in.result _ c.requires.ahead c.len_in.ensures c.min-len.ensures
 
-pub string_len-whole-requires-clause-string : goal.string_len-whole-requires-clause-string
-string_len-whole-requires-clause-string c =
-    let (p, b) = c.requires.piece in (p, string_here (goal.at.string_len-whole-requires-clause-string c).Then-is_prefix p b, b)
+pub first_string-requires-clause-string : goal.first_string-requires-clause-string
+first_string-requires-clause-string c = λ p b.
+    is_string b c.min-len.result c.requires.word (run (goal.at.first_string-requires-clause-string c).After-min-len) (search (arith))
 
-pub returns-then-is_prefix : goal.returns-then-is_prefix
-returns-then-is_prefix c = λ p b.
-    let is = string_here (goal.at.returns-then-is_prefix c).Then-is_prefix p b in taken b string is refl (c.string_len-whole.ensures p is b)
-
-pub returns-then-is_ascii_digit : goal.returns-then-is_ascii_digit
-returns-then-is_ascii_digit c = λ p b.
-    let is = is_word b c.len_in-len.result c.requires.word c.len_in-len.ensures (λ told. grind (arith, told.1, told.2)) in
-    word_taken b c.len_in-len.result _ is c.len_in-len.ensures (rw (sym c.is_ascii_digit.ensures.value, c.if-is_ascii_digit.true) refl)
-
-pub returns-else-is_ascii_digit : goal.returns-else-is_ascii_digit
-returns-else-is_ascii_digit c = λ p b.
-    let is = is_word b c.len_in-len.result c.requires.word c.len_in-len.ensures (λ told. grind (arith, told.1, told.2)) in
-    word_taken b c.len_in-len.result _ is c.len_in-len.ensures (rw (sym c.is_ascii_digit.ensures.value, c.if-is_ascii_digit.false) refl)
+pub returns : goal.returns
+returns c = λ p b.
+    let r = run (goal.at.returns c).After-min-len in
+    let is = is_word b c.min-len.result c.requires.word r (λ told. grind (arith, told.1, told.2)) in
+    elim c.if-is_ascii_digit.branch [
+      | then-is_ascii_digit w ↦
+          rw (c.token.ensures, w.kind-is)
+          (word_taken b c.min-len.result _ is r (rw (sym c.is_ascii_digit.ensures.value, w.if-is_ascii_digit.true) refl))
+      | else-is_ascii_digit w ↦
+          rw (c.token.ensures, w.kind-is)
+          (word_taken b c.min-len.result _ is r (rw (sym c.is_ascii_digit.ensures.value, w.if-is_ascii_digit.false) refl))
+    ]

@@ -1,10 +1,18 @@
-use Rattle.std.proofs.Common.{rules}
-use Rattle.py_lines.proofs.LineScan.AsciiRuns.{space_low, word_byte_low}
+use Rattle.std.proofs.Common.{◌≡◌, ◌<◌, ℕ, true, rules}
+use Rattle.std.proofs.lemmas.Bool.{and_parts, ltb-true}
+use Rattle.py_lines.specs.Private.Run.{is_long_byte, is_long_text_byte}
+use Rattle.py_lines.proofs.LineScan.AsciiRuns.{is_low, space_low, word_byte_low}
 use Rattle.py_lines.proofs.LineScan.Spans.{low_spans}
 use Rattle.py_lines.proofs.run.characters_in.Goals as goal
 
 pub returns-in-Space : goal.returns-in-Space
-returns-in-Space c = search (rules, low_spans _ c.args.bytes.now _ c.len_in.ensures space_low)
+returns-in-Space c = search (rules, low_spans _ _ c.args.bytes.now _ c.len_in.ensures (λ b h. (h, space_low b h)))
 
 pub returns-in-Word-Name : goal.returns-in-Word-Name
-returns-in-Word-Name c = search (rules, low_spans _ c.args.bytes.now _ c.len_in-in-Word-Name.ensures word_byte_low)
+returns-in-Word-Name c = search (rules, low_spans _ _ c.args.bytes.now _ c.len_in-in-Word-Name.ensures (λ b h. (h, word_byte_low b h)))
+
+long_low : (q b : ℕ) → is_long_text_byte q b ≡ true → (is_long_byte q b ≡ true) × b < 128
+long_low q b h = let parts = and_parts (is_long_byte q b) (is_low b) h in (parts.0, ltb-true b 128 parts.1)
+
+pub returns-then-ascii-bytes : goal.returns-then-ascii-bytes
+returns-then-ascii-bytes c = search (rules, low_spans _ _ c.args.bytes.now _ c.len_in-ascii.ensures (long_low c.in-Long.quote))

@@ -1,18 +1,20 @@
-use Rattle.std.proofs.Common.{arith, rules}
+use Rattle.std.proofs.Common.{◌≡◌, ◌∙◌, refl, sym, ap, arith, rules}
 use Rattle.py_lines.proofs.SpecialBytes.Places.{finds_end, finds_lowest, passes_block}
 use Rattle.py_lines.proofs.marks.Marks.next.Goals as goal
 
-pub returns-then-text-self-le64 : goal.returns-then-text-self-le64
-returns-then-text-self-le64 c from has =
-    let loop = c.loop-self in
-    finds_end c.args.text.now from loop.self (loop.invariant.2 from has) c.loop-self-test.true (omega (arith, c.if-text-self-le64.true))
+pub blocks-2-preserved : goal.blocks-2-preserved
+blocks-2-preserved c =
+    let loop = c.blocks-2 in
+    let on = c.blocks-2-test.ensures in
+    ((on.base refl).1, λ from has. passes_block c.args.text.now from loop.self c.advance.new.self (loop.invariant.1 from has) on.marks)
 
-pub loop-self-preserved : goal.loop-self-preserved
-loop-self-preserved c =
-    let loop = c.loop-self in
-    let at = c.at.ensures in
-    let more = c.if-text-self-le64.false in
-    (omega (arith, at.base, more), search rules, λ from has. passes_block c.args.text.now from loop.self c.at.result (loop.invariant.2 from has) c.loop-self-test.true (omega (arith, more)) at.marks)
+pub returns-then-self-eq0 : goal.returns-then-self-eq0
+returns-then-self-eq0 c from has =
+    let (same, last) = c.blocks-2-test.ensures.marks in
+    let none : c.blocks-2.self.bits ≡ 0 = ap (λ m. m.bits) (sym same) ∙ c.if-self-eq0.true in
+    rw same (finds_end c.args.text.now from c.blocks-2.self (c.blocks-2.invariant.1 from has) none (last none))
 
 pub returns : goal.returns
-returns c from has = let loop = c.loop-self in finds_lowest c.args.text.now from loop.self (loop.invariant.2 from has) (omega (arith, c.loop-self-test.false)) loop.invariant.1
+returns c from has =
+    finds_lowest c.args.text.now from c.advance.new.self (rw c.blocks-2-test.ensures.marks.0 (c.blocks-2.invariant.1 from has))
+    (omega (arith, c.if-self-eq0.false)) (search rules)

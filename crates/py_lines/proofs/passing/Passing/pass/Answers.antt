@@ -1,18 +1,12 @@
-use Rattle.std.proofs.Common.{◌+◌, ◌==◌, ◌∙◌, List, ℕ, ap, arith, drop, length-drop, refl, slice_index, subst, sym, true}
-use Rattle.std.proofs.lemmas.Bool.{both_ways, or_parts}
-use Rattle.std.specs.Prelude.{codes}
-use Rattle.py_lines.specs.Character.{is_backslash, is_break}
-use Rattle.py_lines.specs.declared.passing.Passing.{Passing}
+use Rattle.std.proofs.Common.{◌+◌, ◌∙◌, List, ℕ, ap, arith, drop, length-drop, refl, slice_index, subst, sym}
+use Rattle.std.proofs.lemmas.Bool.{both_ways}
+use Rattle.py_lines.specs.Character.{is_break}
 use Rattle.py_lines.specs.Private.LineEnds.{BeginsOuterEnd}
 use Rattle.py_lines.proofs.FieldScans.LineEnds.{feed_breaks, return_breaks}
 use Rattle.py_lines.proofs.FieldScans.TextLengths.{rest_is}
-use Rattle.py_lines.proofs.LineScan.AsciiRuns.{operator-no_break}
-use Rattle.py_lines.proofs.Machine.LiveTexts.{closing-operator}
-use Rattle.py_lines.proofs.Machine.Starts.{opening_operator}
-use Rattle.py_lines.proofs.PassedPieces.CountedEnds.{counts_byte, counts_end, counts_on}
 use Rattle.py_lines.proofs.PassedPieces.Items.{join_over}
 use Rattle.py_lines.proofs.PassedPieces.Passed.{closing_passed, feed_begins, line_end_passed, opening_passed, passes_same}
-use Rattle.py_lines.proofs.Text.CharacterTests.{feed_is, none_of, return_is}
+use Rattle.py_lines.proofs.Text.CharacterTests.{feed_is, return_is}
 use Rattle.py_lines.proofs.passing.Passing.pass.Goals.{in-Quote, in-Backslash+in-Some-outer_end_len, in-Hash, in-Opening, in-Closing, in_default-2, in_default-3, in_default}
 use Rattle.py_lines.proofs.passing.Passing.pass.Goals as goal
 
@@ -20,27 +14,23 @@ pub returns-in-LineFeed : goal.returns-in-LineFeed
 returns-in-LineFeed c =
     let bytes = c.args.bytes.now in
     let at = c.args.at in
-    let old = c.args.self.now in
     let is = feed_is (slice_index bytes at) c.in-LineFeed.ensures in
-    let met = line_end_passed bytes at old c.requires.next c.requires.within 1 (ap is_break is ∙ feed_breaks.0)
-    (feed_begins bytes at c.requires.within is) old.returned old.marks (c.requires.next.rest c.requires.within) c.args.frames.now c.args.place (λ no. (no, ap (λ (n : ℕ). n == 13) is)) in
-    rw (c.pass_line_end.ensures.special, c.pass_line_end.ensures.passed) (record { passes = met.0; counts = met.1 })
+    rw (c.pass_line_end.ensures.special, c.pass_line_end.ensures.passed)
+    (line_end_passed bytes at c.args.self.now c.requires.next c.requires.within 1 (ap is_break is ∙ feed_breaks.0)
+    (feed_begins bytes at c.requires.within is) _ (c.requires.next.rest c.requires.within) c.args.place c.args.frames.now)
 
 pub returns-in-Return : goal.returns-in-Return
 returns-in-Return c =
     let bytes = c.args.bytes.now in
     let at = c.args.at in
-    let old = c.args.self.now in
     let len = c.in-Some.len in
     let breaks = ap is_break (return_is (slice_index bytes at) c.in-Return.ensures) ∙ return_breaks.0 in
     let ends = subst (λ (xs : List ℕ). BeginsOuterEnd xs len) (rest_is bytes at) c.in-Some.ensures in
-    let met = line_end_passed bytes at old c.requires.next c.requires.within len breaks ends
-    true c.pass.new.self (c.pass.ensures (at + 1) (c.requires.next.rest c.requires.within) (omega (arith, ends.some))) c.args.frames.now c.args.place
-    (λ no. absurd (cc)) in
-    rw (c.pass_line_end-in-Return.ensures.special, c.pass_line_end-in-Return.ensures.passed) (record { passes = met.0; counts = met.1 })
+    rw (c.pass_line_end-in-Return.ensures.special, c.pass_line_end-in-Return.ensures.passed)
+    (line_end_passed bytes at c.args.self.now c.requires.next c.requires.within len breaks ends _
+    (c.pass.ensures (at + 1) (c.requires.next.rest c.requires.within) (omega (arith, ends.some))) c.args.place c.args.frames.now)
 
 pub returns-then-passed : goal.returns-then-passed
-unfolding is_backslash is_break
 returns-then-passed c =
     let bytes = c.args.bytes.now in
     let at = c.args.at in
@@ -48,39 +38,24 @@ returns-then-passed c =
     let old = c.args.self.now in
     let before = c.args.frames.now in
     let first = slice_index bytes at in
-    let rest = c.requires.next.rest c.requires.within in
+    let next = c.requires.next in
+    let rest = next.rest c.requires.within in
     elim c.match-of.branch [
-      | in-Quote w ↦
-          let ensures = w.pass_string-passed.ensures in
-          rw (w.self-is, w.frames-is) (record { passes = ensures.passed (sym w.passed-is ∙ c.if-passed.true) place; counts = ensures.counts })
+      | in-Quote w ↦ rw (w.self-is, w.frames-is) (w.pass_string-passed.ensures.passed (sym w.passed-is ∙ c.if-passed.true) place)
       | in-Backslash+in-Some-outer_end_len w ↦
           let len = w.in-Some-outer_end_len.len in
           let ends = subst (λ (xs : List ℕ). BeginsOuterEnd xs len) (rest_is bytes (at + 1)) w.in-Some-outer_end_len.ensures in
-          let mid : Passing = record old { all = at + 1 } in
-          rw (w.self-is, w.frames-is) (record {
-            passes = passes_same bytes at old c.requires.next c.requires.within _ before (1 + len) place (omega arith)
-                (omega (arith, ends.within, length-drop (at + 1) bytes, c.requires.within)) (omega arith)
-                (w.pass-in-Backslash.ensures (at + 1) rest (omega arith)) (λ scan p frames.
-                join_over p first (drop (at + 1) bytes) (c.requires.next.special c.requires.within) len w.in-Backslash.ensures ends);
-            counts = counts_on bytes old mid _
-                (counts_byte bytes at old mid c.requires.next (none_of is_break (codes "\\") first refl w.in-Backslash.ensures) refl refl refl)
-                (counts_end bytes mid _ len ends refl refl (or_parts _ _));
-          })
-      | in-Hash w ↦
-          let ensures = w.pass_comment-passed.ensures in
-          rw (w.self-is, w.frames-is) (record { passes = ensures.passed (sym w.passed-is ∙ c.if-passed.true) place before; counts = ensures.counts })
+          rw (w.self-is, w.frames-is) (passes_same bytes at old next c.requires.within _ before (1 + len) place (omega arith)
+          (omega (arith, ends.within, length-drop (at + 1) bytes, c.requires.within)) (omega arith) refl
+          (w.pass-in-Backslash.ensures (at + 1) rest (omega arith))
+          (λ scan p frames. join_over p first (drop (at + 1) bytes) (next.special c.requires.within) len w.in-Backslash.ensures ends))
+      | in-Hash w ↦ rw (w.self-is, w.frames-is) (w.pass_comment-passed.ensures.passed (sym w.passed-is ∙ c.if-passed.true) place before)
       | in-Opening w ↦
-          rw (w.self-is, w.frames-is) (record {
-            passes = opening_passed bytes at old c.requires.next c.requires.within _ before w.open.new.self place refl rest
-                w.in-Opening.ensures (rw w.if-open.true at w.open.ensures);
-            counts = counts_byte bytes at old _ c.requires.next (operator-no_break first (opening_operator first w.in-Opening.ensures)) refl refl refl;
-          })
+          rw (w.self-is, w.frames-is) (opening_passed bytes at old next c.requires.within _ before w.open.new.self place refl refl rest
+          w.in-Opening.ensures (rw w.if-open.true at w.open.ensures))
       | in-Closing w ↦
-          rw (w.self-is, w.frames-is) (record {
-            passes = closing_passed bytes at old c.requires.next c.requires.within _ before w.close.new.self place refl rest
-                w.in-Closing.ensures (rw w.if-close.true at w.close.ensures);
-            counts = counts_byte bytes at old _ c.requires.next (operator-no_break first (closing-operator first w.in-Closing.ensures)) refl refl refl;
-          })
+          rw (w.self-is, w.frames-is) (closing_passed bytes at old next c.requires.within _ before w.close.new.self place refl refl rest
+          w.in-Closing.ensures (rw w.if-close.true at w.close.ensures))
       | in_default-2 w ↦ absurd (both_ways _ w.passed-is c.if-passed.true)
       | in_default-3 w ↦ absurd (both_ways _ w.passed-is c.if-passed.true)
       | in_default w ↦ absurd (both_ways _ w.passed-is c.if-passed.true)

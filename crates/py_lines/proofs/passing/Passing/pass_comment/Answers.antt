@@ -1,9 +1,6 @@
-use Rattle.std.proofs.Common.{◌<◌, ◌∙◌, arith, length, refl, slice_index, sym}
-use Rattle.std.specs.Prelude.{codes}
+use Rattle.std.proofs.Common.{◌<◌, ◌∙◌, arith, length, refl, sym}
 use Rattle.py_lines.specs.Character.{is_break, is_hash}
-use Rattle.py_lines.proofs.PassedPieces.CountedEnds.{counts_piece}
 use Rattle.py_lines.proofs.PassedPieces.Reads.{comment_begun, comment_item, comment_passed, reads_on}
-use Rattle.py_lines.proofs.Text.CharacterTests.{none_of}
 use Rattle.py_lines.proofs.passing.Passing.pass_comment.Goals as goal
 
 pub specials-init : goal.specials-init
@@ -30,9 +27,8 @@ returns c =
     let within : end < length bytes = omega (arith, c.if-end-bytes.false) in
     let ends = sym c.is_break.ensures ∙ c.if-not-is_break.false in
     record {
-      passed = λ _ place b. comment_passed bytes at end c.specials.marks c.args.self.now _ b place c.requires.next read within c.requires.hash ends refl
+      passed = λ _ place b. comment_passed bytes at end c.specials.marks c.args.self.now _ b place c.requires.next read within
+          c.requires.hash ends refl refl
           (c.keep.ensures bytes (within, read.next.special within) (read.next.rest within));
       same = λ h. absurd (cc);
-      counts = counts_piece bytes at c.args.self.now _ c.requires.next end read.further
-          (none_of is_break (codes "#") (slice_index bytes at) refl c.requires.hash) read.unbroken refl refl refl;
     }

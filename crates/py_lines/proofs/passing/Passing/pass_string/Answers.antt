@@ -1,15 +1,12 @@
 use Rattle.std.proofs.Common.{◌+◌, ◌-◌, ◌<◌, ◌≡◌, ◌∙◌, List, Some, ℕ, ap, arith, drop, get_or-drop, length, length-drop, refl, slice_index, subst, sym, take}
-use Rattle.py_lines.specs.Character.{is_break}
 use Rattle.py_lines.specs.declared.frames.Frame.{Frame}
 use Rattle.py_lines.specs.Private.FieldText.{HasText}
 use Rattle.py_lines.specs.Private.Passing.{tail_of}
 use Rattle.py_lines.specs.Private.Run.{is_line_byte}
 use Rattle.py_lines.specs.Private.Scan.{quotes_in}
 use Rattle.py_lines.proofs.FieldScans.TextLengths.{rest_is, rest_of}
-use Rattle.py_lines.proofs.LineScan.AsciiRuns.{quote-no_break}
-use Rattle.py_lines.proofs.PassedPieces.CountedEnds.{bytes_from, counts_piece, unbroken_on, unbroken_one}
-use Rattle.py_lines.proofs.PassedPieces.FieldStrings.{IsFieldWord, field_over, low_unbroken}
-use Rattle.py_lines.proofs.PassedPieces.FirstBytes.{first_later}
+use Rattle.py_lines.proofs.PassedPieces.FieldStrings.{IsFieldWord, field_over}
+use Rattle.py_lines.proofs.PassedPieces.FirstBytes.{bytes_from, first_later}
 use Rattle.py_lines.proofs.PassedPieces.Items.{PlainBefore, empty_over}
 use Rattle.py_lines.proofs.PassedPieces.Passed.{passes_same}
 use Rattle.py_lines.proofs.PassedPieces.Reads.{TextItem, second_quote, escape_item, reads_on, string_passed, text_begun, text_item}
@@ -25,8 +22,6 @@ returns-then-has_fields c =
     let next = c.requires.next in
     let n = c.text_len-len.result in
     let q = slice_index bytes at in
-    let end = at + 1 + n in
-    let quote = quote-no_break q c.requires.quote in
     let has = c.text_len-len.ensures in
     let (text, within, last) = subst (λ (xs : List ℕ). HasText q xs n × (n < length xs) × (slice_index xs n ≡ q)) (rest_is bytes (at + 1))
     (has, omega (arith, c.if-len-text.false, has.0), c.if-text-len.false) in
@@ -37,15 +32,12 @@ returns-then-has_fields c =
     ∙ ap quotes_in (rest_is bytes at ∙ bytes_from bytes at c.requires.within) in
     record {
       passed = λ _ place. passes_same bytes at old next c.requires.within _ c.args.frames.now (1 + (n + 1)) place (omega arith)
-          (omega (arith, within, length-drop (at + 1) bytes)) (omega arith)
+          (omega (arith, within, length-drop (at + 1) bytes)) (omega arith) refl
           (c.pass-then-has_fields.ensures (at + 1) (next.rest c.requires.within) (omega arith))
           (λ scan p frames. field_over p q (next.special c.requires.within) (drop (at + 1) bytes) n c.requires.quote field
           (omega (arith, ap (λ (fs : List Frame). length fs) frames, c.len.ensures.is, c.if-len-gt10.false))
           alone text within last);
       same = λ h. absurd (cc);
-      counts = counts_piece bytes at old _ next (end + 1) (omega arith) quote
-          (unbroken_on bytes (at + 1) end (end + 1) (low_unbroken bytes (at + 1) n text.0 text.1.low)
-          (unbroken_one bytes end (ap is_break (sym (get_or-drop (at + 1) bytes n 0) ∙ last) ∙ quote))) (omega arith) refl refl;
     }
 
 pub returns-in-Some-eq2 : goal.returns-in-Some-eq2
@@ -56,16 +48,12 @@ returns-in-Some-eq2 c =
     let q = slice_index bytes at in
     let told = ap Some (sym c.in-Some-eq2.field-0-test) ∙ sym c.in-Some-eq2.is ∙ c.quotes_len.ensures ∙ ap quotes_in (rest_is bytes at) in
     let two = second_quote (drop at bytes) told in
-    let quote = quote-no_break q c.requires.quote in
-    let same = sym (get_or-drop at bytes 1 0) ∙ two.1 ∙ first_later bytes at in
     record {
       passed = λ _ place. passes_same bytes at c.args.self.now next c.requires.within _ c.args.frames.now 2 place (omega arith)
-          (omega (arith, two.0, length-drop at bytes)) refl (c.pass.ensures (at + 1) (next.rest c.requires.within) (omega arith))
+          (omega (arith, two.0, length-drop at bytes)) refl refl (c.pass.ensures (at + 1) (next.rest c.requires.within) (omega arith))
           (λ scan p frames. empty_over p q (next.special c.requires.within) c.requires.quote (drop (at + 1) bytes)
           (told ∙ ap quotes_in (bytes_from bytes at c.requires.within)));
       same = λ h. absurd (cc);
-      counts = counts_piece bytes at c.args.self.now _ next (at + 1 + 1) (omega arith) quote
-          (unbroken_one bytes (at + 1) (ap is_break same ∙ quote)) (omega arith) refl refl;
     }
 
 pub specials-init : goal.specials-init
@@ -131,13 +119,9 @@ returns c =
       | else-start-before w ↦ subst PlainBefore (sym (no_word_there _ start found (omega (arith, w.if-start-before.false)))) tt
     ] in
     let alone = ap Some (sym c.in-Some-eq1.field-0-test) ∙ sym c.in-Some-eq1.is ∙ c.quotes_len.ensures ∙ ap quotes_in (rest_is bytes at) in
-    let quote = quote-no_break (slice_index bytes at) c.requires.quote in
     let closes = sym (here bytes end) ∙ c.if-b-quote.true in
-    let last = unbroken_one bytes end (ap is_break closes ∙ quote) in
     record {
       passed = λ _ place. string_passed bytes at end c.specials.marks c.args.self.now _ c.args.frames.now place c.requires.next read within
-          c.requires.quote closes alone before refl (read.next.rest within);
+          c.requires.quote closes alone before refl refl (read.next.rest within);
       same = λ h. absurd (cc);
-      counts = counts_piece bytes at c.args.self.now _ c.requires.next (end + 1) (omega (arith, read.further)) quote
-          (unbroken_on bytes (at + 1) end (end + 1) read.unbroken last) refl refl refl;
     }

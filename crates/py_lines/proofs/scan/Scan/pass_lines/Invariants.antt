@@ -1,10 +1,9 @@
-use Rattle.std.proofs.Common.{◌+◌, ◌-◌, length}
-use Rattle.py_lines.proofs.LineScan.WholeLines.{HasPassedLines}
+use Rattle.py_lines.proofs.LineScan.WholeLines.{HasPassedLines, left}
 use Rattle.py_lines.proofs.scan.Scan.pass_lines.Given as goal
 
 abbrev pub invariant-specials : goal.invariant-specials
-invariant-specials l = HasPassedLines l.fn.bytes l.lines l.self.frames l.at l.passing
+invariant-specials l = HasPassedLines l.fn.bytes l.self.frames l.at l.passing
 
 -- a line end leads beyond the line's start, and all else beyond what was passed
 abbrev pub decreases-specials : goal.decreases-specials
-decreases-specials l = (length l.fn.bytes - l.passing.all) + (length l.fn.bytes - l.lines.len)
+decreases-specials l = left l.fn.bytes l.passing

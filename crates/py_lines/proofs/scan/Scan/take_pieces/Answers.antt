@@ -11,33 +11,28 @@ pub specials-init : goal.specials-init
 specials-init c =
     let code = in_code c.args.self.now c.requires.code in
     rw c.new-passing.ensures.nothing (record {
-      on = record {
-        same = refl;
-        outside = code.1;
-        takes = passes_none c.args.self.now c.args.bytes.now code.0;
-        next = c.next-at.ensures 0 c.new-passing.ensures.marked;
-      };
-      few = omega arith;
+      same = refl;
+      outside = code.1;
+      takes = passes_none c.args.self.now c.args.bytes.now code.0;
+      next = c.next-at.ensures 0 c.new-passing.ensures.marked;
     })
 
 pub specials-smaller : goal.specials-smaller
 specials-smaller c =
-    let on = c.in-Passed.ensures.passes in
+    let on = c.in-Passed.ensures in
     let next = c.next-at-in-Passed.ensures c.pass.new.self.all on.marked in
     omega (arith, on.further, next.after, next.within, c.specials-test.true)
 
 pub specials-preserved : goal.specials-preserved
-specials-preserved c = record {
-  on = passes_next _ _ _ _ _ c.specials.invariant.on c.pass.new.frames c.pass.new.self c.next-at-in-Passed.result c.next-at-in-Passed.new.self
-      c.in-Passed.ensures.passes (c.next-at-in-Passed.ensures c.pass.new.self.all c.in-Passed.ensures.passes.marked);
-  few = c.pass.ensures.counts.few c.specials.invariant.few;
-}
+specials-preserved c =
+    passes_next _ _ _ _ _ c.specials.invariant c.pass.new.frames c.pass.new.self c.next-at-in-Passed.result c.next-at-in-Passed.new.self
+    c.in-Passed.ensures (c.next-at-in-Passed.ensures c.pass.new.self.all c.in-Passed.ensures.marked)
 
 pub returns-in-LineEnd : goal.returns-in-LineEnd
 returns-in-LineEnd c = (
   c.specials.at,
-  passes_line _ _ _ _ _ c.specials.invariant.on c.in-LineEnd.len c.pass-in-LineEnd.new.self c.pass.new.self c.pass.new.frames
-      c.in-LineEnd.ensures.passes c.pass-in-LineEnd.ensures,
+  passes_line _ _ _ _ _ c.specials.invariant c.in-LineEnd.len c.pass-in-LineEnd.new.self c.pass.new.self c.pass.new.frames
+      c.in-LineEnd.ensures c.pass-in-LineEnd.ensures,
 )
 
 pub returns : goal.returns
@@ -48,9 +43,9 @@ returns c =
     let scan = c.specials-test.self in
     let p = c.specials-test.passing in
     let on : HasPassed old bytes at scan p = elim c.specials-test.branch [
-      | else-specials-test w ↦ rw (w.self-is, w.passing-is) c.specials.invariant.on
+      | else-specials-test w ↦ rw (w.self-is, w.passing-is) c.specials.invariant
       | then-specials-test+in-Unpassed w ↦
-          let (same, kept) = w.in-Unpassed.ensures.passes in rw (w.self-is, w.passing-is, kept, same) c.specials.invariant.on
+          let (same, kept) = w.in-Unpassed.ensures in rw (w.self-is, w.passing-is, kept, same) c.specials.invariant
     ] in
     let k = c.if-at-bytes.finished in
     let plain = take (at - p.all) (drop p.all bytes) in

@@ -13,7 +13,7 @@ use Rattle.py_lines.proofs.scanner.Scanner.pass_lines.Goals as goal
 
 pub slice_bounds-extend_from_slice-end : goal.slice_bounds-extend_from_slice-end
 slice_bounds-extend_from_slice-end c =
-    omega (arith, end_within _ _ c.pass_lines-lines.ensures.lines c.ends_with.result (c.ends_with.ensures.value ∙ ends_with_return (take c.pass_lines-lines.result.len (take c.min.result c.args.bytes.now))))
+    omega (arith, end_within _ _ c.pass_lines-len.ensures c.ends_with.result (c.ends_with.ensures.value ∙ ends_with_return (take c.pass_lines-len.result (take c.min.result c.args.bytes.now))))
 
 stands : (c : Else-is_some-2) → StandsAtLine (scanning_of c.self.inside.feed)
 stands c =
@@ -28,7 +28,7 @@ stands c =
 -- there is no memory for the byte after CR
 none_passed : (c : goal.After-restart) → StandsAtLine (scanning_of c.self.inside.feed)
     → PassesPieceLines (scanning_of c.self.inside.feed) c.args.bytes.now c.args.before 0 (scanning_of (record c.self.inside.feed { held = c.extend_from_slice.new.self; state = c.restart.new.self })) × IsSoundFeed (record c.self.inside.feed { held = c.extend_from_slice.new.self; state = c.restart.new.self })
-none_passed c at = begun_none c.self.inside.feed c.extend_from_slice.new.self c.restart.new.self c.pass_lines-lines.new.self at (search rules) c.restart.ensures c.args.bytes.now c.args.before c.self.invariant
+none_passed c at = begun_none c.self.inside.feed c.extend_from_slice.new.self c.restart.new.self c.pass_lines-len.new.self at (search rules) c.restart.ensures c.args.bytes.now c.args.before c.self.invariant
 
 pub invariant_of-self : goal.invariant_of-self
 invariant_of-self c = (none_passed c (stands (goal.at.invariant_of-self c).Else-is_some-2)).1
@@ -39,13 +39,13 @@ returns-then-is_err c = record { passes = rw (← c.self.view_is) (none_passed c
 -- lines were passed, if any were found
 some_passed : (c : goal.After-restart-2) → StandsAtLine (scanning_of c.self.inside.feed)
     → let new : Feed = record c.self.inside.feed { held = c.drop-drain.new.self.0; state = c.restart-2.new.self } in
-    PassesPieceLines (scanning_of c.self.inside.feed) c.args.bytes.now c.args.before c.pass_lines-lines.result.len (scanning_of new) × IsSoundFeed new
+    PassesPieceLines (scanning_of c.self.inside.feed) c.args.bytes.now c.args.before c.pass_lines-len.result (scanning_of new) × IsSoundFeed new
 some_passed c at =
-    let f = c.self.inside.feed in let bytes = c.args.bytes.now in let lines = c.pass_lines-lines.ensures.lines in
+    let f = c.self.inside.feed in let bytes = c.args.bytes.now in let lines = c.pass_lines-len.ensures in
     let begins = rw c.deref.ensures.value at ((starts_is Decides-eqb bytes _ c.starts_with-begins.result c.starts_with-begins.ensures.value).0 c.if-not-begins.false) in
     let began : take (length f.held.items) bytes ≡ f.held.items = ap (take (length f.held.items)) begins ∙ take-append_seam f.held.items _ in
-    passed f bytes c.args.before c.min.result c.pass_lines-lines.result.len at began c.min.ensures lines c.drop-drain.new.self.0 c.ends_with.result c.ends_with.ensures.value (search rules)
-    (c.pass_lines-lines.ensures.count lines.read lines.spell) (subst (λ (s : LineState). BeginsAnew s c.restart-2.new.self) c.pass.ensures c.restart-2.ensures) (omega (arith, c.requires.fits, ap (λ (s : ScannerState). s.place) c.self.view_is)) c.self.invariant
+    passed f bytes c.args.before c.min.result c.pass_lines-len.result at began c.min.ensures lines c.drop-drain.new.self.0 c.ends_with.result c.ends_with.ensures.value (search rules)
+    (c.line_ends.ensures.count lines.read lines.spell) (subst (λ (s : LineState). BeginsAnew s c.restart-2.new.self) c.pass.ensures c.restart-2.ensures) (omega (arith, c.requires.fits, ap (λ (s : ScannerState). s.place) c.self.view_is)) c.self.invariant
 
 pub invariant_of-self-2 : goal.invariant_of-self-2
 invariant_of-self-2 c = (some_passed c (stands (goal.at.invariant_of-self-2 c).Else-is_some-2)).1

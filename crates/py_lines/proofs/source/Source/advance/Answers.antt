@@ -1,4 +1,4 @@
-use Rattle.std.proofs.Common.{◌≡◌, ℕ, ◌+◌, ◌-◌, ◌<◌, ◌≤◌, ◌∙◌, None, List, [], length, take, drop, refl, sym, ap, subst, arith, length-drop, take_all}
+use Rattle.std.proofs.Common.{◌≡◌, ℕ, ◌+◌, ◌-◌, ◌<◌, ◌≤◌, ◌∙◌, None, List, [], length, take, drop, refl, sym, ap, subst, arith, length-drop}
 use Rattle.std.proofs.lemmas.Bool.{eqb-false, eqb-true}
 use Rattle.std.proofs.lemmas.List.{length-take-le}
 use Rattle.py_lines.specs.Piece.{Piece, spelled}
@@ -11,15 +11,13 @@ use Rattle.py_lines.specs.declared.scan.LineFault.{LineFault}
 use Rattle.py_lines.specs.Private.LineState.{HasNextFault, HasNextLine, IsFaultAfter, KeepsFault, passed, rescanned, with_tokens}
 use Rattle.py_lines.specs.Private.LineTokens.{AreTokensOf, HoldsTokens, IsLineAfter}
 use Rattle.py_lines.specs.Private.Source.{line_between}
+use Rattle.py_lines.proofs.FieldScans.TextLengths.{rest_is, rest_of}
 use Rattle.py_lines.proofs.Lexings.FirstLines.{all_first}
 use Rattle.py_lines.proofs.LineScan.LineCount.{line_ends-bytes}
 use Rattle.py_lines.proofs.LogicalLines.TokenPlaces.{each_after}
 use Rattle.py_lines.proofs.Readers.NextLines.{further, passes_next}
 use Rattle.py_lines.proofs.source.Source.advance.Goals as goal
-
--- the bytes from a place on
-from_place : (n : ℕ) (bytes : List ℕ) → take (length bytes - n) (drop n bytes) ≡ drop n bytes
-from_place n bytes = take_all (length bytes - n) (drop n bytes) (omega (arith, length-drop n bytes))
+use Rattle.py_lines.proofs.source.Source.advance.Goals.{After-pass}
 
 -- the line of these pieces was read with its tokens
 record Moves (s new : LineState) (bytes : List ℕ) (stop : ℕ) (pieces : List Piece) : Type 0 where
@@ -29,15 +27,19 @@ record Moves (s new : LineState) (bytes : List ℕ) (stop : ℕ) (pieces : List 
   fault : new.fault ≡ s.fault
   tokens : AreTokensOf pieces s.line new.tokens
 
-moves : {s scanned read new : LineState} {bytes : List ℕ} {stop end_len line : ℕ} (h : HasNextLine s.place s.line bytes stop end_len) → scanned ≡ rescanned s scanned → read ≡ with_tokens scanned read → new ≡ passed read stop line
+moves : {s scanned read new : LineState} {bytes : List ℕ} {stop end_len line : ℕ} (h : HasNextLine s.place s.line bytes stop end_len)
+    → scanned ≡ rescanned s scanned → read ≡ with_tokens scanned read → new ≡ passed read stop line
     → HoldsTokens (take stop bytes) scanned.line read.tokens → IsLineAfter scanned.line (take stop bytes) line → Moves s new bytes stop h.is.pieces
 moves {s} {scanned} {read} {new} {bytes} {stop} h first second third tokens after =
-    let u = h.is.pieces in let text = h.is.text in record {
-      place = ap (λ (t : LineState). t.place) third ∙ ap (λ (t : LineState). t.place + stop) second ∙ ap (λ (t : LineState). t.place + stop) first;
-      line = ap (λ (t : LineState). t.line) third ∙ after u text ∙ ap (λ (t : LineState). t.line + line_ends (spelled u)) first;
+    let u = h.is.pieces in
+    let text = h.is.text in
+    let same = ap (λ (t : LineState). t.line) first in
+    let kept = ap (λ (t : LineState). t.tokens) third in record {
+      place = ap (λ (t : LineState). t.place) third ∙ ap (λ (t : LineState). t.place + stop) (second ∙ ap (λ t. with_tokens t read) first);
+      line = ap (λ (t : LineState). t.line) third ∙ after u text ∙ ap (λ n. n + line_ends (spelled u)) same;
       few = omega (arith, line_ends-bytes (spelled u), ap length text.spell, length-take-le stop bytes h.is.within);
-      fault = ap (λ (t : LineState). t.fault) third ∙ ap (λ (t : LineState). t.fault) second ∙ ap (λ (t : LineState). t.fault) first;
-      tokens = subst (λ t. AreTokensOf u s.line t) (sym (ap (λ (t : LineState). t.tokens) third)) (subst (λ (n : ℕ). AreTokensOf u n read.tokens) (ap (λ (t : LineState). t.line) first) (tokens u text));
+      fault = ap (λ (t : LineState). t.fault) third ∙ ap (λ (t : LineState). t.fault) (second ∙ ap (λ t. with_tokens t read) first);
+      tokens = subst (λ t. AreTokensOf u s.line t) (sym kept) (subst (λ (n : ℕ). AreTokensOf u n read.tokens) same (tokens u text));
     }
 
 -- the reader where a state stands in its text
@@ -45,26 +47,37 @@ abbrev reader_at : List ℕ → LineState → Reader
 reader_at text s = record { text = text; place = s.place; line = s.line; fault = s.fault }
 
 -- so it is given
-gives : (text : List ℕ) {s new : LineState} {bytes : List ℕ} {stop end_len : ℕ} (h : HasNextLine s.place s.line bytes stop end_len) → bytes ≡ drop s.place text → s.fault ≡ None → Moves s new bytes stop h.is.pieces
+gives : (text : List ℕ) {s new : LineState} {bytes : List ℕ} {stop end_len : ℕ} (h : HasNextLine s.place s.line bytes stop end_len)
+    → bytes ≡ drop s.place text → s.fault ≡ None → Moves s new bytes stop h.is.pieces
     → let line = line_between text s new end_len in PassesLine (reader_at text s) line (reader_at text new) × EachLiesIn line.text line.tokens
 gives text {s} {new} {bytes} {stop} {end_len} h from none m =
-    let place = m.place in let line = m.line in let fault = m.fault in let ends = h.is.ends in
-    let kind = m.tokens.kind in let tokens = m.tokens.tokens in let indent = m.tokens.indent in
-    let long : new.place - s.place ≡ stop = omega (arith, place) in
+    let long : new.place - s.place ≡ stop = omega (arith, m.place) in
     let spells = (λ i. take (long i) (sym from i)) ∙ sym h.is.text.spell in
     let is : line_between text s new end_len ≡ line_of s.place s.line h.is.pieces
-    = λ i. record { kind = kind i; text = spells i; tokens = tokens i; offset = s.place; line = s.line; indent = indent i; end_len = ends i } in
+    = λ i. record {
+      kind = m.tokens.kind i;
+      text = spells i;
+      tokens = m.tokens.tokens i;
+      offset = s.place;
+      line = s.line;
+      indent = m.tokens.indent i;
+      end_len = h.is.ends i;
+    } in
     let to = further (reader_at text s) stop (line_ends (spelled h.is.pieces)) in
-    let now : reader_at text new ≡ to = λ i. record { text = text; place = place i; line = line i; fault = fault i } in (
-      subst (λ r. PassesLine (reader_at text s) (line_between text s new end_len) r) (sym now) (subst (λ l. PassesLine (reader_at text s) l to) (sym is) (passes_next (reader_at text s) h from none)),
+    let now : reader_at text new ≡ to = λ i. record { text = text; place = m.place i; line = m.line i; fault = m.fault i } in (
+      subst (λ r. PassesLine (reader_at text s) (line_between text s new end_len) r) (sym now)
+          (subst (λ l. PassesLine (reader_at text s) l to) (sym is) (passes_next (reader_at text s) h from none)),
       subst (λ (l : LogicalLine). EachLiesIn l.text l.tokens) (sym is) (each_after [] s.line h.is.pieces h.is.text.scalars),
     )
 
 -- or the reader fails with what is wrong in it
-fails : (text : List ℕ) {s mid new : LineState} {bytes : List ℕ} {f : LineFault} {error : LexError} → HasNextFault s bytes f → bytes ≡ drop s.place text → 0 < length bytes → s.fault ≡ None → mid ≡ rescanned s mid
-    → (keeps : KeepsFault mid f.kind (length (take f.place bytes)) (take f.place bytes) error new) → Fails (reader_at text s) keeps.fault (reader_at text new)
+fails : (text : List ℕ) {s mid new : LineState} {bytes : List ℕ} {f : LineFault} {error : LexError} → HasNextFault s bytes f
+    → bytes ≡ drop s.place text → 0 < length bytes → s.fault ≡ None → mid ≡ rescanned s mid
+    → (keeps : KeepsFault mid f.kind (length (take f.place bytes)) (take f.place bytes) error new)
+    → Fails (reader_at text s) keeps.fault (reader_at text new)
 fails text {s} {mid} {new} {bytes} {f} h from some none first keeps =
-    let place : mid.place ≡ s.place = ap (λ (t : LineState). t.place) first in let line : mid.line ≡ s.line = ap (λ (t : LineState). t.line) first in
+    let place : mid.place ≡ s.place = ap (λ (t : LineState). t.place) first in
+    let line : mid.line ≡ s.line = ap (λ (t : LineState). t.line) first in
     let at : IsFaultAfter s f.kind f.place (take f.place bytes) keeps.fault = record {
       is = keeps.at.is;
       place = omega (arith, keeps.at.place, place, length-take-le f.place bytes h.within);
@@ -82,21 +95,38 @@ fails text {s} {mid} {new} {bytes} {f} h from some none first keeps =
 
 pub returns-then-is_empty : goal.returns-then-is_empty
 returns-then-is_empty c =
-    let s = c.args.self.now in let end : s.state.place ≡ length s.bytes.now = omega (arith, s.within, length-drop s.state.place s.bytes.now, ap length (from_place s.state.place s.bytes.now), eqb-true _ 0 (sym c.is_empty.ensures ∙ c.if-is_empty.true)) in
+    let s = c.args.self.now in
+    let none = eqb-true _ 0 (sym c.is_empty.ensures ∙ c.if-is_empty.true) in
+    let left = ap length (rest_is s.bytes.now s.state.place) in
+    let end : s.state.place ≡ length s.bytes.now = omega (arith, s.within, length-drop s.state.place s.bytes.now) in
     record { all = λ lines given. all_first _ _ _ lines given.first end; place = end; fault = c.in_default.is; same = refl }
+
+-- the line that was read
+moved : (c : After-pass) → let s = c.args.self.now in
+    Moves s.state c.pass.new.self (rest_of s.bytes.now s.state.place) c.scan_line.new.self.scan.stop c.in-Ok.ensures.scans.is.pieces
+moved c =
+    let read = c.in_ok-line-in-Ok.ensures in
+    moves {s = c.args.self.now.state} c.in-Ok.ensures.scans c.in-Ok.ensures.same read.same c.pass.ensures read.tokens read.after
 
 pub invariant_of-self-in-Ok : goal.invariant_of-self-in-Ok
 invariant_of-self-in-Ok c =
-    let s = c.args.self.now in let h = c.in-Ok.ensures.scans in
-    let m = moves {s = s.state} h c.in-Ok.ensures.same c.in_ok-line-in-Ok.ensures.same c.pass.ensures c.in_ok-line-in-Ok.ensures.tokens c.in_ok-line-in-Ok.ensures.after in
-    record { within = omega (arith, m.place, h.is.within, h.is.some, ap length (from_place s.state.place s.bytes.now), length-drop s.state.place s.bytes.now); few_lines = omega (arith, m.place, m.line, m.few, s.few_lines) }
+    let s = c.args.self.now in
+    let h = c.in-Ok.ensures.scans in
+    let m = moved (goal.at.invariant_of-self-in-Ok c).After-pass in
+    let left = ap length (rest_is s.bytes.now s.state.place) in record {
+      within = omega (arith, m.place, h.is.within, h.is.some, left, length-drop s.state.place s.bytes.now);
+      few_lines = omega (arith, m.place, m.line, m.few, s.few_lines);
+    }
 
 pub returns-in_ok-line-in-Ok : goal.returns-in_ok-line-in-Ok
 returns-in_ok-line-in-Ok c =
-    let s = c.args.self.now in let h = c.in-Ok.ensures.scans in
-    gives s.bytes.now h (from_place s.state.place s.bytes.now) c.in_default.is (moves {s = s.state} h c.in-Ok.ensures.same c.in_ok-line-in-Ok.ensures.same c.pass.ensures c.in_ok-line-in-Ok.ensures.tokens c.in_ok-line-in-Ok.ensures.after)
+    let s = c.args.self.now in
+    gives s.bytes.now c.in-Ok.ensures.scans (rest_is s.bytes.now s.state.place) c.in_default.is
+    (moved (goal.at.returns-in_ok-line-in-Ok c).After-pass)
 
 pub returns-in-Err : goal.returns-in-Err
 returns-in-Err c =
     let s = c.args.self.now in
-    rw (c.fail.ensures.error_is) (fails s.bytes.now {s = s.state} c.in-Err.ensures.scans (from_place s.state.place s.bytes.now) (omega (arith, eqb-false _ 0 (sym c.is_empty.ensures ∙ c.if-is_empty.false))) c.in_default.is c.in-Err.ensures.same c.fail.ensures)
+    let some = eqb-false _ 0 (sym c.is_empty.ensures ∙ c.if-is_empty.false) in
+    let failed = fails s.bytes.now {s = s.state} c.in-Err.ensures.scans (rest_is s.bytes.now s.state.place) (omega arith) c.in_default.is in
+    rw c.fail.ensures.error_is (failed c.in-Err.ensures.same c.fail.ensures)
