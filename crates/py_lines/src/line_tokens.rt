@@ -6,7 +6,7 @@ ghost use Rattle.py_lines.specs.Piece.{Piece, begins, string};
 ghost use Rattle.py_lines.specs.Private.Run.{IsRunOf, is_wide_word, word_spelling};
 ghost use Rattle.py_lines.specs.Private.Machine.{is_field_spelling};
 ghost use Rattle.py_lines.specs.Private.LineTokens.{AddsPiece, BeginWithPiece, HoldsTokens};
-ghost use Rattle.py_lines.specs.Private.LineTokens.{IsFirstPiece, IsLineAfter, IsLineText, line_end_piece, token_piece, is_prefix_word, line_end_len, mark_len};
+ghost use Rattle.py_lines.specs.Private.LineTokens.{IsFirstPiece, IsLineAfter, IsLineText, line_end_piece, string_piece, token_piece, is_prefix_word, line_end_len, mark_len};
 
 use crate::character::{is_quote, is_space};
 use crate::class::Class;
@@ -53,6 +53,18 @@ impl FirstPiece {
         }
     }
 
+    /// A string, which holds so many line ends.
+    #[inline(always)]
+    fn string(len: usize, line_ends: u64) -> FirstPiece
+        ensures { result ≡ string_piece len line_ends }
+    {
+        FirstPiece {
+            role: Role::Token(TokKind::Str),
+            len,
+            line_ends,
+        }
+    }
+
     /// A piece with one line end.
     #[inline(always)]
     fn line_end(role: Role, len: usize) -> FirstPiece
@@ -73,28 +85,24 @@ fn line_end_len(bytes: &[u8]) -> usize
     if bytes.starts_with(b"\r\n") { 2 } else { 1 }
 }
 
-/// The string that the bytes begin with, with fields or without, whose prefix has so many of them, or none. Most are short and simple, and
-/// are passed at once. This scan goes through the others.
-fn first_string(scan: &mut Scan, bytes: &[u8], prefix: usize, has_fields: bool) -> FirstPiece
+/// How many bytes the string has that the bytes begin with, with fields or without, whose prefix has so many of them, or none, and how many
+/// line ends it holds. Most are short and simple, and are passed at once. This scan goes through the others.
+fn string_len(scan: &mut Scan, bytes: &[u8], prefix: usize, has_fields: bool) -> (usize, u64)
     requires quote { begins is_quote (drop prefix bytes.now) ≡ true }
     requires prefix { is_prefix_word (take prefix bytes.now) ≡ true }
     requires fields { has_fields ≡ is_field_spelling (word_spelling (take prefix bytes.now)) }
     requires piece { (p : Piece) × BeginWithPiece bytes.now p }
     requires string { (p : Piece) → BeginWithPiece bytes.now p → p.class ≡ string }
-    ensures { IsFirstPiece bytes.now result }
+    ensures { IsFirstPiece bytes.now (string_piece result.0 result.1) }
 {
     if !has_fields {
         if let Some(len) = whole_plain_string(&bytes[prefix..]) {
-            return FirstPiece::token(TokKind::Str, prefix + len);
+            return (prefix + len, 0);
         }
     }
     scan.restart(Mode::Free);
     scan.take_first(bytes);
-    FirstPiece {
-        role: Role::Token(TokKind::Str),
-        len: scan.stop,
-        line_ends: line_ends(&bytes[..scan.stop]),
-    }
+    (scan.stop, line_ends(&bytes[..scan.stop]))
 }
 
 /// The word that the bytes begin with, or the string whose prefix it is. `ahead` are these bytes, and maybe more.
@@ -108,7 +116,8 @@ fn word_or_string(scan: &mut Scan, bytes: &[u8], ahead: &[u8]) -> FirstPiece
     if len < bytes.len() && is_quote(bytes[len] as char) {
         let spelling = Spelling::of_word(&bytes[..len]);
         if spelling.is_prefix() {
-            return first_string(scan, bytes, len, spelling.has_fields());
+            let (whole, line_ends) = string_len(scan, bytes, len, spelling.has_fields());
+            return FirstPiece::string(whole, line_ends);
         }
     }
     let kind = if bytes[0].is_ascii_digit() {
@@ -154,7 +163,10 @@ fn first_piece(scan: &mut Scan, bytes: &[u8], ahead: &[u8]) -> FirstPiece
     let first = bytes[0];
     match Class::of(first) {
         Class::Word | Class::Wide => word_or_string(scan, bytes, ahead),
-        Class::Quote => first_string(scan, bytes, 0, false),
+        Class::Quote => {
+            let (len, line_ends) = string_len(scan, bytes, 0, false);
+            FirstPiece::string(len, line_ends)
+        }
         Class::Operator | Class::Opening | Class::Closing => {
             FirstPiece::token(TokKind::Op(first), 1)
         }

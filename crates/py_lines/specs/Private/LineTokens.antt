@@ -52,9 +52,12 @@ role_of comment text = roles.Token kind.Remark
 role_of join text = roles.Join
 role_of other text = roles.LineEnd
 
--- a token on one line, and a piece with one line end
+-- a token on one line, a string, and a piece with one line end
 abbrev pub token_piece : TokKind → ℕ → FirstPiece
 token_piece kind len = record { role = roles.Token kind; len = len; line_ends = 0 }
+
+abbrev pub string_piece : ℕ → ℕ → FirstPiece
+string_piece len line_ends = record { role = roles.Token kind.Str; len = len; line_ends = line_ends }
 
 abbrev pub line_end_piece : Role → ℕ → FirstPiece
 line_end_piece role len = record { role = role; len = len; line_ends = 1 }

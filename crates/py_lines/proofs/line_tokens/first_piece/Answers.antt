@@ -5,8 +5,8 @@ use Rattle.py_lines.proofs.LineTokens.FirstPieces.{comment_taken, first_passes, 
 use Rattle.py_lines.proofs.LineTokens.FirstCharacters.{class_is, some_bytes}
 use Rattle.py_lines.proofs.line_tokens.first_piece.Goals as goal
 
-pub first_string-requires-clause-string : goal.first_string-requires-clause-string
-first_string-requires-clause-string c = λ p b. class_is b c.of.ensures c.in-Quote.is
+pub string_len-len-requires-clause-string : goal.string_len-len-requires-clause-string
+string_len-len-requires-clause-string c = λ p b. class_is b c.of.ensures c.in-Quote.is
 
 pub returns-in-Operator : goal.returns-in-Operator
 returns-in-Operator c = λ p b.

@@ -7,9 +7,9 @@ use Rattle.py_lines.proofs.line_tokens.word_or_string.Goals.{After-min-len, else
 run : (c : After-min-len) → IsRunOf is_wide_word c.args.bytes.now c.min-len.result
 run c = run_within is_wide_word c.args.bytes.now c.args.ahead.now c.len_in.result _ c.requires.ahead c.len_in.ensures c.min-len.ensures
 
-pub first_string-requires-clause-string : goal.first_string-requires-clause-string
-first_string-requires-clause-string c = λ p b.
-    is_string b c.min-len.result c.requires.word (run (goal.at.first_string-requires-clause-string c).After-min-len) (search (arith))
+pub string_len-whole-requires-clause-string : goal.string_len-whole-requires-clause-string
+string_len-whole-requires-clause-string c = λ p b.
+    is_string b c.min-len.result c.requires.word (run (goal.at.string_len-whole-requires-clause-string c).After-min-len) (search (arith))
 
 pub returns : goal.returns
 returns c = λ p b.

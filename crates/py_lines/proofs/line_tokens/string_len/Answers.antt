@@ -6,11 +6,10 @@ use Rattle.py_lines.proofs.LineTokens.FirstCharacters.{spelled_bytes}
 use Rattle.py_lines.proofs.LineTokens.FirstPieces.{cut_at, taken}
 use Rattle.py_lines.proofs.LineTokens.FirstString.{string_within}
 use Rattle.py_lines.proofs.LineTokens.Strings.{plain_taken}
-use Rattle.py_lines.proofs.line_tokens.first_string.Goals as goal
+use Rattle.py_lines.proofs.line_tokens.string_len.Goals as goal
 
 pub returns-in-Some : goal.returns-in-Some
 returns-in-Some c =
-    rw c.token.ensures
     (plain_taken c.args.bytes.now c.args.prefix c.in-Some.len c.requires.quote c.requires.prefix
     (sym c.requires.fields ∙ c.if-not-has_fields.true)
     (subst (HasWholePlainString (rest_of c.args.bytes.now c.args.prefix)) c.in-Some.is c.whole_plain_string.ensures))
