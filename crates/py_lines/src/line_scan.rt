@@ -112,8 +112,8 @@ impl Scan {
         }
     }
 
-    /// How many bytes the logical lines have that the bytes begin with, as far as they are whole and nothing is wrong in them. No line is
-    /// open before the bytes. The scan is lent for them.
+    /// Passes over logical lines that the bytes begin with, each of them whole and with nothing wrong in it, and answers how many bytes they
+    /// have. No line is open before the bytes. The scan is lent for them. That each such line is passed over is not promised.
     pub fn pass_lines(&mut self, bytes: &[u8]) -> usize
         ensures { BeginWithLines bytes.now result }
     {

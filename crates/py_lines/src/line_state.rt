@@ -88,8 +88,8 @@ impl LineState {
         }
     }
 
-    /// Reads the tokens of the next line, with which these bytes begin, up to where the scan stopped, and answers the line after it. The scan is
-    /// lent for its strings: where it stopped is as it was.
+    /// Reads the tokens of the next line, with which these bytes begin, up to where the scan stopped, and answers the line after it. The
+    /// scan is lent for its strings: where it stopped is as it was.
     pub fn read_tokens(&mut self, bytes: &[u8]) -> Result<u64, AllocError>
         requires within { self.old.scan.stop ≤ length bytes.now }
         requires text { IsLineText (take self.old.scan.stop bytes.now) }

@@ -6,7 +6,8 @@ ghost use Rattle.py_lines.specs.Piece.{Piece, begins, string};
 ghost use Rattle.py_lines.specs.Private.Run.{IsRunOf, is_wide_word, word_spelling};
 ghost use Rattle.py_lines.specs.Private.Machine.{is_field_spelling};
 ghost use Rattle.py_lines.specs.Private.LineTokens.{AddsPiece, BeginWithPiece, HoldsTokens};
-ghost use Rattle.py_lines.specs.Private.LineTokens.{IsFirstPiece, IsLineAfter, IsLineText, line_end_piece, string_piece, token_piece, is_prefix_word, line_end_len, mark_len};
+ghost use Rattle.py_lines.specs.Private.LineTokens.{IsFirstPiece, IsLineAfter, IsLineText, is_prefix_word, line_end_len, mark_len};
+ghost use Rattle.py_lines.specs.Private.LineTokens.{line_end_piece, string_piece, token_piece};
 
 use crate::character::{is_quote, is_space};
 use crate::class::Class;
@@ -226,9 +227,9 @@ impl LineTokens {
         Ok(())
     }
 
-    /// Reads the tokens of a whole logical line without fault, which begins on this line, and answers the line after it. The line are the first
-    /// `len` of these bytes. The scan goes through the strings that aren't simple. If there is no memory for the tokens, nothing is said of those
-    /// that it holds.
+    /// Reads the tokens of a whole logical line without fault, which begins on this line, and answers the line after it. Its text is
+    /// the first `len` of these bytes. The scan goes through the strings that aren't simple. If there is no memory for the tokens,
+    /// nothing is said of those that it holds.
     pub fn read(
         &mut self,
         scan: &mut Scan,

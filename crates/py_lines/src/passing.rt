@@ -72,8 +72,8 @@ impl Passing {
         self.marks = Marks::at(bytes, to);
     }
 
-    /// Passes LF of the 64 bytes of the marks, up to the last before any other byte that isn't plain, with the plain bytes before it: with
-    /// each of them a line ends, except in brackets.
+    /// Passes LF of the 64 bytes of the marks, up to the last before any other byte that isn't plain, with the plain bytes before it:
+    /// with each of them a line ends, except in brackets.
     #[inline(always)]
     fn pass_feeds(&mut self, frames: &Frames)
         requires fits { self.old.marks.base + 64 < 2 ^ 64 }
