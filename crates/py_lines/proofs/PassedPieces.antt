@@ -1,5 +1,6 @@
 -- Bytes of a line that are passed over at once: what the scan would come to over them, item after item.
 pub mod FirstBytes
+pub mod Counts
 pub mod WordsBefore
 pub mod PlainBytes
 pub mod Ends

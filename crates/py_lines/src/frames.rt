@@ -143,7 +143,6 @@ impl Frames {
 
     /// Opens a bracket or a field, if there is room for it.
     #[inline(always)]
-    #[tactic(auto, using(crate::proofs::FieldScans::FrameArrays::fields_few))]
     pub fn open(&mut self, frame: Frame) -> bool
         ensures { OpensFrame self.old frame result self.new }
     {

@@ -27,7 +27,6 @@ fn few_breaks(bytes: &[u8]) -> (u8, u8)
 }
 
 /// How many of these bytes are LF, and how many CR.
-#[tactic(auto, using(crate::proofs::Text::LineEnds::parted))]
 fn breaks(bytes: &[u8]) -> (u64, u64)
     ensures feeds { result.0 ≡ count_by is_line_feed bytes.now }
     ensures returns { result.1 ≡ count_by is_return bytes.now }
@@ -86,6 +85,15 @@ pub fn line_ends(bytes: &[u8]) -> u64
         return feeds;
     }
     feeds + lone_returns(bytes)
+}
+
+/// How many line ends of these bytes end before this one. Of CR LF it is LF that ends there.
+pub fn line_ends_up_to(bytes: &[u8], to: usize) -> u64
+    requires { to ≤ length bytes.now }
+    ensures { result + line_ends (drop to bytes.now) ≡ line_ends bytes.now }
+{
+    let cut = bytes[..to].ends_with(b"\r") & bytes[to..].starts_with(b"\n");
+    line_ends(&bytes[..to]) - cut as u64
 }
 
 /// How many bytes the line end has that the bytes begin with (Python Language Reference, 2.1.2). CR at their end is none: LF may follow.

@@ -1,7 +1,7 @@
 //! The scan of logical lines: where each of them ends.
 
 ghost use Rattle.std.specs.Prelude.{◌≡◌, ℕ, ◌+◌, ◌-◌, ◌<◌, ◌≤◌, ◌^◌, true, List, drop, length, take, encode_utf8_all};
-ghost use Rattle.py_lines.specs.LogicalLine.{byte_len};
+ghost use Rattle.py_lines.specs.LogicalLine.{byte_len, line_ends};
 ghost use Rattle.py_lines.specs.Piece.{Piece, string};
 ghost use Rattle.py_lines.specs.Private.LineTokens.{BeginWithPiece, BeginWithString};
 ghost use Rattle.py_lines.specs.Private.LineScan.{Reached, ReachedInSomeLine, ScansIn, WhereverReached};
@@ -11,6 +11,7 @@ ghost use Rattle.py_lines.specs.Private.WholeLines.{BeginWithLines};
 ghost use Rattle.py_lines.specs.declared.mode.Mode.TheVariants.{Free};
 
 use crate::class::Class;
+use crate::line_ends::line_ends_up_to;
 use crate::mode::Mode;
 use crate::passing::{Passing, Special};
 use crate::run::is_ascii_word;
@@ -113,9 +114,11 @@ impl Scan {
     }
 
     /// Passes over logical lines that the bytes begin with, each of them whole and with nothing wrong in it, and answers how many bytes they
-    /// have. No line is open before the bytes. The scan is lent for them. That each such line is passed over is not promised.
-    pub fn pass_lines(&mut self, bytes: &[u8]) -> usize
-        ensures { BeginWithLines bytes.now result }
+    /// have, and how many line ends these hold. No line is open before the bytes. The scan is lent for them. That each such line is passed
+    /// over is not promised.
+    pub fn pass_lines(&mut self, bytes: &[u8]) -> (usize, u64)
+        ensures lines { BeginWithLines bytes.now result.0 }
+        ensures ends { result.1 ≡ line_ends (take result.0 bytes.now) }
     {
         let mut passing = Passing::new(bytes);
         self.restart(Mode::Free);
@@ -141,7 +144,9 @@ impl Scan {
             }
             at = passing.next(&self.frames, bytes);
         }
-        passing.lines
+        // Those of the last line, which is not whole, were counted too.
+        let last = line_ends_up_to(&bytes[passing.lines..], passing.all - passing.lines);
+        (passing.lines, passing.ends - last)
     }
 
     /// Takes the string that the bytes begin with, at the start of a line.

@@ -5,9 +5,8 @@ ghost use Rattle.py_lines.specs.Character.{is_quote, is_space};
 ghost use Rattle.py_lines.specs.Piece.{Piece, begins, string};
 ghost use Rattle.py_lines.specs.Private.Run.{IsRunOf, is_wide_word, word_spelling};
 ghost use Rattle.py_lines.specs.Private.Machine.{is_field_spelling};
-ghost use Rattle.py_lines.specs.Private.LineTokens.{AddsPiece, BeginWithPiece, HoldsTokens};
-ghost use Rattle.py_lines.specs.Private.LineTokens.{IsFirstPiece, IsLineAfter, IsLineText, is_prefix_word, line_end_len, mark_len};
-ghost use Rattle.py_lines.specs.Private.LineTokens.{line_end_piece, string_piece, token_piece};
+ghost use Rattle.py_lines.specs.Private.LineTokens.{AddsPiece, BeginWithPiece, HoldsTokens, IsFirstPiece, IsLineAfter, IsLineText};
+ghost use Rattle.py_lines.specs.Private.LineTokens.{ReadsPiece, is_prefix_word, line_end_len, mark_len, string_piece, token_of, token_piece};
 
 use crate::character::{is_quote, is_space};
 use crate::class::Class;
@@ -19,65 +18,6 @@ use crate::token::{TokKind, Token};
 use crate::unit::UnitKind;
 use crate::whole_strings::whole_plain_string;
 use std::alloc::{AllocError, Global};
-
-/// What a piece is to its line.
-#[derive(Clone, Copy)]
-enum Role {
-    /// A token.
-    Token(TokKind),
-    /// A join of two lines (Python Language Reference, 2.1.5).
-    Join,
-    LineEnd,
-}
-
-/// A piece that is no space.
-#[derive(Clone, Copy)]
-struct FirstPiece {
-    /// What it is to its line.
-    role: Role,
-    /// How many bytes it has.
-    len: usize,
-    /// How many line ends it holds.
-    line_ends: u64,
-}
-
-impl FirstPiece {
-    /// A token on one line.
-    #[inline(always)]
-    fn token(kind: TokKind, len: usize) -> FirstPiece
-        ensures { result ≡ token_piece kind len }
-    {
-        FirstPiece {
-            role: Role::Token(kind),
-            len,
-            line_ends: 0,
-        }
-    }
-
-    /// A string, which holds so many line ends.
-    #[inline(always)]
-    fn string(len: usize, line_ends: u64) -> FirstPiece
-        ensures { result ≡ string_piece len line_ends }
-    {
-        FirstPiece {
-            role: Role::Token(TokKind::Str),
-            len,
-            line_ends,
-        }
-    }
-
-    /// A piece with one line end.
-    #[inline(always)]
-    fn line_end(role: Role, len: usize) -> FirstPiece
-        ensures { result ≡ line_end_piece role len }
-    {
-        FirstPiece {
-            role,
-            len,
-            line_ends: 1,
-        }
-    }
-}
 
 /// How many bytes the line end has that the bytes begin with: LF, CR LF or CR.
 fn line_end_len(bytes: &[u8]) -> usize
@@ -106,19 +46,21 @@ fn string_len(scan: &mut Scan, bytes: &[u8], prefix: usize, has_fields: bool) ->
     (scan.stop, line_ends(&bytes[..scan.stop]))
 }
 
-/// The word that the bytes begin with, or the string whose prefix it is. `ahead` are these bytes, and maybe more.
-fn word_or_string(scan: &mut Scan, bytes: &[u8], ahead: &[u8]) -> FirstPiece
+/// The word that the bytes begin with, or the string whose prefix it is: what token that is, how many bytes it has, and how many line ends
+/// it holds. `ahead` are these bytes, and maybe more.
+#[inline(always)]
+fn word_or_string(scan: &mut Scan, bytes: &[u8], ahead: &[u8]) -> (TokKind, usize, u64)
     requires piece { (p : Piece) × BeginWithPiece bytes.now p }
     requires word { begins is_wide_word bytes.now ≡ true }
     requires ahead { take (length bytes.now) ahead.now ≡ bytes.now }
-    ensures { IsFirstPiece bytes.now result }
+    ensures { IsFirstPiece bytes.now (token_piece result.0 result.1 result.2) }
 {
     let len = ByteRun::WideWord.len_in(ahead).min(bytes.len());
     if len < bytes.len() && is_quote(bytes[len] as char) {
         let spelling = Spelling::of_word(&bytes[..len]);
         if spelling.is_prefix() {
             let (whole, line_ends) = string_len(scan, bytes, len, spelling.has_fields());
-            return FirstPiece::string(whole, line_ends);
+            return (TokKind::Str, whole, line_ends);
         }
     }
     let kind = if bytes[0].is_ascii_digit() {
@@ -126,7 +68,7 @@ fn word_or_string(scan: &mut Scan, bytes: &[u8], ahead: &[u8]) -> FirstPiece
     } else {
         TokKind::Name
     };
-    FirstPiece::token(kind, len)
+    (kind, len, 0)
 }
 
 /// How many bytes the mark has that the bytes begin with, if they begin with one.
@@ -140,43 +82,14 @@ fn mark_len(bytes: &[u8]) -> usize
     }
 }
 
-/// How many bytes of space the bytes begin with: mostly none or one.
+/// How many bytes of space the bytes begin with.
 #[inline(always)]
 fn space_len(bytes: &[u8]) -> usize
     ensures { IsRunOf is_space bytes.now result }
 {
     match bytes {
-        [b, ..] if !is_space(*b as char) => 0,
-        [_, b, ..] if !is_space(*b as char) => 1,
-        _ => ByteRun::Space.len_in(bytes),
-    }
-}
-
-/// The piece that the bytes begin with, which is no mark and no space. `ahead` are these bytes, and maybe more.
-#[tactic(auto, using(crate::proofs::LineTokens::FirstCharacters::some_bytes))]
-#[inline(always)]
-fn first_piece(scan: &mut Scan, bytes: &[u8], ahead: &[u8]) -> FirstPiece
-    requires piece { (p : Piece) × BeginWithPiece bytes.now p }
-    requires no_space { begins is_space bytes.now ≡ false }
-    requires ahead { take (length bytes.now) ahead.now ≡ bytes.now }
-    ensures { IsFirstPiece bytes.now result }
-{
-    let first = bytes[0];
-    match Class::of(first) {
-        Class::Word | Class::Wide => word_or_string(scan, bytes, ahead),
-        Class::Quote => {
-            let (len, line_ends) = string_len(scan, bytes, 0, false);
-            FirstPiece::string(len, line_ends)
-        }
-        Class::Operator | Class::Opening | Class::Closing => {
-            FirstPiece::token(TokKind::Op(first), 1)
-        }
-        Class::Hash => FirstPiece::token(TokKind::Remark, 1 + comment_run(&bytes[1..])),
-        Class::Backslash => FirstPiece::line_end(Role::Join, 1 + line_end_len(&bytes[1..])),
-        Class::LineFeed | Class::Return => {
-            FirstPiece::line_end(Role::LineEnd, line_end_len(bytes))
-        }
-        Class::Space | Class::Other => unreachable!(),
+        [b, ..] if is_space(*b as char) => ByteRun::Space.len_in(bytes),
+        _ => 0,
     }
 }
 
@@ -203,28 +116,73 @@ impl LineTokens {
         }
     }
 
-    /// Adds a piece that stands between these bytes of the line, and on this line of the text.
-    fn add(&mut self, role: Role, start: usize, stop: usize, line: u64) -> Result<(), AllocError>
-        ensures { OnOk result (AddsPiece self.old role start stop line self.new) }
+    /// Adds a token of so many bytes that stands at this byte of the line, and on this line of the text.
+    #[inline(always)]
+    fn add(&mut self, kind: TokKind, start: usize, len: usize, line: u64) -> Result<(), AllocError>
+        requires { start + len < 2 ^ 64 }
+        ensures { OnOk result (AddsPiece self.old (token_of kind) start (start + len) line self.new) }
     {
-        match role {
-            Role::Token(kind) => {
-                if !kind.is_comment() {
-                    self.kind = UnitKind::Code;
-                } else if matches!(self.kind, UnitKind::Blank) {
-                    self.kind = UnitKind::Comment;
-                }
-                self.tokens.push(Token {
-                    kind,
-                    start,
-                    stop,
-                    line,
-                })?;
-            }
-            Role::Join => self.kind = UnitKind::Code,
-            Role::LineEnd => {}
+        if !kind.is_comment() {
+            self.kind = UnitKind::Code;
+        } else if matches!(self.kind, UnitKind::Blank) {
+            self.kind = UnitKind::Comment;
         }
+        self.tokens.push(Token {
+            kind,
+            start,
+            stop: start + len,
+            line,
+        })?;
         Ok(())
+    }
+
+    /// Reads the piece with which the bytes begin, which is no mark, and stands at this byte of the line and on this line of the text: how
+    /// many bytes it has, and how many line ends it holds. `ahead` are these bytes, and maybe more.
+    #[tactic(auto, using(crate::proofs::LineTokens::FirstCharacters::some_bytes))]
+    #[inline(always)]
+    fn read_piece(
+        &mut self,
+        scan: &mut Scan,
+        bytes: &[u8],
+        ahead: &[u8],
+        start: usize,
+        line: u64,
+    ) -> Result<(usize, u64), AllocError>
+        requires piece { (p : Piece) × BeginWithPiece bytes.now p }
+        requires ahead { take (length bytes.now) ahead.now ≡ bytes.now }
+        requires fits { start + length bytes.now < 2 ^ 64 }
+        ensures { IfOk result (λ r. ReadsPiece bytes.now self.old start line r.0 r.1 self.new) }
+    {
+        let first = bytes[0];
+        match Class::of(first) {
+            Class::Word | Class::Wide => {
+                let (kind, len, line_ends) = word_or_string(scan, bytes, ahead);
+                self.add(kind, start, len, line)?;
+                Ok((len, line_ends))
+            }
+            Class::Operator | Class::Opening | Class::Closing => {
+                self.add(TokKind::Op(first), start, 1, line)?;
+                Ok((1, 0))
+            }
+            Class::Quote => {
+                let (len, line_ends) = string_len(scan, bytes, 0, false);
+                self.add(TokKind::Str, start, len, line)?;
+                Ok((len, line_ends))
+            }
+            Class::Hash => {
+                let len = 1 + comment_run(&bytes[1..]);
+                self.add(TokKind::Remark, start, len, line)?;
+                Ok((len, 0))
+            }
+            // A join of two lines (Python Language Reference, 2.1.5).
+            Class::Backslash => {
+                self.kind = UnitKind::Code;
+                Ok((1 + line_end_len(&bytes[1..]), 1))
+            }
+            Class::LineFeed | Class::Return => Ok((line_end_len(bytes), 1)),
+            Class::Space => Ok((space_len(bytes), 0)),
+            Class::Other => unreachable!(),
+        }
     }
 
     /// Reads the tokens of a whole logical line without fault, which begins on this line, and answers the line after it. Its text is
@@ -251,11 +209,17 @@ impl LineTokens {
         let mut start = mark + self.indent;
         let mut line_here = line;
         'pieces: while start < len {
-            let piece = first_piece(scan, &text[start..], &bytes[start..]);
-            let stop = start + piece.len;
-            self.add(piece.role, start, stop, line_here)?;
-            line_here += piece.line_ends;
-            start = stop + space_len(&text[stop..]);
+            let (piece, line_ends) = self.read_piece(
+                scan,
+                &text[start..],
+                &bytes[start..],
+                start,
+                line_here,
+            )?;
+            line_here += line_ends;
+            start += piece;
+            // Mostly no space follows, or one.
+            start += text[start..].starts_with(b" ") as usize;
         }
         Ok(line_here)
     }

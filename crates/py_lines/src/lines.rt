@@ -5,7 +5,6 @@ ghost use Rattle.py_lines.specs.Reader.{Reader, GoesOnAt, HasGiven, at_start};
 ghost use Rattle.py_lines.specs.Reader.View.{reader_of};
 
 use crate::fault::LexError;
-use crate::line_ends::line_ends;
 use crate::line_state::LineState;
 use crate::source::Source;
 use crate::unit::Unit;
@@ -98,6 +97,7 @@ impl<'t> Lines<'t> {
     ///
     /// A line is passed over only where it ends at byte `before` of the text or before it, and nothing is wrong in it. That each such line is
     /// passed over is not promised.
+    #[tactic(auto, using(crate::proofs::LineScan::LineCount::few_first))]
     pub fn pass_lines(&mut self, before: usize) -> usize
         ensures passes { PassesUpTo self.old before result self.new }
     {
@@ -106,8 +106,8 @@ impl<'t> Lines<'t> {
         if place >= before || before > source.bytes.len() || source.state.fault.is_some() {
             return 0;
         }
-        let len = source.state.scan.pass_lines(&source.bytes[place..before]);
-        let line = source.state.line + line_ends(&source.bytes[place..place + len]);
+        let (len, ends) = source.state.scan.pass_lines(&source.bytes[place..before]);
+        let line = source.state.line + ends;
         source.state.pass(len, line);
         len
     }

@@ -65,6 +65,16 @@ impl Marks {
         }
     }
 
+    /// The same, where bytes are passed that were looked at in another way: apart, so that what passes them stays small.
+    #[inline(never)]
+    pub fn anew(text: &[u8], from: usize) -> Marks
+        requires { from ≤ length text.now }
+        ensures base { result.base ≡ from }
+        ensures marks { HasMarks text.now from result }
+    {
+        Marks::at(text, from)
+    }
+
     /// Goes on to the next 64 bytes, if none of these is left that is not plain, and the text has more: whether it does.
     #[inline(always)]
     pub fn advance(&mut self, text: &[u8]) -> bool
@@ -96,9 +106,10 @@ impl Marks {
         place
     }
 
-    /// Passes LF of the 64 bytes, up to the last before any other byte that is not plain: the byte after it, if some are passed.
+    /// Passes LF of the 64 bytes, up to the last before any other byte that is not plain: the byte after it, and how many they are, if some
+    /// are passed.
     #[inline(always)]
-    pub fn pass_feeds(&mut self) -> Option<usize>
+    pub fn pass_feeds(&mut self) -> Option<(usize, u32)>
         requires { self.old.base + 64 < 2 ^ 64 }
         ensures { (text : List ℕ) (from : ℕ)
             → HasMarks text from self.old → PassesFeeds text from self.old result self.new }
@@ -110,7 +121,8 @@ impl Marks {
             return None;
         }
         self.bits ^= passed;
-        Some(self.base + (64 - passed.leading_zeros() as usize))
+        let end = self.base + (64 - passed.leading_zeros() as usize);
+        Some((end, passed.count_ones()))
     }
 
     /// The byte at this place, which was passed last, is not passed.
@@ -135,7 +147,7 @@ impl Marks {
         if to - self.base < 64 {
             self.bits &= !0 << (to - self.base);
         } else {
-            *self = Marks::at(text, to);
+            *self = Marks::anew(text, to);
         }
     }
 }

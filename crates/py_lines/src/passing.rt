@@ -1,16 +1,17 @@
 //! Bytes of a line that are passed over at once, from one that isn't plain to the next.
 
-ghost use Rattle.std.specs.Prelude.{◌≡◌, ℕ, ◌+◌, ◌<◌, ◌≤◌, ◌^◌, ◌==◌, true, false, IsTrue, List, length, slice_index};
+ghost use Rattle.std.specs.Prelude.{◌≡◌, ℕ, ◌+◌, ◌<◌, ◌≤◌, ◌^◌, ◌==◌, true, false, IsTrue, List, Some, length, slice_index};
 ghost use Rattle.py_lines.specs.Character.{is_hash, is_quote};
 ghost use Rattle.py_lines.specs.Private.Marks.{FindsNext, HasMarks};
-ghost use Rattle.py_lines.specs.Private.Passing.{PassesBlock, PassesPiece, PassesSo, PassesSpecial};
-ghost use Rattle.py_lines.specs.Private.Passing.{FindsSpecial, line_end_special, nothing_passed, passed_line_end, passed_to};
+ghost use Rattle.py_lines.specs.Private.Passing.{IsCounted, PassesBlock, PassesPiece, PassesSo, PassesSpecial};
+ghost use Rattle.py_lines.specs.Private.Passing.{FindsSpecial, MeetsString, TellsFields, tail_of, word_before};
+ghost use Rattle.py_lines.specs.Private.Passing.{line_end_special, nothing_passed, passed_line_end, passed_to};
 ghost use Rattle.py_lines.specs.Private.Run.{is_line_byte};
 
 use crate::character::is_break;
 use crate::class::Class;
 use crate::frames::{Frame, Frames};
-use crate::line_ends::outer_end_len;
+use crate::line_ends::{line_ends_up_to, outer_end_len};
 use crate::line_scan::word_start;
 use crate::marks::Marks;
 use crate::mode::Spelling;
@@ -36,11 +37,32 @@ fn is_line_byte(b: u8) -> bool
     b < 128 && !is_break(b as char)
 }
 
+/// Whether the string has fields that a quote begins after these plain bytes, where they end with its prefix or with no word. `None`
+/// promises nothing: it is the answer after another word.
+#[inline(always)]
+fn fields_after(plain: &[u8]) -> Option<bool>
+    ensures { TellsFields (tail_of plain.now) result }
+{
+    let start = word_start(plain);
+    // Mostly no word stands before it.
+    if start == plain.len() {
+        return Some(false);
+    }
+    let word = Spelling::of_word(&plain[start..]);
+    if word.is_prefix() {
+        Some(word.has_fields())
+    } else {
+        None
+    }
+}
+
 /// How far bytes were passed.
 #[derive(Drop)]
 pub struct Passing {
     /// How many were passed.
     pub all: usize,
+    /// How many line ends they hold.
+    pub ends: u64,
     /// How many of them are whole lines.
     pub lines: usize,
     /// The bytes after them that are not plain.
@@ -56,6 +78,7 @@ impl Passing {
     {
         Passing {
             all: 0,
+            ends: 0,
             lines: 0,
             marks: Marks::at(bytes, 0),
         }
@@ -64,12 +87,16 @@ impl Passing {
     /// Passes the bytes up to this one.
     #[inline(always)]
     pub fn pass_to(&mut self, bytes: &[u8], to: usize)
+        requires counted { IsCounted bytes.now self.old }
+        requires further { self.old.all ≤ to }
         requires within { to ≤ length bytes.now }
-        ensures passed { self.new ≡ passed_to self.old to self.new.marks }
+        ensures passed { self.new ≡ passed_to self.old to self.new.ends self.new.marks }
+        ensures counted { IsCounted bytes.now self.new }
         ensures marked { HasMarks bytes.now to self.new.marks }
     {
+        self.ends += line_ends_up_to(&bytes[self.all..], to - self.all);
         self.all = to;
-        self.marks = Marks::at(bytes, to);
+        self.marks = Marks::anew(bytes, to);
     }
 
     /// Passes LF of the 64 bytes of the marks, up to the last before any other byte that isn't plain, with the plain bytes before it:
@@ -77,10 +104,12 @@ impl Passing {
     #[inline(always)]
     fn pass_feeds(&mut self, frames: &Frames)
         requires fits { self.old.marks.base + 64 < 2 ^ 64 }
+        requires few { self.old.ends + 2 ^ 32 < 2 ^ 64 }
         ensures { (bytes : List ℕ) (from : ℕ) → HasMarks bytes from self.old.marks
             → PassesBlock bytes from frames.now self.old self.new }
     {
-        if let Some(end) = self.marks.pass_feeds() {
+        if let Some((end, feeds)) = self.marks.pass_feeds() {
+            self.ends += feeds as u64;
             self.all = end;
             if frames.is_empty() {
                 self.lines = end;
@@ -90,8 +119,10 @@ impl Passing {
 
     /// The next byte that isn't plain, or the bytes' end. It is passed by the marks. LF before it are passed first: with each of them a line
     /// ends, except in brackets.
+    #[tactic(auto, using(crate::proofs::PassedPieces::Counts::few_ends, crate::proofs::PassedPieces::LineFeeds::counted_so))]
     #[inline(always)]
     pub fn next(&mut self, frames: &Frames, bytes: &[u8]) -> usize
+        requires counted { IsCounted bytes.now self.old }
         requires marked { HasMarks bytes.now self.old.all self.old.marks }
         ensures { FindsSpecial bytes.now frames.now self.old result self.new }
     {
@@ -106,9 +137,11 @@ impl Passing {
     #[inline(always)]
     fn pass_line_end(&mut self, frames: &Frames, at: usize, len: usize) -> Special
         requires fits { at + len < 2 ^ 64 }
+        requires few { self.old.ends + 1 < 2 ^ 64 }
         ensures special { result ≡ line_end_special frames.now len }
         ensures passed { self.new ≡ passed_line_end frames.now self.old (at + len) }
     {
+        self.ends += 1;
         self.all = at + len;
         if !frames.is_empty() {
             return Special::Passed;
@@ -117,47 +150,15 @@ impl Passing {
         Special::LineEnd(len)
     }
 
-    /// Passes the string that the quote at this byte begins, if it is empty, or short and ASCII on one line, or one with fields that is short
-    /// and simple, where few brackets are open: whether it is so. Most strings are.
+    /// Passes the string without fields that the quote at this byte begins, if it is short and ASCII on one line: whether it is so.
     #[inline(always)]
-    fn pass_string(&mut self, frames: &Frames, bytes: &[u8], at: usize) -> bool
-        requires next { FindsNext bytes.now self.old.all at self.old.marks }
-        requires within { at < length bytes.now }
-        requires quote { is_quote (slice_index bytes.now at) ≡ true }
-        ensures passed { IsTrue result
-            → (place : ℕ) → PassesSo bytes.now at place self.old frames.now self.new frames.now }
+    fn pass_text(&mut self, bytes: &[u8], at: usize) -> bool
+        requires quote { MeetsString bytes.now at self.old }
+        requires plain { TellsFields (word_before bytes.now at self.old) (Some false) }
+        ensures passed { IsTrue result → PassesPiece bytes.now at self.old self.new }
         ensures same { result ≡ false → self.new ≡ self.old }
     {
-        match quotes_len(&bytes[at..]) {
-            Some(1) => {}
-            // An empty string.
-            Some(2) => {
-                self.all = at + 2;
-                self.marks.pass(bytes, at + 2);
-                return true;
-            }
-            _ => return false,
-        }
         let quote = bytes[at];
-        let before = &bytes[self.all..at];
-        let start = word_start(before);
-        // Mostly no word stands before it.
-        if start < before.len() {
-            let spelling = Spelling::of_word(&before[start..]);
-            if spelling.has_fields() {
-                let text = &bytes[at + 1..];
-                let len = text_len(quote, text);
-                if frames.len() > 10 || len == text.len() || text[len] != quote {
-                    return false;
-                }
-                self.all = at + len + 2;
-                self.marks.pass(bytes, self.all);
-                return true;
-            }
-            if !spelling.is_prefix() {
-                return false;
-            }
-        }
         let mut marks = self.marks;
         let mut end = marks.next(bytes);
         'specials: loop {
@@ -172,6 +173,54 @@ impl Passing {
         self.all = end + 1;
         self.marks = marks;
         true
+    }
+
+    /// Passes the string with fields that the quote at this byte begins, if it is short and simple, where few brackets are open: whether it
+    /// is so.
+    #[inline(always)]
+    fn pass_fields(&mut self, frames: &Frames, bytes: &[u8], at: usize) -> bool
+        requires quote { MeetsString bytes.now at self.old }
+        requires fields { TellsFields (word_before bytes.now at self.old) (Some true) }
+        ensures passed { IsTrue result
+            → (place : ℕ) → PassesSo bytes.now at place self.old frames.now self.new frames.now }
+        ensures same { result ≡ false → self.new ≡ self.old }
+    {
+        let quote = bytes[at];
+        let text = &bytes[at + 1..];
+        let len = text_len(quote, text);
+        if frames.len() > 10 || len == text.len() || text[len] != quote {
+            return false;
+        }
+        self.all = at + len + 2;
+        self.marks.pass(bytes, self.all);
+        true
+    }
+
+    /// Passes the string that the quote at this byte begins, if it is empty, or short and ASCII on one line, or one with fields that is short
+    /// and simple, where few brackets are open: whether it is so. Most strings are.
+    #[inline(always)]
+    fn pass_string(&mut self, frames: &Frames, bytes: &[u8], at: usize) -> bool
+        requires next { FindsNext bytes.now self.old.all at self.old.marks }
+        requires within { at < length bytes.now }
+        requires quote { is_quote (slice_index bytes.now at) ≡ true }
+        ensures passed { IsTrue result
+            → (place : ℕ) → PassesSo bytes.now at place self.old frames.now self.new frames.now }
+        ensures same { result ≡ false → self.new ≡ self.old }
+    {
+        match quotes_len(&bytes[at..]) {
+            Some(1) => match fields_after(&bytes[self.all..at]) {
+                Some(true) => self.pass_fields(frames, bytes, at),
+                Some(false) => self.pass_text(bytes, at),
+                None => false,
+            },
+            // An empty string.
+            Some(2) => {
+                self.all = at + 2;
+                self.marks.pass(bytes, at + 2);
+                true
+            }
+            _ => false,
+        }
     }
 
     /// Passes the comment that the `#` at this byte begins, if it is ASCII and a line end follows it: whether it is so.
@@ -199,10 +248,12 @@ impl Passing {
 
     /// Passes the byte at this place, which is not plain, or the piece that it begins, with the plain bytes before it. In its line it
     /// stands at the byte `place`.
+    #[tactic(auto, using(crate::proofs::PassedPieces::Counts::few_ends))]
     #[inline(always)]
     pub fn pass(&mut self, frames: &mut Frames, bytes: &[u8], at: usize, place: usize) -> Special
         requires next { FindsNext bytes.now self.old.all at self.old.marks }
         requires within { at < length bytes.now }
+        requires counted { IsCounted bytes.now self.old }
         ensures { PassesSpecial bytes.now at place self.old frames.old result self.new frames.new }
     {
         let passed = match Class::of(bytes[at]) {
@@ -220,6 +271,7 @@ impl Passing {
                 let Some(len) = outer_end_len(&bytes[at + 1..]) else {
                     return Special::Unpassed;
                 };
+                self.ends += 1;
                 self.all = at + 1 + len;
                 self.marks.pass(bytes, self.all);
                 true

@@ -150,7 +150,7 @@ fn long_run(quote: u8, bytes: &[u8]) -> usize
 }
 
 /// How many bytes of whole characters a text begins with that leave the open piece as it is, where that is no string with fields.
-#[tactic(auto, using(crate::proofs::LineScan::AsciiRuns::quote_fits, crate::proofs::LineScan::Spans::text_spans))]
+#[tactic(auto, using(crate::proofs::LineScan::Spans::text_spans))]
 #[inline(always)]
 pub fn characters_in(mode: Mode, bytes: &[u8]) -> usize
     requires quote { HasQuote mode }

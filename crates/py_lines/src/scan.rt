@@ -4,6 +4,7 @@
 ghost use Rattle.std.specs.Prelude.{◌≡◌, ◌==◌, ◌+◌, ◌<◌, ◌≤◌, ◌^◌, None, Some, false, true, length, nat_lt, slice_index};
 ghost use Rattle.py_lines.specs.Character.{is_backslash, is_operator, is_quote};
 ghost use Rattle.py_lines.specs.Piece.{begins};
+ghost use Rattle.py_lines.specs.Private.Scan.{lone_of};
 
 use crate::character::{is_closing, is_opening, is_quote};
 use crate::class::Class;
@@ -62,6 +63,14 @@ pub struct Scan {
     pub frames: Frames,
     /// Where the scan stops.
     pub stop: usize,
+}
+
+/// The byte, where it is the only one.
+#[tactic(auto, using(crate::proofs::FieldScans::Ends::lone_is))]
+fn lone_byte(bytes: &[u8]) -> u8
+    ensures { result ≡ lone_of bytes.now }
+{
+    if bytes.len() == 1 { bytes[0] } else { 0 }
 }
 
 impl Scan {
@@ -354,7 +363,7 @@ impl Scan {
         requires pending { IsPending self.now.mode bytes.now }
         ensures { EndsOpen self.now bytes.now result }
     {
-        let lone = if bytes.len() == 1 { bytes[0] } else { 0 };
+        let lone = lone_byte(bytes);
         let (kind, place) = match self.mode {
             Mode::Fields(_, Region::Specification, _) => {
                 (FaultKind::OpenField, self.frames.last_place())

@@ -170,7 +170,7 @@ impl Scanner {
             return 0;
         }
         let clear = &bytes[..before.min(bytes.len())];
-        let len = self.feed.state.scan.pass_lines(clear);
+        let (len, ends) = self.feed.state.scan.pass_lines(clear);
         // The byte after CR shows that the last line is whole.
         let end = len + clear[..len].ends_with(b"\r") as usize;
         if self.feed.held.extend_from_slice(&clear[len..end]).is_err() {
@@ -178,7 +178,7 @@ impl Scanner {
             return 0;
         }
         self.feed.held.drain(..held.min(len));
-        let line = self.feed.state.line + line_ends(&clear[..len]);
+        let line = self.feed.state.line + ends;
         self.feed.state.pass(len, line);
         self.feed.state.restart();
         len

@@ -6,7 +6,7 @@ use Rattle.py_lines.specs.Lexed.{IsLexed}
 use Rattle.py_lines.specs.ScannerState.{IsScanning, fed_of, EndsScan, Finishes, ScannerState}
 use Rattle.py_lines.specs.Piece.{spelled}
 use Rattle.py_lines.specs.Private.LineState.{HasNextLine}
-use Rattle.py_lines.specs.Private.Feed.{EndsText, HoldsLine, IsHeldOpen, Holds, HasEndedText, HasReadTokens, HoldsSo, IsSoundFeed, ReadsTokens, StandsSo, with_line, LexError, Scan, Feed, scanning_of, ready_of}
+use Rattle.py_lines.specs.Private.Feed.{EndsText, Fault, HasRoom, HoldsLine, IsHeldOpen, Holds, HasEndedText, HasReadTokens, HoldsSo, IsSoundFeed, ReadsTokens, StandsSo, with_line, LexError, Scan, Feed, scanning_of, ready_of}
 use Rattle.py_lines.proofs.Feeds.Known.{first_at}
 use Rattle.py_lines.proofs.Feeds.OpenLine.{dropped, runs_out}
 use Rattle.py_lines.specs.Given.{AreFirstLines}
@@ -99,6 +99,30 @@ finish_now old f no_fault e = record {
   ended = refl;
   no_fault = e.text.fault ∙ no_fault;
 }
+
+-- where the same bytes are held from the same place on, there is as much room
+pub same_room : {old new : Feed} {known : Option Fault} → IsSoundFeed old → Holds old old.held.items known new → HasRoom new 0
+same_room sound text = record { fits = omega (arith, sound.room.fits, text.place, ap length text.held); few_lines = omega (arith, sound.room.few_lines, text.place, text.line) }
+
+-- what an error of the call that ends the text comes to
+pub finish_errs : {old new : Feed} → IsSoundFeed old → old.state.fault ≡ None → old.ready ≡ None → (error : LexError) → EndsText old (Err error) new
+    → Finishes (scanning_of old) (Err error) (scanning_of new) × IsSoundFeed new
+finish_errs {old} {new} sound no_fault not_ready (LexError.Fault fault) ends =
+    let text = ends.text in (
+      record {
+        all = ends.lexed;
+        again = λ first is. absurd (let h = sym no_fault ∙ is in cc);
+        place = text.place;
+        line = text.line;
+        held = text.held;
+        fed = omega (arith, text.place, ap length text.held);
+        ready = ap (ready_of new) ends.none_ready ∙ sym (ap (ready_of old) not_ready);
+        open_yet = text.ended;
+        kept = text.fault;
+      },
+      record { room = same_room sound text; state = subst (StandsSo new) (sym ends.none_ready) (λ no_more. absurd (let h = sym text.fault ∙ no_more in cc)) },
+    )
+finish_errs sound no_fault not_ready LexError.Memory short = runs_out sound no_fault not_ready short
 
 module _ {old f : Feed} (sound : IsSoundFeed old) (no_fault : old.state.fault ≡ None) (e : HasEndedText old f) where
   last_text : Holds old (old.held.items ++ []) old.state.fault f

@@ -7,17 +7,17 @@ use Rattle.py_lines.specs.LogicalLine.{LogicalLine, line_of}
 use Rattle.std.specs.Str.{all_scalars}
 use Rattle.py_lines.specs.Lexed.{IsLexed}
 use Rattle.py_lines.specs.Settled.{IsSettled, Decides, DecideNone}
-use Rattle.py_lines.specs.ScannerState.{GoesOnWith, EndsExactly, HoldsReady, ScannerState, IsScanning, TakesBytes, WhereFed, fed_of, ready_lines, Feeds, LacksBoth, Releases, TakesNaming}
+use Rattle.py_lines.specs.ScannerState.{GoesOnWith, EndsExactly, HoldsReady, ScannerState, IsScanning, TakesBytes, WhereFed, fed_of, ready_lines, Feeds, FeedsNaming, LacksBoth, MeetsFault, Releases, TakesNaming}
 use Rattle.py_lines.specs.Private.LineScan.{EndsWhole, IsApart, ScansIn}
 use Rattle.py_lines.specs.Private.LineState.{first_mode}
-use Rattle.py_lines.specs.Private.Feed.{IsScanned, Scan, Stop, Feed, AreFirstLines, EndsWithLine, FailsAfter, Holds, HoldsMore, HoldsSo, IsSoundFeed, IsUnchanged, StandsSo, Takes, TakesLine, TakesSo, line_held, Fault, LexError, ready_of, scanning_of, HasReadTokens, LetsGo, ReadsTokens, with_line, line_of_feed}
+use Rattle.py_lines.specs.Private.Feed.{IsScanned, Scan, Stop, Feed, AreFirstLines, EndsWithLine, FailsAfter, Holds, HoldsLine, HoldsMore, HoldsSo, IsSoundFeed, IsUnchanged, StandsSo, Takes, TakesLine, TakesSo, line_held, Fault, LexError, ready_of, scanning_of, HasReadTokens, LetsGo, ReadsTokens, with_line, line_of_feed}
 use Rattle.py_lines.proofs.Text.Utf8Prefixes.{all_scalars-parts, nothing_bad}
 use Rattle.py_lines.proofs.Lexings.DecidedFaults.{decided_fault, decided_more}
 use Rattle.py_lines.proofs.Lexings.FirstLines.{first_reading}
 use Rattle.py_lines.proofs.Feeds.Known.{IsKnown, given_bytes, is_known, first_at, goes_at, goes_joined, goes_with_first}
 use Rattle.py_lines.proofs.Feeds.SettledSoFar.{settled_open, settled_ready, ended_before, IsNextLine, next_line}
 use Rattle.py_lines.proofs.Feeds.DecidedSoFar.{undecided}
-use Rattle.py_lines.proofs.Feeds.ReadyLines.{ended_alone, line_alone, pieces_alone, ended_holds, line_stands, none_read, none_ready, some_is, text_stands}
+use Rattle.py_lines.proofs.Feeds.ReadyLines.{ended_alone, line_alone, pieces_alone, ended_holds, held_within, line_stands, none_read, none_ready, some_is, text_stands}
 use Rattle.py_lines.proofs.Feeds.LastBytes.{exactly_encoded}
 use Rattle.py_lines.proofs.LineScan.LineSteps.{follows_whole}
 use Rattle.std.proofs.lemmas.List.{length-take-le, nil_from_length, take-append-drop, take_all}
@@ -254,6 +254,28 @@ pub naming_same : (word other : List ℕ) (old new : ScannerState) (piece : List
     → ((line : LogicalLine) → new.ready ≡ Some line → (old.ready ≡ Some line) ⊎ ¬ (LacksBoth word other line.text)) → TakesNaming word other old piece n new
 naming_same word other old new piece n t kept = record { mid = new; takes = t; same = inl refl; kept = kept; waits = λ line is. (t.waits line is).1 }
 
+-- the fault that is known is met again
+pub known_fault : (f : Feed) (piece : List ℕ) (fault : Fault) → IsSoundFeed f → f.state.fault ≡ Some fault → MeetsFault (scanning_of f) piece fault (scanning_of f) × IsSoundFeed f
+known_fault f piece fault sound is = (
+  record {
+    decided = λ text lines s go. absurd (let h = sym s.no_fault ∙ is in cc);
+    again = λ first seen. let h = sym is ∙ seen in cc;
+    none_ready = λ none. absurd (let h = sym none ∙ is in cc);
+    place = refl;
+    line = refl;
+    fed = omega arith;
+    ready = refl;
+    open_yet = refl;
+    kept = is;
+  },
+  sound,
+)
+
+-- where lines are released at once, a call fails as any that is fed does
+pub naming_fails : (word other : List ℕ) (old new : ScannerState) (piece : List ℕ) (error : LexError) → Feeds old piece (Err error) new → FeedsNaming word other old piece (Err error) new
+naming_fails word other old new piece (LexError.Fault fault) fails = fails
+naming_fails word other old new piece LexError.Memory short = short
+
 -- where a line is ready, no byte is taken
 pub waits_so : (f : Feed) (piece : List ℕ) → IsSoundFeed f → is_some f.ready ≡ true → TakesBytes (scanning_of f) piece 0 (scanning_of f)
 waits_so f piece sound ready =
@@ -275,6 +297,17 @@ waits_so f piece sound ready =
 
 -- what the bytes taken come to in the end
 module _ {old new : Feed} {piece : List ℕ} {n : ℕ} (t : TakesLine old piece n new) where
+  -- the line that stands in what is held, if one does
+  module _ (some : is_some new.ready ≡ true) where
+    pub stands_taken : (end_len : ℕ) × HoldsLine new end_len
+    stands_taken = let (end_len, ready, h, line) = line_stands new new.ready t.holds some in (end_len, h)
+
+    pub size_taken : {held : List ℕ} → held ≡ new.held.items → new.state.scan.stop ≡ length (take new.state.scan.stop held)
+    size_taken {held} is = rw is (sym (length-take-le new.state.scan.stop new.held.items (held_within new stands_taken.0 stands_taken.1)))
+
+    pub some_taken : {held : List ℕ} → held ≡ new.held.items → 0 < length (take new.state.scan.stop held)
+    some_taken {held} is = let h = stands_taken.1 in omega (arith, size_taken is, h.stop, h.some)
+
   -- once the tokens of the line that stands in what is held are read
   pub takes_read : {now : Feed} → HasReadTokens new now → TakesBytes (scanning_of old) piece n (scanning_of now)
   takes_read r = subst (TakesBytes (scanning_of old) piece n) (sym (r.seen t.line t.holds)) t.takes

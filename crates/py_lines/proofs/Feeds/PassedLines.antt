@@ -18,11 +18,12 @@ use Rattle.py_lines.specs.Private.LineState.{BeginsAnew}
 use Rattle.py_lines.specs.Private.LineScan.{EndsWhole}
 use Rattle.py_lines.specs.Private.WholeLines.{AreWholeLines, BeginWithLines}
 use Rattle.py_lines.proofs.LineScan.LineCount.{line_ends-bytes}
+use Rattle.py_lines.proofs.LineScan.WholeLines.{bytes_whole, last_ends}
 use Rattle.py_lines.proofs.LogicalLines.Cuts.{line_ends-append}
 use Rattle.py_lines.proofs.Readers.PassedLines.{AreSettledAt, apart, line_settled, lines_at, lines_spell, pieces_of, shown, take_slice}
 use Rattle.py_lines.proofs.Feeds.Known.{goes_after, goes_with_first}
 use Rattle.py_lines.proofs.Feeds.ReadyLines.{none_ready}
-use Rattle.py_lines.proofs.Feeds.LastBytes.{ends-encoded, ends-later, ends_with_return, exactly}
+use Rattle.py_lines.proofs.Feeds.LastBytes.{ends-encoded, ends_with_return, exactly}
 use Rattle.py_lines.proofs.Feeds.OpenLine.{begun_open, begun_unchanged, runs_out}
 
 -- which bytes come after the first of those that follow is no matter
@@ -30,10 +31,6 @@ same_first : (line xs others more : List ℕ) → 0 < length xs → EndsWhole li
 same_first line [] others more some whole = absurd (omega (arith, some))
 same_first line (x ∷ xs) others more some (inl feed) = inl feed
 same_first line (x ∷ xs) others more some (inr (b, rest, is, other)) = inr (x, xs ++ more, refl, λ feeds. other (ap first_or_zero (sym is) ∙ feeds))
-
--- the last of some lines ends as all of them do
-last_ends : (read line later : List ℕ) → read ≡ line ++ later → 0 < length later → ends is_return read ≡ ends is_return later
-last_ends read line later is some = ap (ends is_return) is ∙ ends-later is_return line later (λ none. omega (arith, some, ap length none))
 
 -- so lines, of which there is one at least
 all_settled : (texts : List (List ℕ)) (text : List ℕ) (place line : ℕ) (given : List LogicalLine) (read more after : List ℕ) (are : AreWholeLines texts read after) → 0 < byte_len read → AreFirstLines text place line given → GoesOnWith text place (encode_utf8_all read ++ more) → EndsExactly read more
@@ -58,35 +55,33 @@ all_settled (t ∷ u ∷ texts) text place line given read more after are full f
     let rest = lines_at (u ∷ texts) (place + byte_len t) (line + line_ends t) are.later after are.lines in
     rw (← append_assoc given (here ∷ []) rest, ← place_is, ← line_is) others
 
--- what follows lines shows that the last one has ended
-lines_whole : (t : List ℕ) (texts : List (List ℕ)) (read after : List ℕ) → AreWholeLines (t ∷ texts) read after → EndsWhole read after
-lines_whole t [] read after are =
-    let all : t ≡ read = sym (are.spell ∙ ap (λ u. t ++ u) are.lines ∙ append-nil t) in
-    subst (λ u. EndsWhole u after) all (subst (λ u. EndsWhole t (encode_utf8_all u ++ after)) are.lines are.whole.whole)
-lines_whole t (u ∷ texts) read after are =
-    let some : 0 < length are.later = omega (arith, ap length are.lines.spell, length-append u are.lines.later, are.lines.some) in
-    rw (← last_ends read t are.later are.spell some) at (lines_whole u texts are.later after are.lines)
-
-bytes_whole : (bytes : List ℕ) (len : ℕ) → 0 < len → BeginWithLines bytes len → EndsWhole (take len bytes) (drop len bytes)
-bytes_whole bytes len some found = by found.texts found.whole
-  where
-    by : (texts : List (List ℕ)) → AreWholeLines texts found.read (drop len bytes) → EndsWhole (take len bytes) (drop len bytes)
-    by [] are = absurd (omega (arith, some, ap length found.spell, ap byte_len are, length-take-le len bytes found.within))
-    by (t ∷ texts) are = rw (sym (ends-encoded found.read) ∙ ap (ends is_return) found.spell) at (lines_whole t texts found.read (drop len bytes) are)
-
 -- what is held after them: one byte more after CR
 module _ (bytes : List ℕ) (len : ℕ) (found : BeginWithLines bytes len) (returns : Bool) (is : returns ≡ ends is_return (take len bytes)) where
-  more_held : 0 < len → (bool_byte returns ≤ length (drop len bytes)) × EndsExactly (take len bytes) (take (bool_byte returns) (drop len bytes))
-  more_held some = exactly (take len bytes) (drop len bytes) returns is (bytes_whole bytes len some found)
+  more_held : (bool_byte returns ≤ length (drop len bytes)) × EndsExactly (take len bytes) (take (bool_byte returns) (drop len bytes))
+  more_held = exactly (take len bytes) (drop len bytes) returns is (bytes_whole bytes len found)
 
   pub end_within : len + bool_byte returns ≤ length bytes
-  end_within = ⊎_elim (λ some. omega (arith, (more_held some).0, length-drop len bytes))
-      (λ none. omega (arith, none, ap bool_byte (is ∙ ap (λ (n : ℕ). ends is_return (take n bytes)) (let zero : len ≡ 0 = omega (arith, none) in zero)))) (cases_lt 0 len)
+  end_within = omega (arith, more_held.0, length-drop len bytes)
 
-  pub holds_after : 0 < len → HoldsAfterLines bytes len (take (bool_byte returns) (drop len bytes))
-  holds_after some =
-      let k = bool_byte returns in let size : length (take k (drop len bytes)) ≡ k = length-take-le k (drop len bytes) (more_held some).0 in
-      record { exact = (more_held some).1; within = omega (arith, size, end_within); next = ap (λ (n : ℕ). take (len + n) bytes) size ∙ take-add len k bytes }
+  pub holds_after : HoldsAfterLines bytes len (take (bool_byte returns) (drop len bytes))
+  holds_after =
+      let k = bool_byte returns in let size : length (take k (drop len bytes)) ≡ k = length-take-le k (drop len bytes) more_held.0 in
+      record { exact = more_held.1; within = omega (arith, size, end_within); next = ap (λ (n : ℕ). take (len + n) bytes) size ∙ take-add len k bytes }
+
+-- no line is passed over
+pub none_found : (s : ScannerState) (bytes : List ℕ) (before : ℕ) → PassesPieceLines s bytes before 0 s
+none_found s bytes before = record {
+  lines = [];
+  texts = refl;
+  ends = omega arith;
+  stands = λ more. absurd (omega (arith, more));
+  began = λ more. absurd (omega (arith, more));
+  held = λ more. absurd (omega (arith, more));
+  scans = λ more. absurd (omega (arith, more));
+  place = omega arith;
+  others = refl;
+  same = λ none. refl;
+}
 
 -- where no line is passed over the scan of the next one begins anew
 module _ (f : Feed) (held : Vec ℕ) (state : LineState) (scan : Scan) (stands : StandsAtLine (scanning_of f)) (kept : held.items ≡ f.held.items) (anew : BeginsAnew (record f.state { scan = scan }) state) where
@@ -99,18 +94,7 @@ module _ (f : Feed) (held : Vec ℕ) (state : LineState) (scan : Scan) (stands :
       let short = runs_out sound stands.no_fault none
       (begun_unchanged f begun (record f.state { scan = scan }) none (record { held = kept; place = refl; line = refl; ended = refl; fault = refl }) anew) in
       let same = short.0.same in (
-        subst (λ (s : ScannerState). PassesPieceLines (scanning_of f) bytes before 0 s) (sym same) (record {
-          lines = [];
-          texts = refl;
-          ends = omega arith;
-          stands = λ more. absurd (omega (arith, more));
-          began = λ more. absurd (omega (arith, more));
-          held = λ more. absurd (omega (arith, more));
-          scans = λ more. absurd (omega (arith, more));
-          place = omega arith;
-          others = refl;
-          same = λ none. refl;
-        }),
+        subst (λ (s : ScannerState). PassesPieceLines (scanning_of f) bytes before 0 s) (sym same) (none_found (scanning_of f) bytes before),
         short.1,
       )
 
@@ -150,7 +134,7 @@ module _ (f : Feed) (bytes : List ℕ) (before stop len : ℕ) (stands : StandsA
     holds some =
         let more = take (bool_byte returns) (drop len (take stop bytes)) in
         let all : min (length f.held.items) len ≡ length f.held.items = omega (arith, some, stands.held) in let size : len + bool_byte returns - len ≡ bool_byte returns = omega arith in
-        subst (HoldsAfterLines (take stop bytes) len) (sym (held_is ∙ rw (all, size) (drop-append_seam f.held.items more))) (holds_after (take stop bytes) len found returns returned some)
+        subst (HoldsAfterLines (take stop bytes) len) (sym (held_is ∙ rw (all, size) (drop-append_seam f.held.items more))) (holds_after (take stop bytes) len found returns returned)
 
     holds_here : 0 < len → HoldsAfterLines bytes len held.items
     holds_here some =

@@ -1,6 +1,6 @@
 -- What is open where the text ends, with characters that don't tell yet what they are: a string, or the field whose specification is open or
 -- that a `{` would open; a backslash; a string that they begin; or else a bracket or a field.
-use Rattle.std.proofs.Common.{◌≡◌, ℕ, zero, suc, Bool, ◌<◌, ◌⊎◌, ◌-◌, false, Option, None, Some, List, [], ◌∷◌, length, refl, sym, ap, ◌∙◌, true, ◌==◌, ◌&&◌, ◌++◌, subst, ⊎_elim, drop, slice_index, take, take-append-drop, arith}
+use Rattle.std.proofs.Common.{◌≡◌, ℕ, zero, suc, Bool, ◌<◌, ◌-◌, false, Option, None, Some, List, [], ◌∷◌, length, refl, sym, ap, ◌∙◌, true, ◌==◌, ◌&&◌, ◌++◌, subst, ⊎_elim, drop, slice_index, take, take-append-drop, arith}
 use Rattle.std.specs.Prelude.{if◌then◌else◌, encode_utf8_all, nat_eq, nat_lt}
 use Rattle.std.specs.List.{starts_with}
 use Rattle.py_lines.specs.LogicalLine.{byte_len}
@@ -14,7 +14,7 @@ use Rattle.py_lines.specs.declared.scan.LineFault.{LineFault}
 use Rattle.py_lines.specs.declared.scan.Scan.{Scan}
 use Rattle.py_lines.specs.Private.FieldMachine.{Level, FieldScanned, frames, before, At, FieldMode, FieldMove, plain, body, between, after_brace, after_name, after_one, after_return, after_slash, after_two, grows, refused, between_move, body_move, escape_move, field_move, field_state, is_after_brace, room_step, text_place}
 use Rattle.py_lines.specs.Private.FieldFaults.{is_waiting, here, field_start, unfinished_code, unfinished_at, piece_start, unfinished_in}
-use Rattle.py_lines.specs.Private.Scan.{bracket_openers, Follows, FramesFollow, EndsOpen, IsFieldEnd, Goes, IsPending, is_part_of_text, is_return_at, EndsReturned, GoesOverAll, HasPending, HasQuote, ends_before, has_returned, host_in, is_begun_after, is_lone_brace, is_part_of_code, is_pending, is_text, mode_from, passed, region_in, string_start}
+use Rattle.py_lines.specs.Private.Scan.{bracket_openers, lone_of, Follows, FramesFollow, EndsOpen, IsFieldEnd, Goes, IsPending, is_part_of_text, is_return_at, EndsReturned, GoesOverAll, HasPending, HasQuote, ends_before, has_returned, host_in, is_begun_after, is_lone_brace, is_part_of_code, is_pending, is_text, mode_from, passed, region_in, string_start}
 use Rattle.py_lines.specs.Private.Frames.{IsInnermostFrame, place_of}
 use Rattle.py_lines.proofs.FieldScans.Frames.{innermost_bracket, innermost_field, none_outside}
 use Rattle.std.proofs.lemmas.Bool.{and_parts, both_ways, eq-eqb, eqb-true, or_cases, false_from_ne_true}
@@ -232,14 +232,10 @@ one_quote_open true s q = (λ outer openers. refl, refl)
 one_quote_open false s q = (λ outer openers. refl, refl)
 
 -- the byte that is left, if it is the only one
-abbrev pub lone_of : List ℕ → ℕ
-lone_of (b ∷ []) = b
-lone_of other = 0
-
-pub lone_is : (bytes : List ℕ) (b : ℕ) → ((length bytes ≡ 1) × (b ≡ slice_index bytes 0)) ⊎ ((length bytes ≡ 1 → ⊥) × (b ≡ 0)) → b ≡ lone_of bytes
-lone_is [] b is = grind arith
-lone_is (c ∷ []) b is = grind arith
-lone_is (c ∷ d ∷ cs) b is = grind arith
+pub lone_is : (bytes : List ℕ) → lone_of bytes ≡ (if length bytes == 1 then slice_index bytes 0 else 0)
+lone_is [] = refl
+lone_is (c ∷ []) = refl
+lone_is (c ∷ d ∷ cs) = grind arith
 
 only_lone : (run : List ℕ) → 0 < lone_of run → run ≡ lone_of run ∷ []
 only_lone [] some = absurd (omega (arith, some))

@@ -1,8 +1,8 @@
 -- The frames that are open are the first of an array.
-use Rattle.std.proofs.Common.{◌≡◌, ℕ, ◌+◌, ◌-◌, ◌≤◌, List, [], ◌∷◌, length, take, refl, ap, ◌∙◌, arith}
-use Rattle.std.specs.Prelude.{reverse, get_or, nat_lt}
+use Rattle.std.proofs.Common.{◌≡◌, ℕ, ◌+◌, ◌-◌, ◌<◌, ◌≤◌, List, [], ◌∷◌, length, take, refl, sym, ap, ◌∙◌, arith}
+use Rattle.std.specs.Prelude.{reverse, get_or, nat_lt, slice_set}
 use Rattle.std.proofs.lemmas.Bool.{lt-ltb}
-use Rattle.std.proofs.lemmas.List.{length-take-le, length-reverse, reverse-append, take_more}
+use Rattle.std.proofs.lemmas.List.{length-set, length-take-le, length-reverse, reverse-append, take_more, take_more_set}
 use Rattle.py_lines.specs.declared.frames.Frame.{Frame}
 use Rattle.py_lines.specs.declared.frames.Frame.TheVariants as frame
 use Rattle.py_lines.specs.Private.Frames.{fields_of, has_field}
@@ -32,3 +32,28 @@ pub fields_some : (fs : List Frame) → nat_lt 0 (fields_of fs) ≡ has_field fs
 fields_some [] = refl
 fields_some (frame.Bracket opener place ∷ fs) = fields_some fs
 fields_some (frame.Field field ∷ fs) = lt-ltb 0 (fields_of fs + 1) (omega arith)
+
+-- one more is opened
+pub record Opened (fs : List Frame) (n : ℕ) (f : Frame) (old : List Frame) (fields : ℕ) : Type 0 where
+  pub room : n < 200
+  pub short : length old < 200
+  pub size : length (slice_set fs n f) ≡ 200
+  pub counted : fields ≡ fields_of old
+  pub few : fields ≤ length old
+  pub is : first_frames (slice_set fs n f) (n + 1) ≡ f ∷ old
+
+pub opened : (fs : List Frame) (n : ℕ) (f : Frame) (old : List Frame) (fields : ℕ)
+    → (length fs ≡ 200) × (n ≤ 200) × (fields ≡ fields_of (first_frames fs n)) → first_frames fs n ≡ old → (length old ≡ 200 → ⊥)
+    → Opened fs n f old fields
+opened fs n f old fields (size, few, counted) is room =
+    let len : length old ≡ n = ap length (sym is) ∙ first_frames_length fs n size few in
+    let less : n < 200 = omega (arith, few, len, room) in
+    let same : fields ≡ fields_of old = counted ∙ ap fields_of is in
+    record {
+      room = less;
+      short = omega (arith, less, len);
+      size = length-set fs n f ∙ size;
+      counted = same;
+      few = omega (arith, same, fields_few old);
+      is = ap reverse (take_more_set fs n f (omega (arith, less, size))) ∙ reverse-append (take n fs) (f ∷ []) ∙ ap (λ fs. f ∷ fs) is;
+    }

@@ -136,9 +136,9 @@ unfolding tested ended pieces_outside
 no_string_over_line_end is = none_some (string_ends (codes "f\"{x:\n}\"") (inr is))
 
 -- strings with so many fields one in another: f"", f"{f""}", f"{f"{f""}"}" and so on
-nested : ℕ → List ℕ
-nested zero = codes "f\"\""
-nested (suc n) = codes "f\"{" ++ (nested n ++ codes "}\"")
+nested : ℕ → List ℕ → List ℕ
+nested zero rest = codes "f\"\"" ++ rest
+nested (suc n) rest = codes "f\"{" ++ nested n (codes "}\"" ++ rest)
 
 -- in such a string each bracket and field has room
 has_its_room : (text : List ℕ) → InClassIn (with_fields (ShallowFields 0)) string text → have_room (Some field_text_start) text ≡ true
@@ -147,10 +147,14 @@ has_its_room text is =
     ap (have_room (Some field_text_start)) (sym (append-nil text)) ∙ room_of field_text_start (field_state [] found.done [] found.mode found.held) (text ++ []) found.goes
 
 -- 200 and 201, from the text's start
-two_hundred : InClassIn (with_fields (ShallowFields 0)) string (nested 200)
-unfolding tested nested
-two_hundred = (read_whole (piece string (nested 200) ∷ []) (nested 200) refl refl).shallow.1 refl
+shallow_string : (text : List ℕ) → field_steps_from (Some field_text_start) text ≡ Some (field_fresh [] (piece string text ∷ []) [])
+    → have_room (Some field_text_start) text ≡ true → InClassIn (with_fields (ShallowFields 0)) string text
+shallow_string text steps room = (read_whole (piece string text ∷ []) text steps room).shallow.1 refl
 
-one_more : ¬ (InClassIn (with_fields (ShallowFields 0)) string (nested 201))
+two_hundred : InClassIn (with_fields (ShallowFields 0)) string (nested 200 [])
 unfolding tested nested
-one_more is = both_ways _ refl (has_its_room (nested 201) is)
+two_hundred = shallow_string (nested 200 []) refl refl
+
+one_more : ¬ (InClassIn (with_fields (ShallowFields 0)) string (nested 201 []))
+unfolding tested nested
+one_more is = both_ways _ refl (has_its_room (nested 201 []) is)

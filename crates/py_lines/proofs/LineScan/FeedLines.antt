@@ -8,7 +8,7 @@ use Rattle.py_lines.specs.declared.passing.Passing.{Passing}
 use Rattle.py_lines.specs.declared.scan.Scan.{Scan}
 use Rattle.py_lines.specs.Private.LineEnds.{BeginsOuterEnd}
 use Rattle.py_lines.specs.Private.Marks.{ArePlain, EndInFeed, is_plain}
-use Rattle.py_lines.specs.Private.Passing.{EndsAfter, FindsSpecial, lines_with}
+use Rattle.py_lines.specs.Private.Passing.{EndsAfter, FindsSpecial, IsCounted, lines_with}
 use Rattle.py_lines.specs.Private.Run.{is_ascii_word}
 use Rattle.py_lines.specs.Private.Scan.{Takes}
 use Rattle.py_lines.proofs.FieldScans.LineEnds.{feed_breaks}
@@ -104,20 +104,28 @@ pub record FindsOn (bytes : List ℕ) (fs : List Frame) (p : Passing) (at : ℕ)
   pub on : HasPassedLines bytes fs at q
   pub further : left bytes q ≤ left bytes p
 
-pub finds_on : {bytes : List ℕ} {fs : List Frame} {p q : Passing} {at : ℕ} → HavePassed bytes fs p.lines p.all → FindsSpecial bytes fs p at q
-    → FindsOn bytes fs p at q
-finds_on {bytes} {fs} {p} {q} have finds = elim finds.passes [
+pub finds_on : {bytes : List ℕ} {fs : List Frame} {p q : Passing} {at : ℕ} → HavePassed bytes fs p.lines p.all → IsCounted bytes p
+    → FindsSpecial bytes fs p at q → FindsOn bytes fs p at q
+finds_on {bytes} {fs} {p} {q} have counted finds = elim finds.passes [
   | inl same ↦
       let all = ap (λ (r : Passing). r.all) (sym same) in
       let lines = ap (λ (r : Passing). r.lines) (sym same) in
       record {
-        on = record { have = transport (λ i. HavePassed bytes fs (lines i) (all i)) have; next = finds.next };
+        on = record {
+          have = transport (λ i. HavePassed bytes fs (lines i) (all i)) have;
+          counted = subst (IsCounted bytes) (sym same) counted;
+          next = finds.next;
+        };
         further = omega (arith, all, lines);
       }
-  | inr (ends, same) ↦
+  | inr (ends, more, same) ↦
       let lines = ap (λ (r : Passing). r.lines) (sym same) in
       record {
-        on = record { have = subst (λ n. HavePassed bytes fs n q.all) lines (feeds_passed fs ends p.lines have); next = finds.next };
+        on = record {
+          have = subst (λ n. HavePassed bytes fs n q.all) lines (feeds_passed fs ends p.lines have);
+          counted = more ∙ counted;
+          next = finds.next;
+        };
         further = omega (arith, ends.further, lines, lines_more fs p.lines q.all (omega (arith, have.before, ends.further)));
       }
 ]

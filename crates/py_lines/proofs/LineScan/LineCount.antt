@@ -1,5 +1,5 @@
 -- What one more piece does to the line, and how many line ends characters have.
-use Rattle.std.proofs.Common.{◌≡◌, ℕ, ◌≤◌, false, ◌&&◌, ◌==◌, List, [], ◌∷◌, ◌++◌, length, arith}
+use Rattle.std.proofs.Common.{◌≡◌, ℕ, ◌≤◌, false, ◌&&◌, ◌==◌, List, [], ◌∷◌, ◌++◌, length, take, arith, length-take}
 use Rattle.std.proofs.lemmas.Bool.{cond_both}
 use Rattle.std.proofs.lemmas.Str.{length-le-encodes}
 use Rattle.py_lines.specs.Piece.{Piece}
@@ -19,6 +19,9 @@ line_ends-le [] = omega arith
 line_ends-le (c ∷ cs) =
     let one = cond_both (ends_line c cs) 1 0 (λ n. n ≤ 1) (λ h. omega arith) (λ h. omega arith) in
     omega (arith, one, line_ends-le cs)
+
+pub few_first : (cs : List ℕ) (n : ℕ) → line_ends (take n cs) ≤ n
+few_first cs n = omega (arith, line_ends-le (take n cs), length-take n cs)
 
 pub line_ends-bytes : (cs : List ℕ) → line_ends cs ≤ byte_len cs
 line_ends-bytes cs = omega (arith, line_ends-le cs, length-le-encodes cs)

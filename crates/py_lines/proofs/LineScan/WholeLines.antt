@@ -1,17 +1,20 @@
 -- Logical lines follow one another.
-use Rattle.std.proofs.Common.{◌≡◌, ◌⊎◌, inl, inr, ℕ, ◌+◌, ◌-◌, ◌<◌, ◌≤◌, false, List, [], ◌∷◌, ◌++◌, length, take, drop, refl, sym, ap, ◌∙◌, subst, arith, append-nil, append_assoc, length-append, length-drop}
+use Rattle.std.proofs.Common.{◌≡◌, ◌⊎◌, inl, inr, ℕ, ◌+◌, ◌-◌, ◌<◌, ◌≤◌, ◌&&◌, false, List, [], ◌∷◌, ◌++◌, length, take, drop, refl, sym, ap, ◌∙◌, subst, arith, append-nil, append_assoc, length-append, length-drop}
 use Rattle.std.specs.Prelude.{encode_utf8_all}
 use Rattle.std.proofs.Math.Path.{transport}
 use Rattle.std.proofs.Math.Seq.{take-add}
-use Rattle.std.proofs.lemmas.List.{drop_at, drop-drop, take_at, take_rest}
+use Rattle.std.proofs.lemmas.Bool.{and_parts, false_from_ne_true}
+use Rattle.std.proofs.lemmas.List.{drop_at, drop-drop, take-append-drop, take_at, take_rest}
 use Rattle.std.proofs.lemmas.Str.{encodes-append, length-le-encodes}
-use Rattle.py_lines.specs.Piece.{spelled}
+use Rattle.py_lines.specs.Character.{is_line_feed, is_return}
+use Rattle.py_lines.specs.LogicalLine.{line_ends}
+use Rattle.py_lines.specs.Piece.{begins, ends, spelled}
 use Rattle.py_lines.specs.Private.Frames.{has_field}
 use Rattle.py_lines.specs.Private.Machine.{Mode}
 use Rattle.py_lines.specs.Private.Mode as modes
-use Rattle.py_lines.specs.Private.LineScan.{IsAtLineEnd, Reached, ScansIn}
+use Rattle.py_lines.specs.Private.LineScan.{EndsWhole, IsAtLineEnd, Reached, ScansIn}
 use Rattle.py_lines.specs.Private.Marks.{FindsNext, HasMarks}
-use Rattle.py_lines.specs.Private.Passing.{EndsAfter, EndsLineSo, PassesSo, PassesSpecial, StandsFree, passed_to}
+use Rattle.py_lines.specs.Private.Passing.{EndsAfter, EndsLineSo, IsCounted, PassesSo, PassesSpecial, StandsFree, passed_to}
 use Rattle.py_lines.specs.Private.Scan.{Takes}
 use Rattle.py_lines.specs.Private.TakenPieces.{ComesToCode, IsWordStart, StopsSo}
 use Rattle.py_lines.specs.Private.WholeLines.{AreWholeLines, BeginWithLines, IsWholeLine}
@@ -22,13 +25,16 @@ use Rattle.py_lines.specs.declared.passing.Special.TheVariants as specials
 use Rattle.py_lines.specs.declared.scan.Scan.{Scan}
 use Rattle.py_lines.specs.declared.scan.Stop.{Stop}
 use Rattle.py_lines.specs.declared.scan.Stop.TheVariants as stops
+use Rattle.py_lines.proofs.Feeds.LastBytes.{ends-encoded, ends-later}
 use Rattle.py_lines.proofs.FieldScans.Taking.{free_at}
 use Rattle.py_lines.proofs.Lexings.LineEnds.{line_first}
 use Rattle.py_lines.proofs.LineScan.LineSteps.{begun_reached}
 use Rattle.py_lines.proofs.LineScan.Reaching.{ends_over, reached_over}
+use Rattle.py_lines.proofs.LogicalLines.Cuts.{line_ends-append}
 use Rattle.py_lines.proofs.PassedPieces.Ends.{in_code, passes_none}
 use Rattle.py_lines.proofs.PassedPieces.Pieces.{word_left}
 use Rattle.py_lines.proofs.Pieces.PieceLists.{AreReadBefore-second, spelled-push}
+use Rattle.py_lines.proofs.Text.CharacterTests.{feed_is}
 
 -- one more line after others
 line_push : (texts : List (List ℕ)) (read line after : List ℕ) → AreWholeLines texts read (encode_utf8_all line ++ after) → 0 < length line
@@ -91,6 +97,37 @@ next_line bytes len size to new are s place =
       };
     }
 
+-- the last of some lines ends as all of them do
+pub last_ends : (read line later : List ℕ) → read ≡ line ++ later → 0 < length later → ends is_return read ≡ ends is_return later
+last_ends read line later is some = ap (ends is_return) is ∙ ends-later is_return line later (λ none. omega (arith, some, ap length none))
+
+-- what follows lines shows that the last one has ended
+lines_whole : (t : List ℕ) (texts : List (List ℕ)) (read after : List ℕ) → AreWholeLines (t ∷ texts) read after → EndsWhole read after
+lines_whole t [] read after are =
+    let all : t ≡ read = sym (are.spell ∙ ap (λ u. t ++ u) are.lines ∙ append-nil t) in
+    subst (λ u. EndsWhole u after) all (subst (λ u. EndsWhole t (encode_utf8_all u ++ after)) are.lines are.whole.whole)
+lines_whole t (u ∷ texts) read after are =
+    let some : 0 < length are.later = omega (arith, ap length are.lines.spell, length-append u are.lines.later, are.lines.some) in
+    rw (← last_ends read t are.later are.spell some) at (lines_whole u texts are.later after are.lines)
+
+pub bytes_whole : (bytes : List ℕ) (len : ℕ) → BeginWithLines bytes len → EndsWhole (take len bytes) (drop len bytes)
+bytes_whole bytes len found = by found.texts found.whole
+  where
+    by : (texts : List (List ℕ)) → AreWholeLines texts found.read (drop len bytes) → EndsWhole (take len bytes) (drop len bytes)
+    by [] are = inl (ap (ends is_return) (sym found.spell ∙ ap encode_utf8_all are))
+    by (t ∷ texts) are =
+        rw (sym (ends-encoded found.read) ∙ ap (ends is_return) found.spell) at (lines_whole t texts found.read (drop len bytes) are)
+
+-- so the line ends of both parts are those of all
+uncut : (read rest : List ℕ) → EndsWhole read rest → ends is_return read && begins is_line_feed rest ≡ false
+uncut read rest (inl none) = rw none refl
+uncut read rest (inr (b, more, is, other)) = rw is (false_from_ne_true _ (λ both. other (feed_is b (and_parts _ _ both).1)))
+
+pub lines_parted : (bytes : List ℕ) (len : ℕ) → BeginWithLines bytes len → line_ends bytes ≡ line_ends (take len bytes) + line_ends (drop len bytes)
+lines_parted bytes len found =
+    ap line_ends (sym (take-append-drop len bytes))
+    ∙ line_ends-append (take len bytes) (drop len bytes) (uncut (take len bytes) (drop len bytes) (bytes_whole bytes len found))
+
 -- Lines were passed up to `lines`, and pieces of the next one up to `all`, over which the scan has come that stands in code with these frames.
 pub record HavePassed (bytes : List ℕ) (fs : List Frame) (lines all : ℕ) : Type 0 where
   pub are : BeginWithLines bytes lines
@@ -137,7 +174,17 @@ module _ {bytes : List ℕ} {fs : List Frame} {lines all : ℕ} (on : HavePassed
 -- and the next byte that isn't plain stands at `at`
 pub record HasPassedLines (bytes : List ℕ) (fs : List Frame) (at : ℕ) (p : Passing) : Type 0 where
   pub have : HavePassed bytes fs p.lines p.all
+  pub counted : IsCounted bytes p
   pub next : FindsNext bytes p.all at p.marks
+
+-- the line ends of the lines that were passed are all that were counted, but for those of the next line
+pub ends_of_lines : {bytes : List ℕ} {fs : List Frame} {at : ℕ} {p : Passing} → HasPassedLines bytes fs at p → (q : Passing) → q ≡ p → (last : ℕ)
+    → last + line_ends (drop (q.all - q.lines) (drop q.lines bytes)) ≡ line_ends (drop q.lines bytes)
+    → q.ends ≡ line_ends (take q.lines bytes) + last
+ends_of_lines {bytes} {p = p} on q same = rw same (λ last is.
+    let there : p.lines + (p.all - p.lines) ≡ p.all = omega (arith, on.have.before) in
+    let rest = ap line_ends (drop-drop (p.all - p.lines) p.lines bytes ∙ ap (λ n. drop n bytes) there) in
+    omega (arith, on.counted, is, rest, lines_parted bytes p.lines on.have.are))
 
 -- where something is not passed, all is as before
 pub unpassed : {bytes : List ℕ} {fs c : List Frame} {at : ℕ} {p q : Passing} → HasPassedLines bytes fs at p → (q ≡ p) × (c ≡ fs)
@@ -151,6 +198,7 @@ left bytes p = (length bytes - p.all) + (length bytes - p.lines)
 -- more was passed: a line end leads beyond the line's start, and all else beyond what was passed
 pub record PassesOn (bytes : List ℕ) (p : Passing) (c : List Frame) (q : Passing) : Type 0 where
   pub have : HavePassed bytes c q.lines q.all
+  pub counted : IsCounted bytes q
   pub marked : HasMarks bytes q.all q.marks
   pub smaller : left bytes q < left bytes p
 
@@ -168,6 +216,7 @@ module _ {bytes : List ℕ} {fs : List Frame} {at : ℕ} {p : Passing} (on : Has
       record {
         have = subst (λ n. HavePassed bytes c n q.all) (sym so.lines)
             (goes_on have c (q.all - p.all) q.all size (so.outside have.outside) (so.over (p.all - p.lines) start (here have) (stands have)));
+        counted = so.counted ∙ on.counted;
         marked = so.marked;
         smaller = omega (arith, next.after, so.further, so.within, so.lines);
       }
@@ -178,6 +227,7 @@ module _ {bytes : List ℕ} {fs : List Frame} {at : ℕ} {p : Passing} (on : Has
       let place : q.all ≡ p.lines + (p.all - p.lines + (q.all - p.all)) = omega (arith, have.before, next.after, so.all) in
       record {
         have = rw (so.frames, so.lines) (ends_there have (at - p.all) len q.all _ ends place);
+        counted = so.counted ∙ on.counted;
         marked = so.marked;
         smaller = omega (arith, have.before, next.after, so.all, so.some, so.within, so.lines);
       }
@@ -216,20 +266,21 @@ module _ {bytes : List ℕ} {fs : List Frame} {at : ℕ} {p : Passing} (on : Has
         (subst (ScansIn modes.Free line new) is (so.scans modes.Free line refl reached_word)) refl
 
     pub passes_end : {new : Scan} {stop : Stop} {len : ℕ} {c : List Frame} {q : Passing} → stop ≡ stops.LineEnd len
-        → StopsSo rest old stop new → c ≡ [] → q ≡ passed_to p (lines + new.stop) q.marks → HasMarks bytes (lines + new.stop) q.marks
-        → PassesOn bytes p c (record q { lines = q.all })
-    passes_end {new} {c = c} {q} is so none to marked =
+        → StopsSo rest old stop new → c ≡ [] → q ≡ passed_to p (lines + new.stop) q.ends q.marks → IsCounted bytes q
+        → HasMarks bytes (lines + new.stop) q.marks → PassesOn bytes p c (record q { lines = q.all })
+    passes_end {new} {c = c} {q} is so none to counted marked =
         let ends = items_end is so in
         let all : lines + new.stop ≡ q.all = ap (λ (p : Passing). p.all) (sym to) in
         record {
           have = subst (λ n. HavePassed bytes c n n) all (rw none (begins_next bytes _ ends.lines));
+          counted = counted;
           marked = subst (λ n. HasMarks bytes n q.marks) all marked;
           smaller = omega (arith, all, are, ends.further, ends.lines.within, begun, so.further);
         }
 
-    pub passes_items : {new : Scan} {q : Passing} → q ≡ passed_to p (lines + new.stop) q.marks → HasMarks bytes (lines + new.stop) q.marks
-        → ComesToCode rest old new → PassesOn bytes p new.frames q
-    passes_items {new} {q} to marked so =
+    pub passes_items : {new : Scan} {q : Passing} → q ≡ passed_to p (lines + new.stop) q.ends q.marks → IsCounted bytes q
+        → HasMarks bytes (lines + new.stop) q.marks → ComesToCode rest old new → PassesOn bytes p new.frames q
+    passes_items {new} {q} to counted marked so =
         let code = in_code new so.code in
         let reach : p.all + k + so.len ≡ lines + new.stop = omega (arith, so.stop, begun) in
         let far : new.stop + 0 ≡ lines + new.stop - lines = omega arith in
@@ -242,6 +293,7 @@ module _ {bytes : List ℕ} {fs : List Frame} {at : ℕ} {p : Passing} (on : Has
             reached = transport (λ i. Reached modes.Free line (free_at new.frames (far i)) (after i))
                 (reached_over (so.reached modes.Free line refl reached_word) _ 0 (passes_none new (drop so.len rest) code.0));
           });
+          counted = subst (IsCounted bytes) to counted;
           marked = marked;
           smaller = omega (arith, reach, so.some, marked.within);
         })

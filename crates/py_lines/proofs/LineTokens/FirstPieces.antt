@@ -4,7 +4,7 @@ use Rattle.std.proofs.Common.{◌+◌, ◌<◌, ◌⊎◌, inl, inr, ◌&&◌, d
 use Rattle.std.specs.Prelude.{encode_utf8_all, not, codes, nat_le}
 use Rattle.std.specs.List.{list_all, list_any}
 use Rattle.std.specs.Char.{is_ascii_digit}
-use Rattle.std.proofs.lemmas.Bool.{and_from, and_parts, both_ways, cases_lt, false_from_ne_true, or_parts, or_cases}
+use Rattle.std.proofs.lemmas.Bool.{and_from, and_parts, both_ways, cases_lt, or_parts, or_cases}
 use Rattle.std.proofs.lemmas.List.{get_or-take, length-take}
 use Rattle.std.proofs.Math.Utf8.{encode}
 use Rattle.std.proofs.lemmas.Bool.Decides.{nat_tests}
@@ -16,12 +16,10 @@ use Rattle.py_lines.specs.PieceGrammar.{IsLineEnd, feed, return_feed, return}
 use Rattle.py_lines.specs.Fields.{InClass, MayPrecede, fielded}
 use Rattle.py_lines.specs.LogicalLine.{byte_len, first_or_zero, line_ends}
 use Rattle.py_lines.specs.declared.token.TokKind.TheVariants as kind
-use Rattle.py_lines.specs.declared.line_tokens.Role.TheVariants as roles
-use Rattle.py_lines.specs.declared.line_tokens.Role.{Role}
 use Rattle.py_lines.specs.declared.class.Class.TheVariants as class
 use Rattle.py_lines.specs.declared.token.TokKind.{TokKind}
 use Rattle.py_lines.specs.Private.Run.{IsRunOf, is_comment_byte, is_ascii_word, is_wide_word, word_spelling}
-use Rattle.py_lines.specs.Private.LineTokens.{BeginWithPiece, IsTakenFor, line_end_len, role_of, word_kind}
+use Rattle.py_lines.specs.Private.LineTokens.{BeginWithPiece, IsTakenFor, Role, line_end_len, role_of, word_kind}
 use Rattle.py_lines.specs.Private.Machine.{begins_string}
 use Rattle.py_lines.proofs.Text.CharacterTests.{feed_is, operator_ascii, none_of}
 use Rattle.py_lines.proofs.Text.HighBytes.{IsEvenAbove, encoded_begins, encoded_passes, low_even}
@@ -117,7 +115,7 @@ module _ {bytes : List ℕ} {p : Piece} (b : BeginWithPiece bytes p) where
   spaces n is run =
       run_taken is_space n (low_even is_space space_low) run (in_class space is).3 (begins-prefix is_space rest b.text.after (precedes space is))
 
-  pub space_taken : (n : ℕ) → p.class ≡ space → IsRunOf is_space bytes n → IsTakenFor p (record { role = roles.LineEnd; len = n; line_ends = 0 })
+  pub space_taken : (n : ℕ) → p.class ≡ space → IsRunOf is_space bytes n → IsTakenFor p (record { role = Role.none; len = n; line_ends = 0 })
   unfolding is_space is_break
   space_taken n is run =
       taken space is refl (spaces n is run)
@@ -134,13 +132,13 @@ module _ {bytes : List ℕ} {p : Piece} (b : BeginWithPiece bytes p) where
       let whole : byte_len p.text ≡ length (c ∷ encode_utf8_all cs) = ap byte_len is ∙ ap (λ t. length (t ++ encode_utf8_all cs)) (one c low) in
       omega (arith, whole, same)
 
-  pub operator_taken : p.class ≡ operator → IsTakenFor p (record { role = roles.Token (kind.Op (slice_index bytes 0)); len = 1; line_ends = 0 })
+  pub operator_taken : p.class ≡ operator → IsTakenFor p (record { role = Role.token_of (kind.Op (slice_index bytes 0)); len = 1; line_ends = 0 })
   operator_taken is =
       let shape = in_class operator is in
       let c : ℕ = shape.0 in
       let low = operator_ascii c shape.2 in
       taken operator is
-      (ap (λ d. roles.Token (kind.Op d)) (ap (λ t. slice_index t 0) (after_first c [] shape.1 low) ∙ ap first_or_zero (sym shape.1)))
+      (ap (λ d. Role.token_of (kind.Op d)) (ap (λ t. slice_index t 0) (after_first c [] shape.1 low) ∙ ap first_or_zero (sym shape.1)))
       (longer c [] 0 shape.1 low refl)
       (unbroken p.text (ap (list_all is_comment_byte) shape.1 ∙ and_from _ true (ap not (operator-no_break c shape.2)) refl))
 
@@ -150,7 +148,7 @@ module _ {bytes : List ℕ} {p : Piece} (b : BeginWithPiece bytes p) where
   comment_ends (c ∷ cs) after (inr breaks) = ap not breaks
 
   pub comment_taken : (n : ℕ) → p.class ≡ comment → IsRunOf is_comment_byte (rest_of bytes 1) n
-      → IsTakenFor p (record { role = roles.Token kind.Remark; len = 1 + n; line_ends = 0 })
+      → IsTakenFor p (record { role = Role.token_of kind.Remark; len = 1 + n; line_ends = 0 })
   unfolding is_break
   comment_taken n is run =
       let shape = in_class comment is in
@@ -161,7 +159,7 @@ module _ {bytes : List ℕ} {p : Piece} (b : BeginWithPiece bytes p) where
       (all_other body shape.4) (comment_ends rest b.text.after (precedes comment is))))
       (unbroken p.text (ap (list_all is_comment_byte) text ∙ all_other body shape.4))
 
-  pub line_end_taken : p.class ≡ line_end → IsTakenFor p (record { role = roles.LineEnd; len = line_end_len bytes; line_ends = 1 })
+  pub line_end_taken : p.class ≡ line_end → IsTakenFor p (record { role = Role.none; len = line_end_len bytes; line_ends = 1 })
   line_end_taken is =
       taken line_end is refl
       (ap line_end_len (spelled_bytes bytes p b) ∙ end_len p.text rest b.text.after (in_class line_end is) (precedes line_end is))
@@ -180,7 +178,7 @@ module _ {bytes : List ℕ} {p : Piece} (b : BeginWithPiece bytes p) where
       let text : p.text ≡ 92 ∷ shape.1 = shape.2 ∙ ap (λ (c : ℕ). c ∷ shape.1) (slash_only shape.0 shape.3) in
       record { end = shape.1; text = text; is = shape.4; later = rest_is bytes 1 ∙ ap (drop 1) (after_first 92 shape.1 text (omega arith)) }
 
-  pub join_taken : p.class ≡ join → IsTakenFor p (record { role = roles.Join; len = 1 + line_end_len (rest_of bytes 1); line_ends = 1 })
+  pub join_taken : p.class ≡ join → IsTakenFor p (record { role = Role.joins; len = 1 + line_end_len (rest_of bytes 1); line_ends = 1 })
   unfolding is_line_feed is_return
   join_taken is =
       let j = joined is in
@@ -214,15 +212,7 @@ begins_at passes [] (suc n) h = absurd (both_ways _ refl h)
 begins_at passes (b ∷ bs) zero h = (omega arith, h)
 begins_at passes (b ∷ bs) (suc n) h = let (within, is) = begins_at passes bs n h in (omega (arith, within), is)
 
-pub first_passes : (passes : ℕ → Bool) (bytes : List ℕ) → 0 < length bytes → begins passes bytes ≡ passes (slice_index bytes 0)
-first_passes passes [] some = absurd (omega (arith, some))
-first_passes passes (b ∷ bs) some = refl
-
--- so a run ends there
-pub run_ends : (passes : ℕ → Bool) (bytes : List ℕ) (n : ℕ) → IsRunOf passes bytes n → begins passes (drop n bytes) ≡ false
-run_ends passes bytes n run = false_from_ne_true _ (λ h. let (within, is) = begins_at passes bytes n h in both_ways _ (run.ends within) is)
-
--- and at the end of the bytes, where these go on
+-- a run ends at the end of the bytes too, where these go on
 pub run_within : (passes : ℕ → Bool) (bytes ahead : List ℕ) (n k : ℕ) → take (length bytes) ahead ≡ bytes → IsRunOf passes ahead n
     → k ≡ min n (length bytes) → IsRunOf passes bytes k
 run_within passes bytes ahead n k is run least = record {
@@ -268,18 +258,6 @@ module _ {bytes : List ℕ} {p : Piece} (b : BeginWithPiece bytes p) where
   word_len : (n : ℕ) → p.class ≡ word → IsRunOf is_wide_word bytes n → n ≡ byte_len p.text
   word_len n is run =
       run_taken b is_wide_word n wide_even run (text_wide is) (word_ends b.others b.text.after b.text.fit.3 b.text.fit.2 (precedes b word is).0)
-
-  pub word_taken : (n : ℕ) (k : TokKind) → p.class ≡ word → IsRunOf is_wide_word bytes n → k ≡ word_kind (is_ascii_digit (slice_index bytes 0))
-      → IsTakenFor p (record { role = roles.Token k; len = n; line_ends = 0 })
-  word_taken n k is run told =
-      let shape = in_class b word is in
-      let f = first_of bytes p b in
-      let first : f.begun.first ≡ shape.0 = cc (sym f.begun.is ∙ shape.2) in
-      let digit : is_ascii_digit (slice_index bytes 0) ≡ begins is_digit p.text
-      = digit_told (slice_index bytes 0) shape.0 (λ low. sym first ∙ f.low low) (λ high. subst (λ c. 128 ≤ c) first (f.high high))
-      ∙ ap (begins is_digit) (sym shape.2) in
-      taken b word is (ap roles.Token (told ∙ ap word_kind digit)) (word_len n is run)
-      (unbroken p.text (all_other p.text (word-unbroken p.text (in_class b word is))))
 
   -- which is no prefix before a quote
   word_no_prefix : (n : ℕ) → p.class ≡ word → IsRunOf is_wide_word bytes n → EndsPrefix bytes n → ⊥
@@ -332,5 +310,15 @@ module _ {bytes : List ℕ} {p : Piece} (b : BeginWithPiece bytes p) where
   pub is_string : (n : ℕ) → begins is_wide_word bytes ≡ true → IsRunOf is_wide_word bytes n → EndsPrefix bytes n → p.class ≡ string
   is_string n wide run told = ⊎_elim (λ is. absurd (word_no_prefix n is run told)) (λ is. is) (word_or_string wide)
 
-  pub is_word : (n : ℕ) → begins is_wide_word bytes ≡ true → IsRunOf is_wide_word bytes n → (EndsPrefix bytes n → ⊥) → p.class ≡ word
-  is_word n wide run other = ⊎_elim (λ is. is) (λ is. absurd (other (string_prefix n is wide run))) (word_or_string wide)
+  pub word_taken : (n : ℕ) (k : TokKind) → begins is_wide_word bytes ≡ true → IsRunOf is_wide_word bytes n → (EndsPrefix bytes n → ⊥)
+      → k ≡ word_kind (is_ascii_digit (slice_index bytes 0)) → IsTakenFor p (record { role = Role.token_of k; len = n; line_ends = 0 })
+  word_taken n k wide run other told =
+      let is = ⊎_elim (λ is. is) (λ is. absurd (other (string_prefix n is wide run))) (word_or_string wide) in
+      let shape = in_class b word is in
+      let f = first_of bytes p b in
+      let first : f.begun.first ≡ shape.0 = cc (sym f.begun.is ∙ shape.2) in
+      let digit : is_ascii_digit (slice_index bytes 0) ≡ begins is_digit p.text
+      = digit_told (slice_index bytes 0) shape.0 (λ low. sym first ∙ f.low low) (λ high. subst (λ c. 128 ≤ c) first (f.high high))
+      ∙ ap (begins is_digit) (sym shape.2) in
+      taken b word is (ap Role.token_of (told ∙ ap word_kind digit)) (word_len n is run)
+      (unbroken p.text (all_other p.text (word-unbroken p.text (in_class b word is))))

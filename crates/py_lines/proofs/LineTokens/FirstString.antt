@@ -21,7 +21,7 @@ use Rattle.py_lines.specs.Private.FieldMachine.{FieldMode, FieldScanned, breaks,
 use Rattle.py_lines.specs.Private.Scan.{ComesOver, ComesTo as Comes, EndsWithFeed, EndsWithReturn, Follows, Goes, GoesOver, GoesOverAll, HoldsRun, IsOneItem, IsWrongIn, KeepsOpen, Rests, StandsAs, Steps, has_returned, is_break_move, is_free_mode, is_return_at, is_in_code, is_shut, mode_from}
 use Rattle.py_lines.specs.Private.Frames.{has_field}
 use Rattle.py_lines.specs.Private.LineScan.{HasBegun, IsUnderWay, Reached}
-use Rattle.py_lines.specs.Private.LineTokens.{BeginWithPiece}
+use Rattle.py_lines.specs.Private.LineTokens.{BeginWithPiece, FirstPiece, IsFirstPiece}
 use Rattle.py_lines.proofs.FieldMachine.OuterLists.{outer_alone, started_outer}
 use Rattle.py_lines.proofs.FieldScans.Frames.{frames-length}
 use Rattle.py_lines.proofs.FieldScans.PlainCode.{outside_fields}
@@ -46,6 +46,10 @@ use Rattle.py_lines.proofs.Text.Utf8Prefixes.{all_scalars-parts, prefix_chars}
 pub string_within : (bytes : List ℕ) (p : Piece) → BeginWithPiece bytes p → byte_len p.text ≤ length bytes
 string_within bytes p b =
     omega (arith, ap length (spelled_bytes bytes p b), length-append (encode_utf8_all p.text) (encode_utf8_all (spelled b.others)))
+
+-- and as many has the first piece, as it was read
+pub first_within : {bytes : List ℕ} {x : FirstPiece} → (p : Piece) × BeginWithPiece bytes p → IsFirstPiece bytes x → x.len ≤ length bytes
+first_within {bytes} (p, b) is = omega (arith, ap (λ (y : FirstPiece). y.len) (is p b), string_within bytes p b)
 
 -- no piece ends between the characters of an item
 item_at : (t x : FieldScanned) (z : List ℕ) (d : ℕ) (w : List ℕ) → 0 < length z → Goes t z x → IsOneItem t (z ++ d ∷ w)

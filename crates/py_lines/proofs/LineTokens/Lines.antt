@@ -1,6 +1,7 @@
 -- How a line begins, with its mark and its indentation, and how its pieces are read one after another.
+use mir.Val.{bool_byte}
 use Rattle.std.proofs.Common.{◌≡◌, ℕ, ◌+◌, ◌-◌, ◌<◌, ◌≤◌, Bool, true, false, cond, ◌||◌, List, [], ◌∷◌, ◌++◌, length, take, drop, refl, sym, ap, ◌∙◌}
-use Rattle.std.proofs.Common.{subst, append_assoc, append-nil, arith, length-drop, zero, suc, ◌⊎◌, inl, inr, ⊎_elim, zero-add, add-zero}
+use Rattle.std.proofs.Common.{subst, append_assoc, append-nil, arith, length-drop, zero, suc, ◌⊎◌, inl, inr, ⊎_elim, zero-add, add-zero, slice_index}
 use Rattle.std.specs.Prelude.{encode_utf8_all, if◌then◌else◌, nat_eq}
 use Rattle.std.specs.List.{list_any, starts_with}
 use Rattle.std.proofs.Math.Bool.{or-false, or_assoc}
@@ -17,15 +18,13 @@ use Rattle.py_lines.specs.Balance.{depth_after}
 use Rattle.py_lines.specs.LogicalLine.{byte_len, is_code_class, is_comment_class, line_ends, tokens_of_piece, indent_of, kind_of, space_len}
 use Rattle.py_lines.specs.LogicalLine.{tokens_from}
 use Rattle.py_lines.specs.Fields.{AreReadBefore, InClass}
-use Rattle.py_lines.specs.declared.line_tokens.FirstPiece.{FirstPiece}
 use Rattle.py_lines.specs.declared.line_tokens.LineTokens.{LineTokens}
-use Rattle.py_lines.specs.declared.line_tokens.Role.TheVariants as roles
 use Rattle.py_lines.specs.declared.unit.UnitKind.{UnitKind}
 use Rattle.py_lines.specs.declared.unit.UnitKind.TheVariants as unit_kind
 use Rattle.py_lines.specs.declared.class.Class.TheVariants as class
 use Rattle.py_lines.specs.Private.LineTokens.{mark_bytes, mark_len}
-use Rattle.py_lines.specs.Private.LineTokens.{AddsPiece, AreTextAt, AreTokensOf, BeginWithPiece, HaveReadOf, IsTakenFor, kind_on, kind_with, role_of}
-use Rattle.py_lines.specs.Private.LineTokens.{token_in, word_kind, AreLineText, HaveRead}
+use Rattle.py_lines.specs.Private.LineTokens.{AreTextAt, AreTokensOf, BeginWithPiece, HaveReadOf, ReadsPiece, kind_on, kind_with, role_of}
+use Rattle.py_lines.specs.Private.LineTokens.{Role, token_in, token_of, word_kind, AreLineText, FirstPiece, HaveRead}
 use Rattle.py_lines.specs.Private.Run.{IsRunOf}
 use Rattle.py_lines.proofs.FieldScans.TextLengths.{rest_is, rest_of}
 use Rattle.py_lines.proofs.Text.Utf8Prefixes.{all_scalars-parts, prefix_chars}
@@ -34,14 +33,14 @@ use Rattle.py_lines.proofs.Lexings.FirstLines.{piece_some}
 use Rattle.py_lines.proofs.LineScan.LineCount.{line_ends-bytes}
 use Rattle.py_lines.proofs.Text.CharacterTests.{mark_is}
 use Rattle.py_lines.proofs.LogicalLines.NextLine.{line_ends-spelled}
-use Rattle.py_lines.proofs.LineTokens.FirstCharacters.{begins_so, class_told, unmarked_first}
-use Rattle.py_lines.proofs.LineTokens.FirstPieces.{run_ends, space_taken, spaces}
+use Rattle.py_lines.proofs.LineTokens.FirstCharacters.{begins_so, class_told, first_of, unmarked_first}
+use Rattle.py_lines.proofs.LineTokens.FirstPieces.{space_taken, spaces}
 
 -- what a line holds, with code or without, and with comments or without: with one more piece, and with more of them
 abbrev kind_by : Bool → Bool → UnitKind
 kind_by code comments = cond code unit_kind.Code (cond comments unit_kind.Comment unit_kind.Blank)
 
-words_code : (k : UnitKind) (digit : Bool) → kind_with k (roles.Token (word_kind digit)) ≡ unit_kind.Code
+words_code : (k : UnitKind) (digit : Bool) → kind_with k (token_of (word_kind digit)) ≡ unit_kind.Code
 words_code k true = refl
 words_code k false = refl
 
@@ -81,78 +80,136 @@ text_after depth bytes p ps is = record {
   shallow = is.shallow.2;
 }
 
--- a piece that was taken there: there is room for it, and the line is read so far
-pub record IsTakenNext (text : List ℕ) (pieces : List Piece) (first start line : ℕ) (t : LineTokens) (x : FirstPiece) : Type 0 where
-  pub some : 0 < x.len
-  pub within : start + x.len ≤ length text
-  pub lines : line + x.line_ends ≤ first + length text
-  pub more : (u : LineTokens) → AddsPiece t x.role start (start + x.len) line u
-      → (left : List Piece) × HaveReadOf text pieces left first (start + x.len) (line + x.line_ends) u
+-- a piece that was read there: there is room for it, and the line is read so far
+pub record IsReadNext (text : List ℕ) (pieces : List Piece) (first start line len ends : ℕ) (t : LineTokens) : Type 0 where
+  pub some : 0 < len
+  pub within : start + len ≤ length text
+  pub lines : line + ends ≤ first + length text
+  pub left : List Piece
+  pub more : HaveReadOf text pieces left first (start + len) (line + ends) t
 
 -- the line ends of pieces are those of the first and of the others
 line_ends-first : (p : Piece) (ps : List Piece) (after : List ℕ) → AreReadBefore (p ∷ ps) after
     → line_ends (spelled (p ∷ ps)) ≡ line_ends p.text + line_ends (spelled ps)
 line_ends-first p ps after fit = omega (arith, line_ends-spelled (p ∷ ps) after fit, line_ends-spelled ps after fit.3)
 
--- the next piece of a line that isn't read to its end
-pub has_next : {text : List ℕ} {pieces : List Piece} {first start line : ℕ} {t : LineTokens} (left : List Piece) → AreLineText text pieces
-    → HaveReadOf text pieces left first start line t → start < length text
-    → (p : Piece) × BeginWithPiece (rest_of text start) p
-    × ((x : FirstPiece) → IsTakenFor p x → IsTakenNext text pieces first start line t x)
-has_next {text = text} {start = start} [] is h inside = absurd (omega (arith, inside, ap length h.are.spell, length-drop start text))
-has_next {text = text} {pieces = pieces} {first = first} {start = start} {line = line} {t = t} (p ∷ qs) is h inside =
-    let lines : line_ends (spelled (p ∷ qs)) ≡ line_ends p.text + line_ends (spelled qs) = line_ends-first p qs h.are.after h.are.fit in
-    let some : 0 < byte_len p.text = omega (arith, piece_some p.class p.text h.are.fit.0, length-le-encodes p.text) in
-    let within : start + byte_len p.text ≤ length text
-    = omega (arith, inside, ap length h.are.spell, byte_len-append p.text (spelled qs), length-drop start text) in
-    let begin : BeginWithPiece (rest_of text start) p = subst (λ (l : List ℕ). BeginWithPiece l p) (sym (rest_is text start)) (record {
-      unmarked = h.unmarked;
-      others = qs;
+-- a piece of space
+abbrev space_of : List ℕ → Piece
+space_of cs = record { class = space; text = cs }
+
+module _ {text : List ℕ} {pieces : List Piece} {first start line : ℕ} {t : LineTokens} where
+  -- the next piece of a line that isn't read to its end
+  begins_next : (p : Piece) (qs : List Piece) → HaveReadOf text pieces (p ∷ qs) first start line t → BeginWithPiece (rest_of text start) p
+  begins_next p qs h = subst (λ (l : List ℕ). BeginWithPiece l p) (sym (rest_is text start))
+      (record { unmarked = h.unmarked; others = qs; depth = h.depth; text = h.are })
+
+  pub has_next : (left : List Piece) → HaveReadOf text pieces left first start line t → start < length text
+      → (p : Piece) × BeginWithPiece (rest_of text start) p
+  has_next [] h inside = absurd (omega (arith, inside, ap length h.are.spell, length-drop start text))
+  has_next (p ∷ qs) h inside = (p, begins_next p qs h)
+
+  pub read_next : {len ends : ℕ} {u : LineTokens} (left : List Piece) → AreLineText text pieces → HaveReadOf text pieces left first start line t
+      → start < length text → ReadsPiece (rest_of text start) t start line len ends u → IsReadNext text pieces first start line len ends u
+  read_next [] is h inside r = absurd (omega (arith, inside, ap length h.are.spell, length-drop start text))
+  read_next {len = len} (p ∷ qs) is h inside r =
+      let lines : line_ends (spelled (p ∷ qs)) ≡ line_ends p.text + line_ends (spelled qs) = line_ends-first p qs h.are.after h.are.fit in
+      let some : 0 < byte_len p.text = omega (arith, piece_some p.class p.text h.are.fit.0, length-le-encodes p.text) in
+      let taken = r.is p (begins_next p qs h) in
+      let size = ap (λ (y : FirstPiece). y.len) taken in
+      let counted = ap (λ (y : FirstPiece). y.line_ends) taken in
+      record {
+        some = omega (arith, some, size);
+        within = omega (arith, inside, size, ap length h.are.spell, byte_len-append p.text (spelled qs), length-drop start text);
+        lines = omega (arith, h.lines, lines, counted, line_ends-bytes (spelled pieces), ap length is.spell);
+        left = qs;
+        more = record {
+          unmarked = h.are.fit.2;
+          depth = depth_after h.depth p;
+          are = subst (λ (l : List ℕ). AreTextAt (depth_after h.depth p) l qs)
+              (drop-drop (byte_len p.text) start text ∙ ap (λ (n : ℕ). drop (start + n) text) (sym size))
+              (text_after h.depth (drop start text) p qs h.are);
+          lines = omega (arith, h.lines, lines, counted);
+          kind = h.kind ∙ ap (λ k. kind_on k qs) (sym (r.adds.kind ∙ ap (λ (y : FirstPiece). kind_with t.kind y.role) taken));
+          indent = r.adds.indent ∙ h.indent;
+          tokens =
+              h.tokens ∙ rw (r.adds.tokens, append_assoc, sym (own_token p.class p.text start (start + byte_len p.text) line))
+              (ap (λ (y : FirstPiece). t.tokens.items ++ (token_in y.role start (start + y.len) line
+              ++ tokens_from (start + y.len) (line + y.line_ends) qs)) (sym taken));
+        };
+      }
+
+  -- space is passed
+  past_space : (left : List Piece) (n : ℕ) → AreLineText text pieces → HaveReadOf text pieces left first start line t
+      → IsRunOf is_space (rest_of text start) n → (others : List Piece) × HaveReadOf text pieces others first (start + n) line t
+  past_space left zero is h run = (left, subst (λ (k : ℕ). HaveReadOf text pieces left first k line t) (sym (add-zero start)) h)
+  past_space left (suc n) is h run =
+      let inside : start < length text = omega (arith, run.within, ap length (rest_is text start), length-drop start text) in
+      let next : IsReadNext text pieces first start line (suc n) 0 t = read_next left is h inside (record {
+        role = Role.none;
+        is = λ p begin. space_taken begin (suc n) (class_told _ p class.Space begin (run.each 0 (omega arith))) run;
+        adds = record { kind = refl; indent = refl; tokens = sym (append-nil _) };
+      }) in
+      (next.left, subst (λ (l : ℕ). HaveReadOf text pieces next.left first (start + suc n) l t) (add-zero line) next.more)
+
+  -- and the first byte of it
+  less_space : (cs : List ℕ) (qs : List Piece) → HaveReadOf text pieces (space_of (32 ∷ cs) ∷ qs) first start line t
+      → (others : List Piece) × HaveReadOf text pieces others first (start + 1) line t
+  unfolding encode is_line_feed is_return is_space
+  less_space [] qs h = (
+    qs,
+    record {
+      unmarked = h.are.fit.2;
       depth = h.depth;
-      text = h.are;
-    }) in (
-      p,
-      begin,
-      λ x taken.
-          let size = ap (λ (y : FirstPiece). y.len) taken in
-          let counted = ap (λ (y : FirstPiece). y.line_ends) taken in
-          record {
-            some = omega (arith, some, size);
-            within = omega (arith, within, size);
-            lines = omega (arith, h.lines, lines, counted, line_ends-bytes (spelled pieces), ap length is.spell);
-            more = λ u adds. (
-              qs,
-              record {
-                unmarked = h.are.fit.2;
-                depth = depth_after h.depth p;
-                are = subst (λ (l : List ℕ). AreTextAt (depth_after h.depth p) l qs)
-                    (drop-drop (byte_len p.text) start text ∙ ap (λ (n : ℕ). drop (start + n) text) (sym size))
-                    (text_after h.depth (drop start text) p qs h.are);
-                lines = omega (arith, h.lines, lines, counted);
-                kind = h.kind ∙ ap (λ k. kind_on k qs) (sym (adds.kind ∙ ap (λ (y : FirstPiece). kind_with t.kind y.role) taken));
-                indent = adds.indent ∙ h.indent;
-                tokens = h.tokens ∙ rw (adds.tokens, taken, append_assoc, own_token p.class p.text);
-              },
-            );
-          },
-    )
+      are = subst (λ l. AreTextAt h.depth l qs) (drop-drop 1 start text) (text_after h.depth (drop start text) (space_of (32 ∷ [])) qs h.are);
+      lines = omega (arith, h.lines);
+      kind = h.kind;
+      indent = h.indent;
+      tokens = h.tokens ∙ ap (λ n. t.tokens.items ++ tokens_from (start + 1) n qs) (add-zero line);
+    },
+  )
+  less_space (d ∷ ds) qs h =
+      let place : start + byte_len (32 ∷ d ∷ ds) ≡ start + 1 + byte_len (d ∷ ds) = omega arith in
+      let ends : line + line_ends (32 ∷ d ∷ ds) ≡ line + line_ends (d ∷ ds) = omega arith in (
+        space_of (d ∷ ds) ∷ qs,
+        record {
+          unmarked = refl;
+          depth = h.depth;
+          are = record {
+            scalars = (all_scalars-parts (32 ∷ []) (d ∷ ds ++ spelled qs) h.are.scalars).1;
+            spell = ap (drop 1) h.are.spell ∙ drop-drop 1 start text;
+            after = h.are.after;
+            fit = ((d, ds, refl, h.are.fit.0.3), h.are.fit.1, h.are.fit.2, h.are.fit.3);
+            shallow = (h.are.shallow.0, λ no. absurd (cc), h.are.shallow.2);
+          };
+          lines = omega (arith, h.lines);
+          kind = h.kind;
+          indent = h.indent;
+          tokens = h.tokens ∙ (λ i. t.tokens.items ++ tokens_from (place i) (ends i) qs);
+        },
+      )
 
--- space is passed
-pub past_space : {text : List ℕ} {pieces : List Piece} {first start line : ℕ} {t : LineTokens} (left : List Piece) (n : ℕ) → AreLineText text pieces
-    → HaveReadOf text pieces left first start line t → IsRunOf is_space (rest_of text start) n
-    → (others : List Piece) × HaveReadOf text pieces others first (start + n) line t
-past_space {text = text} {pieces = pieces} {first = first} {start = start} {line = line} {t = t} left zero is h run =
-    (left, subst (λ (k : ℕ). HaveReadOf text pieces left first k line t) (sym (add-zero start)) h)
-past_space {text = text} {pieces = pieces} {first = first} {start = start} {line = line} {t = t} left (suc n) is h run =
-    let (p, begin, next) = has_next left is h (omega (arith, run.within, ap length (rest_is text start), length-drop start text)) in
-    let spaces = class_told _ p class.Space begin (run.each 0 (omega arith)) in
-    let (others, on) = (next _ (space_taken begin (suc n) spaces run)).more t (record { kind = refl; indent = refl; tokens = sym (append-nil _) }) in
-    (others, subst (λ (l : ℕ). HaveReadOf text pieces others first (start + suc n) l t) (add-zero line) on)
+  -- and one byte, where it is a space
+  pub past_byte : (left : List Piece) (is : Bool) → HaveReadOf text pieces left first start line t
+      → is ≡ starts_with nat_eq (rest_of text start) (32 ∷ [])
+      → (others : List Piece) × HaveReadOf text pieces others first (start + bool_byte is) line t
+  unfolding is_space
+  past_byte left false h starts = (left, subst (λ n. HaveReadOf text pieces left first n line t) (sym (add-zero start)) h)
+  past_byte [] true h starts =
+      absurd (both_ways _ (ap (λ l. starts_with nat_eq l (32 ∷ [])) (rest_is text start ∙ sym h.are.spell)) (sym starts))
+  past_byte (p ∷ qs) true h starts =
+      let begin = begins_next p qs h in
+      let at = ap (λ l. slice_index l 0) ((starts_is Decides-eqb (rest_of text start) (32 ∷ []) _ starts).0 refl) in
+      let f = first_of _ p begin in
+      let spaces = class_told _ p class.Space begin (ap is_space at) in
+      let is = f.begun.is ∙ ap (λ c. c ∷ f.begun.others) (f.low (omega (arith, at)) ∙ at) in
+      less_space f.begun.others qs
+      (subst (λ q. HaveReadOf text pieces (q ∷ qs) first start line t) (λ i. record { class = spaces i; text = is i }) h)
 
--- so that no space follows
-pub space_over : (text : List ℕ) (start n : ℕ) → IsRunOf is_space (rest_of text start) n → begins is_space (drop (start + n) text) ≡ false
-space_over text start n run =
-    ap (begins is_space) (sym (ap (drop n) (rest_is text start) ∙ drop-drop n start text)) ∙ run_ends is_space (rest_of text start) n run
+-- which lies within the text
+pub byte_within : (text : List ℕ) (start : ℕ) (is : Bool) → start ≤ length text → (is ≡ true → 1 ≤ length (rest_of text start))
+    → start + bool_byte is ≤ length text
+byte_within text start false less some = omega (arith, less)
+byte_within text start true less some = omega (arith, some refl, ap length (rest_is text start), length-drop start text)
 
 -- what is left of a line, and of the bytes that it begins
 pub left_ahead : (bytes : List ℕ) (len start : ℕ) → len ≤ length bytes → start ≤ len

@@ -14,11 +14,9 @@ use Rattle.py_lines.specs.PieceGrammar.{IsNoneOr, IsPrefix, IsShortString, is_sh
 use Rattle.py_lines.specs.FieldStrings.{is_field_prefix}
 use Rattle.py_lines.specs.Fields.{InClass, MayPrecede, fielded}
 use Rattle.py_lines.specs.LogicalLine.{byte_len, line_ends}
-use Rattle.py_lines.specs.declared.token.TokKind.TheVariants as kind
-use Rattle.py_lines.specs.declared.line_tokens.Role.TheVariants as roles
 use Rattle.py_lines.specs.Private.Machine.{IsFull, first_spelling, is_field_spelling, spelling_on}
 use Rattle.py_lines.specs.Private.Run.{IsWholePlainString, is_body_byte, is_comment_byte, is_text_byte, word_spelling}
-use Rattle.py_lines.specs.Private.LineTokens.{BeginWithPiece, IsFirstPiece, is_prefix_word}
+use Rattle.py_lines.specs.Private.LineTokens.{BeginWithPiece, IsFirstPiece, is_prefix_word, string_piece}
 use Rattle.py_lines.proofs.Text.Utf8Prefixes.{prefix_chars}
 use Rattle.py_lines.proofs.Pieces.PieceLists.{piece}
 use Rattle.py_lines.proofs.Fields.OneReading.{compare_pieces}
@@ -158,7 +156,7 @@ module _ (word : List ℕ) (q : ℕ) (run : List ℕ) (w : IsPlainPrefix word) (
 
 pub plain_taken : (bytes : List ℕ) (n len : ℕ) → begins is_quote (drop n bytes) ≡ true → is_prefix_word (take n bytes) ≡ true
     → is_field_spelling (word_spelling (take n bytes)) ≡ false → IsWholePlainString (rest_of bytes n) len
-    → IsFirstPiece bytes (record { role = roles.Token kind.Str; len = n + len; line_ends = 0 })
+    → IsFirstPiece bytes (string_piece (n + len) 0)
 unfolding whole
 plain_taken bytes n len quotes prefix plain s p b =
     let word = take n bytes in

@@ -93,7 +93,7 @@ move_holds (Mode.Escape q) held c (before, slash, is, items, slashes) =
     let spell = one_after before held slash c is in
     grind (arith, spell, subst (HoldsSome q) (sym spell) (short_push q before (slash ∷ c ∷ []) items (and_from _ _ slashes refl) tt))
 move_holds (Mode.EscapeReturn q) held c (before, slash, r, is, items, slashes, returns) =
-    let spell : held ++ c ∷ [] ≡ before ++ slash ∷ r ∷ c ∷ [] = simp (is, append_assoc) in
+    let spell : held ++ c ∷ [] ≡ before ++ slash ∷ r ∷ c ∷ [] = ap (λ t. t ++ c ∷ []) is ∙ append_assoc before (slash ∷ r ∷ []) (c ∷ []) in
     let whole = returned_items q [] held (before, slash, r, is, items, slashes, returns) in
     let fed : is_line_feed c ≡ true → HoldsSome q (held ++ c ∷ []) = λ h. subst (HoldsSome q) (sym spell) (short_push q before (slash ∷ r ∷ c ∷ []) items (and_from _ _ (and_from _ _ (and_from _ _ slashes returns) h) refl) tt) in
     grind (arith, fed, close_holds held q c whole, short_holds (Mode.EscapeReturn q) held q c whole.0)

@@ -1,5 +1,6 @@
 -- A short string with fields whose text is simple, after plain bytes that end with its prefix, as the scan would take it.
-use Rattle.std.proofs.Common.{◌≡◌, ℕ, suc, ◌+◌, ◌<◌, ◌≤◌, Bool, true, false, Option, Some, List, ◌∷◌, length, drop, slice_index, refl, ap, ◌∙◌, subst, drop-cons}
+use Rattle.std.proofs.Common.{◌≡◌, ℕ, suc, ◌+◌, ◌<◌, ◌≤◌, Bool, true, false, Option, None, Some, List, ◌∷◌, length, drop, slice_index, refl, sym, ap, ◌∙◌, subst, drop-cons}
+use Rattle.std.proofs.lemmas.Bool.{both_ways}
 use Rattle.std.specs.Prelude.{codes}
 use Rattle.py_lines.specs.Character.{is_backslash, is_quote}
 use Rattle.py_lines.specs.declared.host.Region.TheVariants as regions
@@ -11,7 +12,7 @@ use Rattle.py_lines.specs.declared.scan.Scan.{Scan}
 use Rattle.py_lines.specs.Private.FieldText.{HasText}
 use Rattle.py_lines.specs.Private.Machine.{is_field_spelling, is_raw_spelling}
 use Rattle.py_lines.specs.Private.Marks.{is_plain}
-use Rattle.py_lines.specs.Private.Passing.{tail_of}
+use Rattle.py_lines.specs.Private.Passing.{TellsFields, tail_of}
 use Rattle.py_lines.specs.Private.Scan.{IsTextAt, mode_from, quotes_in}
 use Rattle.py_lines.proofs.Machine.Spellings.{field_begins}
 use Rattle.py_lines.proofs.FieldScans.PlainCode.{over_code}
@@ -21,8 +22,9 @@ use Rattle.py_lines.proofs.PassedPieces.PlainBytes.{IsTail, PlainTo}
 use Rattle.py_lines.proofs.Text.CharacterTests.{each_of}
 
 -- the prefix of a string with fields
-abbrev pub IsFieldWord : Option Spelling → Type 0
-IsFieldWord o = (s : Spelling) × (o ≡ Some s) × (is_field_spelling s ≡ true)
+field_word : (o : Option Spelling) → TellsFields o (Some true) → (s : Spelling) × (o ≡ Some s) × (is_field_spelling s ≡ true)
+field_word None has = absurd (both_ways _ has refl)
+field_word (Some s) (begins, has) = (s, refl, sym has)
 
 -- the text of a short string with fields
 module _ (q : ℕ) (raw : Bool) (quote : is_quote q ≡ true) where
@@ -39,10 +41,11 @@ module _ (q : ℕ) (raw : Bool) (quote : is_quote q ≡ true) where
 
 -- a string with fields, before whose quote its prefix stands
 pub field_over : {scan : Scan} {run : List ℕ} (p : PlainTo scan run) (q : ℕ) (special : is_plain q ≡ false) (bytes : List ℕ) (n : ℕ)
-    → is_quote q ≡ true → IsFieldWord (tail_of run) → length (over_code scan run).frames ≤ 100
+    → is_quote q ≡ true → TellsFields (tail_of run) (Some true) → length (over_code scan run).frames ≤ 100
     → Some 1 ≡ quotes_in (q ∷ bytes) → HasText q bytes n → n < length bytes → slice_index bytes n ≡ q
     → Over p q bytes special (1 + (n + 1)) (over_code scan run).frames
-field_over {scan} {run} p q special bytes n quote (s, is, prefix) few alone text within last =
+field_over {scan} {run} p q special bytes n quote tells few alone text within last =
+    let (s, is, prefix) = field_word (tail_of run) tells in
     let raw = is_raw_spelling s in
     let m : OpenMode = mode q raw quote in
     let mid : Scan = over_code scan run in

@@ -23,7 +23,7 @@ use Rattle.py_lines.specs.Private.FieldMachine.{FieldScanned, closes, closing_mo
 use Rattle.py_lines.specs.Private.LineEnds.{BeginsOuterEnd}
 use Rattle.py_lines.specs.Private.Machine.{begins_string, is_field_spelling, move_of, short_move}
 use Rattle.py_lines.specs.Private.Mode as modes
-use Rattle.py_lines.specs.Private.Passing.{EndsAfter, tail_of, with_frames}
+use Rattle.py_lines.specs.Private.Passing.{EndsAfter, TellsFields, tail_of, with_frames}
 use Rattle.py_lines.specs.Private.Run.{is_body_byte, is_line_byte, is_text_byte}
 use Rattle.py_lines.specs.Private.Scan.{ComesTo, Follows, GoesOver, GrowsInText, IsTextAt, QuotesInText, Steps, Takes, TakesOperator, TextGoes, begun_at, ends_before, grown, is_text, line_end_progress, mode_from, passed, quotes_in, string_mode, with_bytes}
 use Rattle.py_lines.specs.Private.Marks.{is_plain}
@@ -119,11 +119,6 @@ module _ (q : ℕ) (quote : is_quote q ≡ true) where
       (grows_low (plain (modes.Inside q)) (plain (modes.Inside q)) (opens.Short q) (92 ∷ c ∷ []) rest (refl, quote) (rw (is_low_from c low) refl) (omega arith) (slash_goes c none)
       (text_as-self rest (plain (modes.Inside q)))))
       (ap (λ m. record old { mode = m; stop = old.stop + 2 }) mode))
-
--- no word ends there, or the prefix of a string without fields
-abbrev pub PlainBefore : Option Spelling → Type 0
-PlainBefore None = Unit {0}
-PlainBefore (Some s) = (begins_string s ≡ true) × (is_field_spelling s ≡ false)
 
 -- what a byte that isn't plain begins, after plain bytes
 module _ {scan : Scan} {run : List ℕ} (p : PlainTo scan run) (c : ℕ) (rest : List ℕ) (special : is_plain c ≡ false) where
@@ -237,7 +232,8 @@ module _ {scan : Scan} {run : List ℕ} (p : PlainTo scan run) (q : ℕ) (specia
       (takes_step before_it (passed before_it 2) (q ∷ rest) 2 (λ t follow. quotes_empty before_it t (q ∷ rest) follow quote before_quote 2 two refl))
 
   -- one without fields, before whose quote no word stands, or its prefix
-  pub string_over : (text rest : List ℕ) → Some 1 ≡ quotes_in (q ∷ (text ++ q ∷ rest)) → Stays (opens.Short q) text → PlainBefore (tail_of run)
+  pub string_over : (text rest : List ℕ) → Some 1 ≡ quotes_in (q ∷ (text ++ q ∷ rest)) → Stays (opens.Short q) text
+      → TellsFields (tail_of run) (Some false)
       → Over p q (text ++ q ∷ rest) special (1 + (length text + 1)) before_it.frames
   string_over text rest alone inside before = go (tail_of run) p.tail before
     where
@@ -247,9 +243,9 @@ module _ {scan : Scan} {run : List ℕ} (p : PlainTo scan run) (q : ℕ) (specia
           string_taken s start (opens.Short q) (length text) (text ++ q ∷ rest) rest begun (rw simple refl) alone
           refl refl (refl, refl) (drop-append_seam text (q ∷ rest)) (inside (Opened (opens.Short q) start) refl (q ∷ rest))
 
-      go : (o : Option Spelling) → IsTail o before_it.mode → PlainBefore o
+      go : (o : Option Spelling) → IsTail o before_it.mode → TellsFields o (Some false)
           → Over p q (text ++ q ∷ rest) special (1 + (length text + 1)) before_it.frames
-      go (Some s) is (begins, simple) = by s before_it.start simple (with_prefix s is begins)
+      go (Some s) is (begins, simple) = by s before_it.start (sym simple) (with_prefix s is begins)
       go None is none =
           let no_word = other_word before_it (λ s same. subst (IsTail None) same is) in
           by spellings.Name before_it.stop refl (λ t follow. after_piece before_it t q follow quote before_quote no_word)

@@ -1,12 +1,15 @@
 -- LF that are passed before the next other byte that isn't plain, in one block of 64 bytes after another.
-use Rattle.std.proofs.Common.{◌≡◌, ℕ, ◌+◌, ◌<◌, ◌≤◌, ◌||◌, true, None, Some, List, [], ◌∷◌, slice_index, refl, sym, ap, ◌∙◌, subst, arith, inl, inr}
+use Rattle.std.proofs.Common.{◌≡◌, ℕ, ◌+◌, ◌<◌, ◌≤◌, ◌||◌, true, List, [], ◌∷◌, drop, slice_index, refl, sym, ap, ◌∙◌, subst, arith, inl, inr}
 use Rattle.std.proofs.lemmas.Bool.{cases_lt}
 use Rattle.py_lines.specs.Character.{is_line_feed}
 use Rattle.py_lines.specs.declared.frames.Frame.{Frame}
 use Rattle.py_lines.specs.declared.marks.Marks.{Marks}
 use Rattle.py_lines.specs.declared.passing.Passing.{Passing}
+use Rattle.py_lines.specs.LogicalLine.{line_ends}
+use Rattle.py_lines.specs.Private.LineEnds.{CountsTo}
 use Rattle.py_lines.specs.Private.Marks.{Advances, ArePlain, EndInFeed, FindsNext, HasMarks, is_plain}
-use Rattle.py_lines.specs.Private.Passing.{FindsSpecial, PassesBlock, PassesLineFeeds, lines_with, passed_line_end}
+use Rattle.py_lines.specs.Private.Passing.{CountsOn, FindsSpecial, IsCounted, PassesBlock, PassesLineFeeds, lines_with, passed_feeds}
+use Rattle.py_lines.proofs.PassedPieces.Counts.{plain_counts}
 
 -- the LF up to here were passed, and the bytes between them and those of the marks are plain
 pub record ComesTo (bytes : List ℕ) (fs : List Frame) (old new : Passing) : Type 0 where
@@ -23,8 +26,8 @@ begins_there fs old marked =
 -- the marks are of the same 64 bytes
 pub base_kept : (bytes : List ℕ) (from : ℕ) (fs : List Frame) (old new : Passing) → PassesBlock bytes from fs old new
     → new.marks.base ≡ old.marks.base
-base_kept bytes from fs old new (None, same, is) = ap (λ (m : Marks). m.base) same
-base_kept bytes from fs old new (Some to, (base, ends, marked), is) = base
+base_kept bytes from fs old new (inl same) = ap (λ (p : Passing). p.marks.base) same
+base_kept bytes from fs old new (inr (to, feeds, passes, is)) = passes.base
 
 -- other bytes before them are passed too
 ends_later : {bytes : List ℕ} {b to : ℕ} (a : ℕ) → a ≤ b
@@ -46,25 +49,35 @@ lines_again [] lines a b = refl
 lines_again (f ∷ fs) lines a b = refl
 
 module _ {bytes : List ℕ} {fs : List Frame} {old mid : Passing} (come : ComesTo bytes fs old mid) where
+  counts : CountsOn bytes old mid
+  counts = elim come.passes [ inl is ↦ ap (λ (p : Passing). p.ends + line_ends (drop p.all bytes)) is | inr (ends, counted, is) ↦ counted ]
+
+  pub counted_so : IsCounted bytes old → IsCounted bytes mid
+  counted_so all = counts ∙ all
+
   -- up to LF
-  pub feeds_passed : (to : ℕ) (marks : Marks) → EndInFeed bytes come.from to → HasMarks bytes to marks
-      → ComesTo bytes fs old (record (passed_line_end fs mid to) { marks = marks })
-  feeds_passed to marks ends marked =
-      let later = ends_later mid.all come.upto
-      (λ i from less. ap (λ p. p || is_line_feed (slice_index bytes i)) (come.plain i from less (omega (arith, less, ends.further, ends.within))))
-      ends in
+  feeds_passed : (to feeds : ℕ) (marks : Marks) → EndInFeed bytes come.from to → CountsTo bytes come.from to feeds → HasMarks bytes to marks
+      → ComesTo bytes fs old (passed_feeds fs mid to (mid.ends + feeds) marks)
+  feeds_passed to feeds marks ends counted marked =
+      let plain : (i : ℕ) → mid.all ≤ i → i < come.from → is_plain (slice_index bytes i) ≡ true =
+      λ i from less. come.plain i from less (omega (arith, less, ends.further, ends.within)) in
+      let later = ends_later mid.all come.upto (λ i from less. ap (λ p. p || is_line_feed (slice_index bytes i)) (plain i from less)) ends in
+      let all : mid.ends + feeds + line_ends (drop to bytes) ≡ old.ends + line_ends (drop old.all bytes) =
+      omega (arith, counts, counted, plain_counts bytes mid.all come.from come.upto (omega (arith, ends.further, ends.within)) plain) in
       record {
         passes = elim come.passes [
           | inl is ↦
               inr (
                 subst (λ (n : ℕ). EndInFeed bytes n to) (ap (λ (p : Passing). p.all) is) later,
-                ap (λ (p : Passing). record (passed_line_end fs p to) { marks = marks }) is,
+                all,
+                ap (λ (p : Passing). passed_feeds fs p to (mid.ends + feeds) marks) is,
               )
-          | inr (first, is) ↦
+          | inr (first, before, is) ↦
               inr (
                 ends_later old.all (omega (arith, first.further)) first.each later,
-                ap (λ (p : Passing). record (passed_line_end fs p to) { marks = marks }) is
-                    ∙ ap (λ (n : ℕ). record { all = to; lines = n; marks = marks }) (lines_again fs old.lines mid.all to),
+                all,
+                ap (λ (p : Passing). passed_feeds fs p to (mid.ends + feeds) marks) is
+                    ∙ ap (λ (n : ℕ). record { all = to; ends = mid.ends + feeds; lines = n; marks = marks }) (lines_again fs old.lines mid.all to),
               )
         ];
         from = to;
@@ -77,14 +90,14 @@ module _ {bytes : List ℕ} {fs : List Frame} {old mid : Passing} (come : ComesT
   block_passed new block = by (block come.from come.marked)
     where
       by : PassesBlock bytes come.from fs mid new → ComesTo bytes fs old new
-      by (None, same, is) = subst (ComesTo bytes fs old) (sym (is ∙ ap (λ (m : Marks). record mid { marks = m }) same)) come
-      by (Some to, (base, ends, marked), is) = subst (ComesTo bytes fs old) (sym is) (feeds_passed to new.marks ends marked)
+      by (inl same) = subst (ComesTo bytes fs old) (sym same) come
+      by (inr (to, feeds, to_it, is)) = subst (ComesTo bytes fs old) (sym is) (feeds_passed to feeds new.marks to_it.ends to_it.counted to_it.marked)
 
   -- with other marks
   other_marks : (marks : Marks) → PassesLineFeeds bytes fs old (record mid { marks = marks })
   other_marks marks = elim come.passes [
     | inl is ↦ inl (ap (λ (p : Passing). record p { marks = marks }) is)
-    | inr (ends, is) ↦ inr (ends, ap (λ (p : Passing). record p { marks = marks }) is)
+    | inr (ends, counted, is) ↦ inr (ends, counted, ap (λ (p : Passing). record p { marks = marks }) is)
   ]
 
   -- to the next block

@@ -14,10 +14,11 @@ use Rattle.py_lines.specs.declared.scan.Scan.{Scan}
 use Rattle.py_lines.specs.Private.Frames.{IsClosedBy, OpensFrame, has_field}
 use Rattle.py_lines.specs.Private.LineEnds.{BeginsOuterEnd}
 use Rattle.py_lines.specs.Private.Marks.{FindsNext, HasMarks, is_plain}
-use Rattle.py_lines.specs.Private.Passing.{EndsAfter, PassesSo, PassesSpecial, StandsFree, line_end_special, passed_line_end, with_frames}
+use Rattle.py_lines.specs.Private.Passing.{CountsOn, EndsAfter, PassesSo, PassesSpecial, StandsFree, line_end_special, passed_line_end, passed_to, with_frames}
 use Rattle.py_lines.specs.Private.Scan.{Takes, passed}
 use Rattle.py_lines.proofs.LineScan.AsciiRuns.{all_pass}
 use Rattle.py_lines.proofs.FieldScans.PlainCode.{over_code}
+use Rattle.py_lines.proofs.PassedPieces.Counts.{NoEnds, byte_counts, end_counts, plain_counts}
 use Rattle.py_lines.proofs.PassedPieces.FirstBytes.{bytes_from}
 use Rattle.py_lines.proofs.PassedPieces.Items.{Over, break_ends, break_over, closing_over, opening_over}
 use Rattle.py_lines.proofs.PassedPieces.PlainBytes.{PlainTo, plain_run}
@@ -65,16 +66,24 @@ module _ (bytes : List ℕ) (at : ℕ) (old : Passing) (next : FindsNext bytes o
       plain_run scan run stands.mode (ap has_field stands.frames ∙ stands.outside)
       (plain_between bytes old.all at old.marks next at next.after (omega arith))
 
+  run_counted : NoEnds bytes old.all at
+  run_counted = plain_counts bytes old.all at next.after next.within next.plain
+
+  -- the line ends of the bytes from there on are counted
+  abbrev Counted : Passing → Type 0
+  Counted new = CountsOn bytes (record old { all = at }) new
+
   -- so many bytes more are passed
   passes_so : (new : Passing) (b c : List Frame) (k place : ℕ) → 0 < k → at + k ≤ length bytes → new.all ≡ at + k → new.lines ≡ old.lines
-      → HasMarks bytes new.all new.marks → (has_field b ≡ false → has_field c ≡ false)
+      → Counted new → HasMarks bytes new.all new.marks → (has_field b ≡ false → has_field c ≡ false)
       → ((scan : Scan) (p : PlainTo scan run) → (over_code scan run).frames ≡ b → (over_code scan run).stop ≡ place
       → Over p first after special k c) → PassesSo bytes at place old b new c
-  passes_so new b c k place some room all lines marked outside on =
+  passes_so new b c k place some room all lines counted marked outside on =
       record {
         further = omega (arith, all, some);
         within = omega (arith, all, room);
         lines = lines;
+        counted = omega (arith, counted, run_counted);
         marked = marked;
         outside = outside;
         over = λ start there scan stands.
@@ -85,25 +94,29 @@ module _ (bytes : List ℕ) (at : ℕ) (old : Passing) (next : FindsNext bytes o
       }
 
   -- a bracket
-  pub opening_passed : (new : Passing) (b c : List Frame) (place : ℕ) → new.all ≡ at + 1 → new.lines ≡ old.lines → HasMarks bytes new.all new.marks
-      → is_opening first ≡ true → OpensFrame b (frame.Bracket first place) true c → PassesSo bytes at place old b new c
-  opening_passed new b c place all lines marked opening met =
-      passes_so new b c 1 place (omega arith) (omega (arith, within)) all lines marked (λ outside. ap has_field met.1 ∙ outside)
+  pub opening_passed : (m : Marks) (b c : List Frame) (place : ℕ) → HasMarks bytes (at + 1) m → is_opening first ≡ true
+      → OpensFrame b (frame.Bracket first place) true c → PassesSo bytes at place old b (passed_to old (at + 1) old.ends m) c
+  unfolding is_opening
+  opening_passed m b c place marked opening met =
+      passes_so _ b c 1 place (omega arith) (omega (arith, within)) refl refl
+      (ap (λ n. old.ends + n) (byte_counts is_opening refl bytes at within opening)) marked (λ outside. ap has_field met.1 ∙ outside)
       (λ scan p frames there. opening_over p first after special c opening (rw (frames, there) met))
 
-  pub closing_passed : (new : Passing) (b c : List Frame) (place : ℕ) → new.all ≡ at + 1 → new.lines ≡ old.lines → HasMarks bytes new.all new.marks
-      → is_closing first ≡ true → IsClosedBy b first c → PassesSo bytes at place old b new c
-  closing_passed new b c place all lines marked closing met =
-      passes_so new b c 1 place (omega arith) (omega (arith, within)) all lines marked (λ outside. sym (ap has_field met.2) ∙ outside)
+  pub closing_passed : (m : Marks) (b c : List Frame) (place : ℕ) → HasMarks bytes (at + 1) m → is_closing first ≡ true
+      → IsClosedBy b first c → PassesSo bytes at place old b (passed_to old (at + 1) old.ends m) c
+  unfolding is_closing
+  closing_passed m b c place marked closing met =
+      passes_so _ b c 1 place (omega arith) (omega (arith, within)) refl refl
+      (ap (λ n. old.ends + n) (byte_counts is_closing refl bytes at within closing)) marked (λ outside. sym (ap has_field met.2) ∙ outside)
       (λ scan p frames there. closing_over p first after special c closing (rw frames met))
 
   -- a piece after which the same frames are open
   pub passes_same : (new : Passing) (b : List Frame) (k place : ℕ) → 0 < k → at + k ≤ length bytes → new.all ≡ at + k → new.lines ≡ old.lines
-      → HasMarks bytes new.all new.marks
+      → Counted new → HasMarks bytes new.all new.marks
       → ((scan : Scan) (p : PlainTo scan run) → (over_code scan run).frames ≡ b → Over p first after special k (over_code scan run).frames)
       → PassesSo bytes at place old b new b
-  passes_same new b k place some room all lines marked on =
-      passes_so new b b k place some room all lines marked (λ outside. outside)
+  passes_same new b k place some room all lines counted marked on =
+      passes_so new b b k place some room all lines counted marked (λ outside. outside)
       (λ scan p frames there. subst (Over p first after special k) frames (on scan p frames))
 
   -- a line end, by whether something is open
@@ -115,12 +128,16 @@ module _ (bytes : List ℕ) (at : ℕ) (old : Passing) (next : FindsNext bytes o
     room : at + len ≤ length bytes
     room = omega (arith, begins.within, length-drop at bytes, within)
 
+    counted : Counted (record old { all = at + len; ends = old.ends + 1 })
+    counted = omega (arith, end_counts bytes at len begins)
+
     pub line_end_passed : (b : List Frame)
         → PassesSpecial bytes at place old b (line_end_special b len) (passed_line_end b (record old { marks = m }) (at + len)) b
     line_end_passed [] = record {
       all = refl;
       within = room;
       lines = refl;
+      counted = omega (arith, counted, run_counted);
       marked = marked;
       some = begins.some;
       frames = refl;
@@ -133,7 +150,7 @@ module _ (bytes : List ℕ) (at : ℕ) (old : Passing) (next : FindsNext bytes o
     }
     line_end_passed (f ∷ fs) =
         let some : length (f ∷ fs) == 0 ≡ false = ne_eqb _ 0 (λ none. absurd (omega (arith, none))) in
-        passes_same _ (f ∷ fs) len place begins.some room refl refl marked
+        passes_same _ (f ∷ fs) len place begins.some room refl refl counted marked
         (λ scan p frames. break_over p first after special len ends there (ap (λ (fs : List Frame). length fs == 0) frames ∙ some))
 
 -- LF is a line end

@@ -12,13 +12,15 @@ use Rattle.py_lines.specs.declared.marks.Marks.{Marks}
 use Rattle.py_lines.specs.declared.mode.Mode.{Mode as OpenMode}
 use Rattle.py_lines.specs.declared.mode.Mode.TheVariants as opens
 use Rattle.py_lines.specs.declared.passing.Passing.{Passing}
+use Rattle.py_lines.specs.LogicalLine.{line_ends}
 use Rattle.py_lines.specs.Private.Marks.{FindsNext, HasMarks, is_plain}
-use Rattle.py_lines.specs.Private.Passing.{PassesSo, tail_of}
+use Rattle.py_lines.specs.Private.Passing.{PassesSo, TellsFields, passed_to, word_before}
+use Rattle.py_lines.proofs.PassedPieces.Counts.{NoEnds, byte_counts, line_byte_counts, plain_counts, quoted_counts}
 use Rattle.py_lines.specs.Private.Run.{is_ascii_word, is_body_byte, is_line_byte, is_text_byte}
 use Rattle.py_lines.specs.Private.Scan.{quotes_in}
 use Rattle.py_lines.proofs.LineScan.AsciiRuns.{is_low_from}
 use Rattle.py_lines.proofs.PassedPieces.FirstBytes.{bytes_from, first_later, taken_one, taken_two}
-use Rattle.py_lines.proofs.PassedPieces.Items.{Over, PlainBefore, Stays, comment_byte, comment_over, escape_stays, stays_on, stays_run, string_over, text_byte}
+use Rattle.py_lines.proofs.PassedPieces.Items.{Over, Stays, comment_byte, comment_over, escape_stays, stays_on, stays_run, string_over, text_byte}
 use Rattle.py_lines.proofs.PassedPieces.Passed.{cut, cut-length, passes_same, plain_between}
 use Rattle.py_lines.proofs.FieldScans.PlainCode.{over_code, plain_low}
 use Rattle.py_lines.proofs.Text.CharacterTests.{excluded, none_of}
@@ -57,11 +59,12 @@ plain_text q c special plain =
 abbrev TakesPlain : OpenMode → Type 0
 TakesPlain m = (c : ℕ) → is_plain c ≡ true → Stays m (c ∷ [])
 
--- so do the bytes after this one, up to a byte that isn't plain, or all
+-- so do the bytes after this one, up to a byte that isn't plain, or all; they hold no line end
 pub record Reads (m : OpenMode) (bytes : List ℕ) (at end : ℕ) (marks : Marks) : Type 0 where
   pub plain : TakesPlain m
   pub further : at < end
   pub stays : Stays m (between bytes (at + 1) end)
+  pub counted : NoEnds bytes (at + 1) end
   pub from : ℕ
   pub next : FindsNext bytes from end marks
 
@@ -71,13 +74,18 @@ pub record Item (m : OpenMode) (bytes : List ℕ) (end : ℕ) (marks : Marks) : 
   pub some : 0 < len
   pub marked : HasMarks bytes (end + len) marks
   pub stays : Stays m (between bytes end (end + len))
+  pub counted : NoEnds bytes end (end + len)
+
+plain_on : (bytes : List ℕ) (from end : ℕ) (marks : Marks) → FindsNext bytes from end marks → NoEnds bytes from end
+plain_on bytes from end marks next = plain_counts bytes from end next.after next.within next.plain
 
 module _ {m : OpenMode} {bytes : List ℕ} {end : ℕ} {marks : Marks} where
-  abbrev one_item : end < length bytes → HasMarks bytes (end + 1) marks → Stays m (slice_index bytes end ∷ []) → Item m bytes end marks
-  one_item within marked stays =
+  abbrev one_item : end < length bytes → HasMarks bytes (end + 1) marks → is_line_byte (slice_index bytes end) ≡ true
+      → Stays m (slice_index bytes end ∷ []) → Item m bytes end marks
+  one_item within marked is stays =
       let some : 0 < 1 = omega arith in
       let all = subst (Stays m) (sym (one_between bytes end within)) stays in
-      record { len = 1; some = some; marked = marked; stays = all }
+      record { len = 1; some = some; marked = marked; stays = all; counted = line_byte_counts bytes end within is }
 
   stays_plain : TakesPlain m → (from : ℕ) → FindsNext bytes from end marks → Stays m (between bytes from end)
   stays_plain plain from next =
@@ -88,6 +96,7 @@ module _ {m : OpenMode} {bytes : List ℕ} {end : ℕ} {marks : Marks} where
     plain = plain;
     further = omega (arith, next.after);
     stays = stays_plain plain (at + 1) next;
+    counted = plain_on bytes (at + 1) end marks next;
     from = at + 1;
     next = next;
   }
@@ -95,7 +104,7 @@ module _ {m : OpenMode} {bytes : List ℕ} {end : ℕ} {marks : Marks} where
 -- from one byte that isn't plain to the next
 pub reads_on : {m : OpenMode} {bytes : List ℕ} {at end to : ℕ} {marks mid_marks next_marks : Marks} → Reads m bytes at end marks
     → (item : Item m bytes end mid_marks) → FindsNext bytes (end + item.len) to next_marks → Reads m bytes at to next_marks
-reads_on {m} {bytes} {at} {end} {to} reads item next =
+reads_on {m} {bytes} {at} {end} {to} {next_marks = next_marks} reads item next =
     let then : ℕ = end + item.len in
     let all : between bytes (at + 1) to ≡ between bytes (at + 1) end ++ (between bytes end then ++ between bytes then to) =
     between-append bytes (at + 1) end to (omega (arith, reads.further)) (omega (arith, next.after))
@@ -105,6 +114,7 @@ reads_on {m} {bytes} {at} {end} {to} reads item next =
       further = omega (arith, reads.further, next.after);
       stays = subst (Stays m) (sym all) (stays_on m (between bytes (at + 1) end) _ reads.stays
           (stays_on m (between bytes end then) (between bytes then to) item.stays (stays_plain reads.plain then next)));
+      counted = plain_on bytes then to next_marks next ∙ item.counted ∙ reads.counted;
       from = then;
       next = next;
     }
@@ -136,20 +146,21 @@ comment_begun =
 
 abbrev pub comment_item : {bytes : List ℕ} {end : ℕ} {marks : Marks} → end < length bytes → HasMarks bytes (end + 1) marks
     → is_line_byte (slice_index bytes end) ≡ true → Item opens.Comment bytes end marks
-comment_item within marked is = one_item within marked (comment_byte _ is)
+comment_item within marked is = one_item within marked is (comment_byte _ is)
 
-pub comment_passed : (bytes : List ℕ) (at end : ℕ) (last_marks : Marks) (old new : Passing) (b : List Frame) (place : ℕ)
+pub comment_passed : (bytes : List ℕ) (at end : ℕ) (last_marks : Marks) (old : Passing) (m : Marks) (b : List Frame) (place : ℕ)
     → FindsNext bytes old.all at old.marks → ReadsComment bytes at end last_marks → end < length bytes
-    → is_hash (slice_index bytes at) ≡ true → is_break (slice_index bytes end) ≡ true → new.all ≡ end → new.lines ≡ old.lines
-    → HasMarks bytes new.all new.marks → PassesSo bytes at place old b new b
-comment_passed bytes at end last_marks old new b place next reads within hash ends all lines marked =
+    → is_hash (slice_index bytes at) ≡ true → is_break (slice_index bytes end) ≡ true → HasMarks bytes end m
+    → PassesSo bytes at place old b (passed_to old end old.ends m) b
+unfolding is_hash
+comment_passed bytes at end last_marks old m b place next reads within hash ends marked =
     let text : List ℕ = between bytes (at + 1) end in
     let upto : at + 1 ≤ end = omega (arith, reads.further) in
     let size : length (slice_index bytes at ∷ text) ≡ end - at = omega (arith, cut-length bytes (at + 1) end upto (omega (arith, within)), reads.further) in
     let split : text ++ slice_index bytes end ∷ drop (end + 1) bytes ≡ drop (at + 1) bytes = sym (cut bytes (at + 1) end upto within) in
     let here : at < length bytes = omega (arith, reads.further, within) in
-    passes_same bytes at old next here new b (end - at) place (omega (arith, reads.further)) (omega (arith, reads.further, within))
-    (omega (arith, all, reads.further)) lines marked
+    passes_same bytes at old next here _ b (end - at) place (omega (arith, reads.further)) (omega (arith, reads.further, within))
+    (omega (arith, reads.further)) refl (ap (λ n. old.ends + n) (reads.counted ∙ byte_counts is_hash refl bytes at here hash)) marked
     (λ scan p frames. transport (λ i. Over p (slice_index bytes at) (split i) (next.special here) (size i) (over_code scan (between bytes old.all at)).frames)
     (comment_over p (slice_index bytes at) (next.special here) text (slice_index bytes end) (drop (end + 1) bytes) hash reads.stays ends))
 
@@ -170,14 +181,15 @@ module _ (q : ℕ) (quote : is_quote q ≡ true) {bytes : List ℕ} {end : ℕ} 
   text_item within marked other apart is =
       let c = slice_index bytes end in
       let parts = and_parts (nat_lt c 128) (not (is_break c)) is in
-      one_item within marked (text_byte q quote c (and_from _ _ (rw (ne_eqb c q other, ne_eqb c 92 apart) parts.1) parts.0))
+      one_item within marked is (text_byte q quote c (and_from _ _ (rw (ne_eqb c q other, ne_eqb c 92 apart) parts.1) parts.0))
 
   pub escape_item : HasMarks bytes (end + 2) marks → slice_index bytes end ≡ 92 → end + 1 < length bytes
       → is_line_byte (slice_index bytes (end + 1)) ≡ true → TextItem q bytes end marks
-  unfolding is_break
+  unfolding is_break is_backslash
   escape_item marked slash within is =
       let two : 0 < 2 = omega arith in
       let c = slice_index bytes (end + 1) in
+      let both : end + 2 ≡ end + 1 + 1 = omega arith in
       let low = and_parts (nat_lt c 128) (not (is_break c)) is in
       record {
         len = 2;
@@ -185,16 +197,17 @@ module _ (q : ℕ) (quote : is_quote q ≡ true) {bytes : List ℕ} {end : ℕ} 
         marked = marked;
         stays = subst (Stays (opens.Short q)) (sym (two_between bytes end within ∙ ap (λ (x : ℕ). x ∷ c ∷ []) slash))
             (escape_stays q quote c (ltb-true c 128 low.0) (not-true _ low.1));
+        counted = ap (λ (n : ℕ). line_ends (drop n bytes)) both ∙ line_byte_counts bytes (end + 1) within is
+            ∙ byte_counts is_backslash refl bytes end (omega (arith, within)) (ap is_backslash slash);
       }
 
-pub string_passed : (bytes : List ℕ) (at end : ℕ) (last_marks : Marks) (old new : Passing) (b : List Frame) (place : ℕ)
+pub string_passed : (bytes : List ℕ) (at end : ℕ) (last_marks : Marks) (old : Passing) (b : List Frame) (place : ℕ)
     → FindsNext bytes old.all at old.marks
     → ReadsText (slice_index bytes at) bytes at end last_marks → end < length bytes
     → is_quote (slice_index bytes at) ≡ true → slice_index bytes end ≡ slice_index bytes at
     → Some 1 ≡ quotes_in (drop at bytes)
-    → PlainBefore (tail_of (take (at - old.all) (drop old.all bytes))) → new.all ≡ end + 1 → new.lines ≡ old.lines → HasMarks bytes new.all new.marks
-    → PassesSo bytes at place old b new b
-string_passed bytes at end last_marks old new b place next reads within quote closes alone before all lines marked =
+    → TellsFields (word_before bytes at old) (Some false) → PassesSo bytes at place old b (passed_to old (end + 1) old.ends last_marks) b
+string_passed bytes at end last_marks old b place next reads within quote closes alone before =
     let q : ℕ = slice_index bytes at in
     let text : List ℕ = between bytes (at + 1) end in
     let here : at < length bytes = omega (arith, reads.further, within) in
@@ -205,7 +218,8 @@ string_passed bytes at end last_marks old new b place next reads within quote cl
     ap (λ c. text ++ c ∷ drop (end + 1) bytes) (sym closes) ∙ sym (cut bytes (at + 1) end upto within) in
     let one : Some 1 ≡ quotes_in (q ∷ (text ++ q ∷ drop (end + 1) bytes)) =
     alone ∙ ap quotes_in (bytes_from bytes at here ∙ ap (λ x. q ∷ x) (sym split)) in
-    passes_same bytes at old next here new b (end + 1 - at) place (omega (arith, reads.further)) (omega (arith, reads.further, within))
-    (omega (arith, all, reads.further)) lines marked
+    passes_same bytes at old next here _ b (end + 1 - at) place (omega (arith, reads.further)) (omega (arith, reads.further, within))
+    (omega (arith, reads.further)) refl
+    (ap (λ n. old.ends + n) (quoted_counts bytes at end (end + 1) refl here within quote closes reads.counted)) (reads.next.rest within)
     (λ scan p frames. transport (λ i. Over p q (split i) (next.special here) (size i) (over_code scan (between bytes old.all at)).frames)
     (string_over p q (next.special here) quote text (drop (end + 1) bytes) one reads.stays before))

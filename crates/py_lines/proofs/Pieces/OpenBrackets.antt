@@ -82,6 +82,10 @@ are_pair a b opens closes same = record {
 pub pair_kind : (a b : Piece) → ArePair a b → first_or_zero b.text == closing_of (first_or_zero a.text) ≡ true
 pair_kind a b both = sym (kinds_agree a.text b.text (operator_begins is_opening a.class a.text both.opens) (operator_begins is_closing b.class b.text both.closes)) ∙ both.kind
 
+closed_through : (st : List Bracket) (done : List Piece) (a : Bracket) (b : Piece) → is_closer b ≡ true
+    → first_or_zero b.text == closing_of a.opener ≡ true → brackets_through (Some (a ∷ st)) done (b ∷ []) ≡ Some st
+closed_through st done a b closes kind = ap (λ o. brackets_through o (done ++ b ∷ []) []) (closer_pops st (byte_len (spelled done)) a b closes kind)
+
 -- a balanced list leaves the stack as it was
 pub balanced_through : (ps : List Piece) → IsBalanced ps → (st : List Bracket) (done : List Piece) → IsShallowPlain (length st) ps → brackets_through (Some st) done ps ≡ Some st
 balanced_through ps (balance.none _ is) st done shallow = ap (brackets_through (Some st) done) is
@@ -90,7 +94,11 @@ balanced_through ps (balance.pair _ inner a b is both within) st done shallow =
     let parts = EachAtDepth-parts OpensShallow (length st) (a ∷ inner) (b ∷ []) (subst (IsShallowPlain (length st)) is shallow) in
     let top : Bracket = record { opener = first_or_zero a.text; place = byte_len (spelled done) } in
     let inside = balanced_through inner within (top ∷ st) (done ++ a ∷ []) (subst (λ (n : ℕ). IsShallowPlain n inner) (depth-opener (length st) a both.opens) parts.0.1) in
-    cc (through-append (Some st) done (a ∷ inner) (b ∷ []), opener_pushes st (byte_len (spelled done)) a both.opens (parts.0.0 both.opens), inside, closer_pops st (byte_len (spelled (done ++ a ∷ inner))) top b both.closes (pair_kind a b both))
+    let begun = ap (λ o. brackets_through o (done ++ a ∷ []) inner)
+    (opener_pushes st (byte_len (spelled done)) a both.opens (parts.0.0 both.opens)) ∙ inside in
+    ap (brackets_through (Some st) done) is ∙ through-append (Some st) done (a ∷ inner) (b ∷ [])
+    ∙ ap (λ o. brackets_through o (done ++ a ∷ inner) (b ∷ [])) begun
+    ∙ closed_through st (done ++ a ∷ inner) top b both.closes (pair_kind a b both)
 balanced_through ps (balance.both _ first second is left right) st done shallow =
     let parts = EachAtDepth-parts OpensShallow (length st) first second (subst (IsShallowPlain (length st)) is shallow) in
     let later = balanced_through second right st (done ++ first) (subst (λ (n : ℕ). IsShallowPlain n second) (balanced_depth first left (length st)) parts.1) in
@@ -133,6 +141,9 @@ opened_is st mid done p opens is =
     let P : Option (List Bracket) → Type 0 = λ o. brackets_through o (done ++ p ∷ []) [] ≡ Some mid → mid ≡ top_at done p ∷ st in
     cond_both (nat_lt (length st) 200) (Some (top_at done p ∷ st)) None P (λ room same. (cc)) (λ full none. absurd (cc)) (rw (opens, brackets_through) at is)
 
+some_same : (after st : List Bracket) → Some after ≡ Some st → after ≡ st
+some_same after st same = cc
+
 -- and balanced pieces leave those that were before
 balanced_back : (ps : List Piece) → IsBalanced ps → (st after : List Bracket) (done : List Piece) → brackets_through (Some st) done ps ≡ Some after → after ≡ st
 balanced_back ps (balance.none _ is) st after done steps = cc
@@ -143,7 +154,8 @@ balanced_back ps (balance.pair _ inner a b is both within) st after done steps =
     let (mid, first, last) = through_parts st after done (a ∷ inner) (b ∷ []) (ap (brackets_through (Some st) done) (sym is) ∙ steps) in
     let (one, begun, more) = through_parts st mid done (a ∷ []) inner first in
     let same = balanced_back inner within one mid (done ++ a ∷ []) more ∙ opened_is st one done a both.opens begun in
-    cc (same, last, closer_pops st (byte_len (spelled (done ++ a ∷ inner))) (top_at done a) b both.closes (pair_kind a b both))
+    let end = closed_through st (done ++ a ∷ inner) (top_at done a) b both.closes (pair_kind a b both) in
+    some_same _ _ (sym last ∙ ap (λ m. brackets_through (Some m) (done ++ a ∷ inner) (b ∷ [])) same ∙ end)
 balanced_back ps (balance.both _ first second is left right) st after done steps =
     let (mid, one, two) = through_parts st after done first second (ap (brackets_through (Some st) done) (sym is) ∙ steps) in
     balanced_back second right mid after (done ++ first) two ∙ balanced_back first left st mid done one

@@ -22,6 +22,7 @@ use Rattle.py_lines.proofs.Readers.NextLines.{HasRead, further, line_read, passe
 use Rattle.py_lines.proofs.Feeds.Known.{IsKnown, is_known}
 use Rattle.py_lines.proofs.Feeds.SettledSoFar.{IsNextLine, next_line, settled_ready}
 use Rattle.py_lines.proofs.Feeds.Released.{released}
+use Rattle.py_lines.proofs.Text.LineEnds.{line_ends-encoded}
 use Rattle.py_lines.specs.Settled.{IsSettled}
 use Rattle.py_lines.specs.Given.{AreFirstLines}
 use Rattle.py_lines.specs.ScannerState.{EndsExactly, GoesOnWith}
@@ -144,14 +145,13 @@ passes_all (t ∷ texts) r read after beyond no_fault split are =
 
 -- the lines that the code has found, with so many line ends
 pub passes_found : (r : Reader) (before len ends : ℕ) → r.fault ≡ None → r.place < before → before ≤ length r.text → BeginWithLines (take (before - r.place) (drop r.place r.text)) len
-    → ((characters : List ℕ) → encode_utf8_all characters ≡ take (r.place + len - r.place) (drop r.place r.text) → ends ≡ line_ends characters)
+    → ends ≡ line_ends (take len (take (before - r.place) (drop r.place r.text)))
     → PassesUpTo r before len (further r len ends)
 passes_found r before len ends no_fault ordered within found count =
     let rest = drop r.place r.text in let slice = take (before - r.place) rest in let read = found.read in let after = drop len slice in let beyond = drop (before - r.place) rest in
     let long : length slice ≡ before - r.place = length-take-le (before - r.place) rest (omega (arith, length-drop r.place r.text, within)) in
     let size : byte_len read ≡ len = ap length found.spell ∙ length-take-le len slice found.within in
-    let all : len ≡ r.place + len - r.place = omega arith in
-    let number : ends ≡ line_ends read = count read (found.spell ∙ take_slice rest len (before - r.place) found.within ∙ ap (λ (n : ℕ). take n rest) all) in
+    let number : ends ≡ line_ends read = count ∙ ap line_ends (sym found.spell) ∙ line_ends-encoded read in
     let split : encode_utf8_all read ++ (after ++ beyond) ≡ rest
     = sym (append_assoc (encode_utf8_all read) after beyond) ∙ ap (λ t. (t ++ after) ++ beyond) found.spell ∙ ap (λ t. t ++ beyond) (take-append-drop len slice) ∙ take-append-drop (before - r.place) rest in
     record {

@@ -95,6 +95,8 @@ pub record HasFeeds (bits feeds : ℕ) : Type 0 where
   pub top : ℕ
   pub at : count_leading_zeros 64 (first_feeds bits feeds) + suc top ≡ 64
   pub set : is_set bits top ≡ true
+  pub fits : first_feeds bits feeds < 2 ^ suc top
+  pub same : (i : ℕ) → i ≤ top → is_set (first_feeds bits feeds) i ≡ is_set bits i
   pub each : (i : ℕ) → i ≤ top → is_set bits i ≡ true → is_set feeds i ≡ true
   pub cleared : (i : ℕ) → i ≤ top → is_set (bit_xor bits (first_feeds bits feeds)) i ≡ false
   pub left : (i : ℕ) → top < i → is_set (bit_xor bits (first_feeds bits feeds)) i ≡ is_set bits i
@@ -106,6 +108,8 @@ first_feeds-are bits feeds fits feeds_fit some =
       top = j;
       at = top.1;
       set = known bits j 1 (omega (arith, top_set, (low j (omega arith)).1));
+      fits = top.3;
+      same = λ i le. known run i (bit_at bits i) (low i le).1;
       each = λ i le set. known feeds i 1 (omega (arith, eqb-true _ _ set, (low i le).0, bit_at-lt feeds i));
       cleared = λ i le. known (bit_xor bits run) i 0 (omega (arith, bit_at_xor bits run i, (low i le).1));
       left = λ i high.

@@ -1,17 +1,21 @@
 -- The marks of a text after some of it is passed.
 use Rattle.std.proofs.lemmas.Bool.Decides.{nat_tests}
 use Rattle.std.proofs.Common.{◌≡◌, ℕ, ◌+◌, ◌-◌, ◌*◌, ◌%◌, ◌^◌, ◌<◌, ◌≤◌, Bool, true, false, ◌&&◌, ◌||◌, not, eqb, Some, List, length, slice_index}
-use Rattle.std.proofs.Common.{bit_and, bit_or, bit_xor, refl, sym, ap, ◌∙◌, inl, inr, arith, w64, ◌++◌, drop, replicate}
+use Rattle.std.proofs.Common.{zero, suc, cond, max, ◌/◌, bit_and, bit_or, bit_xor, refl, sym, ap, ◌∙◌, inl, inr, arith, w64, ◌++◌, drop, replicate}
 use Rattle.std.specs.Int.{bit_at, trailing_zeros}
-use Rattle.std.specs.Int.Count.{count_leading_zeros}
+use Rattle.std.specs.Int.Count.{count_leading_zeros, ones, ones-le, ones_step}
+use Rattle.std.proofs.Math.Nat.{pow-suc}
 use Rattle.std.specs.Prelude.{nat_lt}
 use Rattle.std.proofs.lemmas.Bool.{cases_Bool, cases_eq, cases_lt}
-use Rattle.std.proofs.lemmas.List.{get_or_append_left}
-use Rattle.std.proofs.lemmas.Nat.Bits.{bit_at_set_other, bit_at_set_same}
+use Rattle.std.proofs.lemmas.List.{at_drop_more, get_or_append_left}
+use Rattle.std.proofs.lemmas.Nat.Bits.{bit_at_lowest, bit_at-suc, bit_at_set_other, bit_at_set_same}
 use Rattle.py_lines.specs.declared.marks.Marks.{Marks}
-use Rattle.py_lines.specs.Character.{is_line_feed, is_space}
+use Rattle.py_lines.specs.Balance.{is_closing, is_opening}
+use Rattle.py_lines.specs.Character.{is_line_feed, is_operator, is_return, is_space}
+use Rattle.py_lines.specs.LogicalLine.{line_ends}
 use Rattle.py_lines.specs.Private.Run.{is_ascii_word}
-use Rattle.py_lines.specs.Private.Marks.{Advances, ArePlain, FindsNext, HasMarks, IsSpecial, PassesFeeds, is_feed, is_mark, is_plain, is_set}
+use Rattle.py_lines.specs.Private.Marks.{Advances, ArePlain, EndInFeed, FindsNext, HasMarks, IsSpecial, PassesFeeds}
+use Rattle.py_lines.specs.Private.Marks.{is_feed, is_mark, is_plain, is_set}
 use Rattle.py_lines.proofs.Text.Lanes.{filled_past}
 use Rattle.py_lines.proofs.SpecialBytes.Bits.{HasFeeds, HasLowest, cleared_below-is, first_feeds, first_feeds-are, lowest, unset}
 
@@ -175,23 +179,56 @@ finds_lowest text from m passed some fits =
 feed_is : (text : List ℕ) (k : ℕ) → is_feed text k ≡ true → is_line_feed (slice_index text k) ≡ true
 feed_is text k h = grind (arith, nat_tests)
 
+-- LF and CR are not plain
+ends_special : (is_plain 10 ≡ false) × (is_plain 13 ≡ false)
+unfolding is_plain is_ascii_word is_space is_operator is_opening is_closing
+ends_special = (refl, refl)
+
+-- a byte that is plain, or LF, adds to the line ends if it is LF
+feed_counted : (text : List ℕ) (i : ℕ) → i < length text → (is_plain (slice_index text i) || is_line_feed (slice_index text i)) ≡ true
+    → line_ends (drop i text) ≡ cond (not (is_plain (slice_index text i))) 1 0 + line_ends (drop (i + 1) text)
+unfolding is_line_feed is_return
+feed_counted text i within is = grind (arith, at_drop_more line_ends text i 0 within, ends_special, is)
+
+-- the marks before a place, which are those of LF, are as many as the line ends
+feeds_counted : (text : List ℕ) (from to n at bits start : ℕ) → EndInFeed text from to → at + n ≡ to → bits < 2 ^ n → start ≡ max at from
+    → ((k : ℕ) → k < n → is_set bits k ≡ is_mark text from (at + k)) → ones bits + line_ends (drop to text) ≡ line_ends (drop start text)
+unfolding is_set
+feeds_counted text from to zero at bits start ends upto fits is marks =
+    let here : start ≡ to = omega (arith, is, upto, ends.further) in
+    rw here (omega (arith, ones-le 0 bits fits))
+feeds_counted text from to (suc n) at bits start ends upto fits is marks =
+    let rest = λ (next : ℕ) (is : next ≡ max (at + 1) from).
+    feeds_counted text from to n (at + 1) (bits / 2) next ends (omega (arith, upto)) (omega (arith, fits, pow-suc 2 n)) is (λ k less.
+    ap (λ b. eqb b 1) (sym (bit_at-suc bits k)) ∙ marks (suc k) (omega (arith, less)) ∙ ap (is_mark text from) (omega arith)) in
+    let first : is_set bits 0 ≡ is_mark text from at = marks 0 (omega arith) ∙ ap (is_mark text from) (omega arith) in
+    elim (cases_lt at from) [
+      | inl low ↦
+          let more = rest start (omega (arith, is, low)) in
+          grind (arith, more, ones_step bits, bit_at_lowest bits, first, no_mark_before text from at low)
+      | inr high ↦
+          let within : at < length text = omega (arith, upto, ends.within) in
+          let here : start ≡ at = omega (arith, is, high) in
+          let one = feed_counted text at within (ends.each at high (omega (arith, upto))) in
+          let more = rest (at + 1) (omega (arith, high)) in
+          rw here (grind (arith, more, ones_step bits, bit_at_lowest bits, first, marked text from at high within, one))
+    ]
+
 -- the LF before any other byte that isn't plain
 pub passes_feeds : (text : List ℕ) (from : ℕ) (m : Marks) → HasMarks text from m → m.bits < 2 ^ 64 → m.feeds < 2 ^ 64
     → let passed : ℕ = first_feeds m.bits m.feeds in 0 < passed
-    → PassesFeeds text from m (Some (m.base + (64 - count_leading_zeros 64 passed))) (record m { bits = bit_xor m.bits passed })
-passes_feeds text from m has fits feeds_fit some = (
-  refl,
-  record {
-    further = omega (arith, mark.unpassed, first.at);
-    within = omega (arith, mark.within, first.at);
-    each = each;
-    last =
-        let here : to - 1 ≡ m.base + t = omega (arith, first.at) in
-        ap (λ i. is_line_feed (slice_index text i)) here ∙ feed t (omega arith) first.set;
-  },
-  passed_to text from to _ m has (omega (arith, mark.unpassed, first.at)) (omega (arith, mark.within, first.at)) (omega arith)
-      (λ k _ low. first.cleared k (omega (arith, low, first.at))) (λ k _ high. first.left k (omega (arith, high, first.at))),
-)
+    → PassesFeeds text from m (Some (m.base + (64 - count_leading_zeros 64 passed), ones passed)) (record m { bits = bit_xor m.bits passed })
+passes_feeds text from m has fits feeds_fit some =
+    record {
+      base = refl;
+      ends = ends;
+      marked =
+          passed_to text from to _ m has (omega (arith, mark.unpassed, first.at)) (omega (arith, mark.within, first.at)) (omega arith)
+          (λ k _ low. first.cleared k (omega (arith, low, first.at))) (λ k _ high. first.left k (omega (arith, high, first.at)));
+      counted =
+          feeds_counted text from to (suc t) m.base _ from ends (omega (arith, first.at)) first.fits (omega (arith, has.base))
+          (λ k less. first.same k (omega (arith, less)) ∙ has.bits k (omega (arith, less, first.at)));
+    }
   where
     first : HasFeeds m.bits m.feeds
     first = first_feeds-are m.bits m.feeds fits feeds_fit some
@@ -216,6 +253,16 @@ passes_feeds text from m has fits feeds_fit some = (
           | inl set ↦ grind (arith, ap (λ j. slice_index text j) here, feed (i - m.base) (omega (arith, under)) set)
           | inr none ↦ grind (arith, unset_plain text from m i has le (omega (arith, under, first.at)) (omega (arith, under, mark.within)) none)
         ]
+
+    ends : EndInFeed text from to
+    ends =
+        let here : to - 1 ≡ m.base + t = omega (arith, first.at) in
+        record {
+          further = omega (arith, mark.unpassed, first.at);
+          within = omega (arith, mark.within, first.at);
+          each = each;
+          last = ap (λ i. is_line_feed (slice_index text i)) here ∙ feed t (omega arith) first.set;
+        }
 
 space_plain : not (is_plain 32) ≡ false
 unfolding is_plain is_ascii_word is_space

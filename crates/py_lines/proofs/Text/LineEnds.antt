@@ -1,11 +1,11 @@
 -- Line ends, counted in the bytes of a text: the bytes of other characters are neither LF nor CR.
 use Rattle.std.proofs.Common.{◌≡◌, ℕ, ◌+◌, ◌<◌, ◌≤◌, Bool, true, false, cond, not, ◌&&◌, ◌==◌, List, [], ◌∷◌, ◌++◌, length, refl, ap, ◌∙◌, ⊎_elim, arith, drop, take, slice_index, zero, suc, ◌-◌, eqb, length-drop}
 use Rattle.std.specs.Prelude.{if◌then◌else◌, encode_utf8_all}
-use Rattle.std.specs.List.{count_by, ends_with, list_all}
+use Rattle.std.specs.List.{count_by, ends_with, list_all, starts_with}
 use mir.Val.{bool_byte}
 use native.Mathlib.Numerals.{unary_clauses}
 use Rattle.std.proofs.lemmas.List.{drop-drop}
-use Rattle.std.proofs.lemmas.List.Sums.{count_by_more_no, count_by_more_yes, sum_by-cons, sum_by-take-drop}
+use Rattle.std.proofs.lemmas.List.Sums.{count_by-le-length, count_by_more_no, count_by_more_yes, sum_by-append, sum_by-cons}
 use Rattle.std.proofs.lemmas.Bool.{cases_lt, false_from_ne_true}
 use Rattle.py_lines.specs.Character.{is_break, is_line_feed, is_return}
 use Rattle.py_lines.specs.LogicalLine.{line_ends}
@@ -61,10 +61,13 @@ unfolding is_return
 returns_more bytes i within =
     grind (arith, count_by_more_yes is_return bytes i 0 within, count_by_more_no is_return bytes i 0 within)
 
--- both parts of the bytes
-pub parted : (p : ℕ → Bool) (n : ℕ) (bytes front back : List ℕ) → front ≡ take n bytes → back ≡ drop n bytes
-    → count_by p front + count_by p back ≡ count_by p bytes
-parted p n bytes front back first last = rw (first, last) (sum_by-take-drop (λ x. cond (p x) 1 0) bytes n)
+-- a block more
+pub block_more : (p : ℕ → Bool) (bytes rest block others : List ℕ) (n few : ℕ) → rest ≡ block ++ others
+    → few ≡ count_by p block → n + count_by p rest ≡ count_by p bytes → (n + few ≤ length bytes) × (n + few + count_by p others ≡ count_by p bytes)
+block_more p bytes rest block others n few parts counts before =
+    let both = rw parts at before in
+    let sum = sum_by-append (λ x. cond (p x) 1 0) block others in
+    (omega (arith, both, sum, counts, count_by-le-length p bytes), omega (arith, both, sum, counts))
 
 -- those that are left
 pub lone_more : (bytes : List ℕ) (i : ℕ) → i < length bytes
@@ -110,6 +113,20 @@ lone_block bytes block i j r before within cut is =
       lone_first (drop i bytes) (j - i) (omega (arith, before, within, length-drop i bytes)),
       ap lone_returns (drop-drop (j - i) i bytes ∙ ap (λ m. drop m bytes) to),
     )
+
+-- those of both parts: CR LF that is cut counts in both
+pub cut_ends : (n : ℕ) (bytes : List ℕ) → n ≤ length bytes
+    → let cut = ends_with eqb (take n bytes) (13 ∷ []) && starts_with eqb (drop n bytes) (10 ∷ []) in
+    (bool_byte cut ≤ line_ends (take n bytes)) × (line_ends (take n bytes) - bool_byte cut + line_ends (drop n bytes) ≡ line_ends bytes)
+unfolding is_line_feed is_return
+cut_ends zero bytes within = omega arith
+cut_ends (suc zero) (b ∷ []) within = grind arith
+cut_ends (suc zero) (b ∷ c ∷ bs) within = grind arith
+cut_ends (suc (suc n)) (b ∷ c ∷ bs) within =
+    let on = cut_ends (suc n) (c ∷ bs) (omega (arith, within)) in
+    simp unary_clauses (omega (arith, simp unary_clauses at on))
+cut_ends (suc (suc n)) (b ∷ []) within = absurd (omega (arith, within))
+cut_ends (suc n) [] within = absurd (omega (arith, within))
 
 -- bytes without CR hold none
 pub none_lone : (bytes : List ℕ) → count_by is_return bytes ≡ 0 → lone_returns bytes ≡ 0

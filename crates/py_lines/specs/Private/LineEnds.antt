@@ -1,12 +1,18 @@
 -- Line ends in the bytes of a text.
 use Rattle.std.specs.Prelude.{◌≡◌, ◌<◌, ◌≤◌, ◌⊎◌, ℕ, ◌+◌, ◌&&◌, not, Bool, true, false, Option, None, Some, List, [], ◌∷◌, length, take, drop, if◌then◌else◌}
 use Rattle.py_lines.specs.Character.{is_break, is_line_feed, is_return}
+use Rattle.py_lines.specs.LogicalLine.{line_ends}
 use Rattle.py_lines.specs.Piece.{begins}
 
 -- how many of the bytes are CR that isn't before LF
 abbrev pub lone_returns : List ℕ → ℕ
 lone_returns [] = 0
 lone_returns (c ∷ cs) = (if is_return c && not (begins is_line_feed cs) then 1 else 0) + lone_returns cs
+
+-- So many line ends of these bytes stand from one byte to another, by those of what follows each. Of CR LF between which a byte is cut
+-- it is LF that counts.
+abbrev pub CountsTo : List ℕ → ℕ → ℕ → ℕ → Type 0
+CountsTo bytes from to ends = ends + line_ends (drop to bytes) ≡ line_ends (drop from bytes)
 
 -- a line end: CR LF, or LF alone
 abbrev pub line_end_of : Bool → List ℕ

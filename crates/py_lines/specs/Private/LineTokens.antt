@@ -14,9 +14,6 @@ use Rattle.py_lines.specs.declared.token.TokKind.{TokKind}
 use Rattle.py_lines.specs.declared.unit.UnitKind.{UnitKind}
 use Rattle.py_lines.specs.declared.unit.UnitKind.TheVariants as unit_kind
 use Rattle.py_lines.specs.declared.token.TokKind.TheVariants as kind
-use Rattle.py_lines.specs.declared.line_tokens.FirstPiece.{FirstPiece}
-use Rattle.py_lines.specs.declared.line_tokens.Role.{Role}
-use Rattle.py_lines.specs.declared.line_tokens.Role.TheVariants as roles
 use Rattle.py_lines.specs.declared.line_tokens.LineTokens.{LineTokens}
 
 -- the text is what these pieces spell, which something may follow, and there is room for all that they open where so many brackets are open
@@ -43,24 +40,32 @@ pub record BeginWithPiece (bytes : List ℕ) (p : Piece) : Type 0 where
 abbrev pub word_kind : Bool → TokKind
 word_kind digit = if digit then kind.Number else kind.Name
 
--- what a piece that is no space is to its line
-abbrev pub role_of : Class → List ℕ → Role
-role_of word text = roles.Token (word_kind (begins is_digit text))
-role_of string text = roles.Token kind.Str
-role_of operator text = roles.Token (kind.Op (first_or_zero text))
-role_of comment text = roles.Token kind.Remark
-role_of join text = roles.Join
-role_of other text = roles.LineEnd
+-- what a piece is to its line: a token, a join of two lines, or nothing more
+pub data Role : Type 0 where
+  token_of : TokKind → Role
+  joins : Role
+  none : Role
 
--- a token on one line, a string, and a piece with one line end
-abbrev pub token_piece : TokKind → ℕ → FirstPiece
-token_piece kind len = record { role = roles.Token kind; len = len; line_ends = 0 }
+abbrev pub role_of : Class → List ℕ → Role
+role_of word text = token_of (word_kind (begins is_digit text))
+role_of string text = token_of kind.Str
+role_of operator text = token_of (kind.Op (first_or_zero text))
+role_of comment text = token_of kind.Remark
+role_of join text = joins
+role_of other text = none
+
+-- the first piece of bytes: what it is to its line, how many bytes it has, and how many line ends it holds
+pub record FirstPiece : Type 0 where
+  pub role : Role
+  pub len : ℕ
+  pub line_ends : ℕ
+
+-- so for a token, and for a string
+abbrev pub token_piece : TokKind → ℕ → ℕ → FirstPiece
+token_piece kind len line_ends = record { role = token_of kind; len = len; line_ends = line_ends }
 
 abbrev pub string_piece : ℕ → ℕ → FirstPiece
-string_piece len line_ends = record { role = roles.Token kind.Str; len = len; line_ends = line_ends }
-
-abbrev pub line_end_piece : Role → ℕ → FirstPiece
-line_end_piece role len = record { role = role; len = len; line_ends = 1 }
+string_piece len line_ends = token_piece kind.Str len line_ends
 
 -- the piece as its line takes it
 abbrev pub IsTakenFor : Piece → FirstPiece → Type 0
@@ -111,13 +116,13 @@ with_comment other = other
 
 -- what it holds with a piece more
 abbrev pub kind_with : UnitKind → Role → UnitKind
-kind_with old roles.LineEnd = old
-kind_with old roles.Join = unit_kind.Code
-kind_with old (roles.Token k) = if is_comment k then with_comment old else unit_kind.Code
+kind_with old none = old
+kind_with old joins = unit_kind.Code
+kind_with old (token_of k) = if is_comment k then with_comment old else unit_kind.Code
 
 -- the token that a piece is, if it is one
 abbrev pub token_in : Role → ℕ → ℕ → ℕ → List Token
-token_in (roles.Token k) start stop line = token k start stop line ∷ []
+token_in (token_of k) start stop line = token k start stop line ∷ []
 token_in other start stop line = []
 
 -- the tokens with those of a piece, which stands between these bytes of its line, and on this line of the text
@@ -125,6 +130,13 @@ pub record AddsPiece (old : LineTokens) (role : Role) (start stop line : ℕ) (n
   pub kind : new.kind ≡ kind_with old.kind role
   pub indent : new.indent ≡ old.indent
   pub tokens : new.tokens.items ≡ old.tokens.items ++ token_in role start stop line
+
+-- the first piece of these bytes was read, which stands at this byte of its line, and on this line of the text: so many bytes of it, with so
+-- many line ends
+pub record ReadsPiece (bytes : List ℕ) (old : LineTokens) (start line len line_ends : ℕ) (new : LineTokens) : Type 0 where
+  pub role : Role
+  pub is : IsFirstPiece bytes (record { role = role; len = len; line_ends = line_ends })
+  pub adds : AddsPiece old role start (start + len) line new
 
 -- what it holds with these pieces more
 abbrev pub kind_on : UnitKind → List Piece → UnitKind

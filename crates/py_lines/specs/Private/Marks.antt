@@ -4,6 +4,7 @@ use Rattle.std.specs.Prelude.{Option, None, Some, List, length, slice_index}
 use Rattle.std.specs.Int.{bit_at}
 use Rattle.py_lines.specs.Character.{is_backslash, is_hash, is_line_feed, is_operator, is_quote, is_return, is_space}
 use Rattle.py_lines.specs.Balance.{is_closing, is_opening}
+use Rattle.py_lines.specs.Private.LineEnds.{CountsTo}
 use Rattle.py_lines.specs.Private.Run.{is_apart, is_ascii_word}
 use Rattle.py_lines.specs.declared.class.Class.{Class}
 use Rattle.py_lines.specs.declared.class.Class.TheVariants as class
@@ -85,10 +86,17 @@ pub record EndInFeed (text : List ℕ) (from to : ℕ) : Type 0 where
   pub each : (i : ℕ) → from ≤ i → i < to → (is_plain (slice_index text i) || is_line_feed (slice_index text i)) ≡ true
   pub last : is_line_feed (slice_index text (to - 1)) ≡ true
 
--- bytes up to the last LF before any other byte that isn't plain are passed, if LF stands there; the marks are of the same 64 bytes
-abbrev pub PassesFeeds : List ℕ → ℕ → Marks → Option ℕ → Marks → Type 0
+-- bytes up to the last LF before any other byte that isn't plain are passed, if LF stands there, with so many line ends; the marks are of
+-- the same 64 bytes
+pub record PassesFeedsTo (text : List ℕ) (from : ℕ) (old : Marks) (to feeds : ℕ) (new : Marks) : Type 0 where
+  pub base : new.base ≡ old.base
+  pub ends : EndInFeed text from to
+  pub marked : HasMarks text to new
+  pub counted : CountsTo text from to feeds
+
+abbrev pub PassesFeeds : List ℕ → ℕ → Marks → Option (ℕ × ℕ) → Marks → Type 0
 PassesFeeds text from old None new = new ≡ old
-PassesFeeds text from old (Some to) new = (new.base ≡ old.base) × EndInFeed text from to × HasMarks text to new
+PassesFeeds text from old (Some r) new = PassesFeedsTo text from old r.0 r.1 new
 
 -- the marks go on to the next 64 bytes, as all that are left of these are plain, or these have a mark, or are the last
 abbrev pub Advances : List ℕ → Marks → Bool → Marks → Type 0

@@ -1,5 +1,6 @@
 -- Bytes of a line that are passed over at one that isn't plain: what that comes to, wherever in a line they stand.
-use Rattle.std.specs.Prelude.{◌≡◌, ◌⊎◌, ℕ, ◌+◌, ◌-◌, ◌<◌, ◌≤◌, false, Option, None, Some, List, [], ◌∷◌, length, drop, if◌then◌else◌}
+use Rattle.std.specs.Prelude.{◌≡◌, ◌⊎◌, ℕ, ◌+◌, ◌-◌, ◌<◌, ◌≤◌, Bool, true, false, Option, None, Some, List, [], ◌∷◌, length, take, drop, slice_index, if◌then◌else◌}
+use Rattle.py_lines.specs.Character.{is_quote}
 use Rattle.py_lines.specs.declared.frames.Frame.{Frame}
 use Rattle.py_lines.specs.declared.marks.Marks.{Marks}
 use Rattle.py_lines.specs.declared.mode.Mode.TheVariants as opens
@@ -10,10 +11,11 @@ use Rattle.py_lines.specs.declared.passing.Special.TheVariants as special
 use Rattle.py_lines.specs.declared.scan.Progress.TheVariants as progress
 use Rattle.py_lines.specs.declared.scan.Scan.{Scan}
 use Rattle.py_lines.specs.Private.Frames.{has_field}
-use Rattle.py_lines.specs.Private.Machine.{first_spelling, spelling_with}
-use Rattle.py_lines.specs.Private.Marks.{EndInFeed, FindsNext, HasMarks, PassesFeeds}
+use Rattle.py_lines.specs.LogicalLine.{line_ends}
+use Rattle.py_lines.specs.Private.Machine.{begins_string, first_spelling, is_field_spelling, spelling_with}
+use Rattle.py_lines.specs.Private.Marks.{EndInFeed, FindsNext, HasMarks, PassesFeedsTo}
 use Rattle.py_lines.specs.Private.Run.{is_ascii_word}
-use Rattle.py_lines.specs.Private.Scan.{Steps, Takes, passed}
+use Rattle.py_lines.specs.Private.Scan.{Steps, Takes, passed, quotes_in}
 
 -- the spelling of the word of ASCII that a text ends with, if it ends with one: with one more character or byte, and with more of them
 abbrev pub tail_with : Option Spelling → ℕ → Option Spelling
@@ -27,13 +29,27 @@ tail_on tail (c ∷ cs) = tail_on (tail_with tail c) cs
 abbrev pub tail_of : List ℕ → Option Spelling
 tail_of text = tail_on None text
 
+-- whether a string has fields that begins after plain bytes with this word at their end, if that is a prefix or there is none
+abbrev pub TellsFields : Option Spelling → Option Bool → Type 0
+TellsFields o None = Unit {0}
+TellsFields None (Some has) = has ≡ false
+TellsFields (Some s) (Some has) = (begins_string s ≡ true) × (has ≡ is_field_spelling s)
+
 -- no byte was passed
 abbrev pub nothing_passed : Marks → Passing
-nothing_passed marks = record { all = 0; lines = 0; marks = marks }
+nothing_passed marks = record { all = 0; ends = 0; lines = 0; marks = marks }
 
--- the bytes up to this one were passed
-abbrev pub passed_to : Passing → ℕ → Marks → Passing
-passed_to old to marks = record old { all = to; marks = marks }
+-- the line ends of the bytes that were passed are counted: those of the others come on top
+abbrev pub IsCounted : List ℕ → Passing → Type 0
+IsCounted bytes p = p.ends + line_ends (drop p.all bytes) ≡ line_ends bytes
+
+-- and so they are of bytes more
+abbrev pub CountsOn : List ℕ → Passing → Passing → Type 0
+CountsOn bytes old new = new.ends + line_ends (drop new.all bytes) ≡ old.ends + line_ends (drop old.all bytes)
+
+-- the bytes up to this one were passed, with so many line ends in all
+abbrev pub passed_to : Passing → ℕ → ℕ → Marks → Passing
+passed_to old to ends marks = record old { all = to; ends = ends; marks = marks }
 
 -- with a line end up to this byte a line ends, where nothing is open
 abbrev pub lines_with : List Frame → ℕ → ℕ → ℕ
@@ -42,22 +58,34 @@ lines_with (f ∷ fs) old to = old
 
 -- the bytes up to this one were passed, with a line end at their end
 abbrev pub passed_line_end : List Frame → Passing → ℕ → Passing
-passed_line_end fs old to = record old { all = to; lines = lines_with fs old.lines to }
+passed_line_end fs old to = record old { all = to; ends = old.ends + 1; lines = lines_with fs old.lines to }
 
--- bytes up to this one, which is after LF, were passed, or none
-abbrev pub passed_feeds : List Frame → Passing → Option ℕ → Marks → Passing
-passed_feeds fs old None marks = record old { marks = marks }
-passed_feeds fs old (Some to) marks = record (passed_line_end fs old to) { marks = marks }
+-- bytes up to this one, which is after LF, were passed, with so many line ends in all
+abbrev pub passed_feeds : List Frame → Passing → ℕ → ℕ → Marks → Passing
+passed_feeds fs old to ends marks = record { all = to; ends = ends; lines = lines_with fs old.lines to; marks = marks }
 
 -- LF of the 64 bytes of the marks were passed, with all that stand before the last of them, or none
 abbrev pub PassesBlock : List ℕ → ℕ → List Frame → Passing → Passing → Type 0
-PassesBlock bytes from fs old new = (to : Option ℕ) × PassesFeeds bytes from old.marks to new.marks × (new ≡ passed_feeds fs old to new.marks)
+PassesBlock bytes from fs old new =
+    (new ≡ old)
+    ⊎ ((to feeds : ℕ) × PassesFeedsTo bytes from old.marks to feeds new.marks × (new ≡ passed_feeds fs old to (old.ends + feeds) new.marks))
+
+-- the word that the bytes from the passed ones to this one end with
+abbrev pub word_before : List ℕ → ℕ → Passing → Option Spelling
+word_before bytes at p = tail_of (take (at - p.all) (drop p.all bytes))
+
+-- the next byte that isn't plain is a quote that stands alone
+pub record MeetsString (bytes : List ℕ) (at : ℕ) (p : Passing) : Type 0 where
+  pub next : FindsNext bytes p.all at p.marks
+  pub within : at < length bytes
+  pub quote : is_quote (slice_index bytes at) ≡ true
+  pub alone : Some 1 ≡ quotes_in (drop at bytes)
 
 -- no LF was passed, or bytes up to one were, with all that stand before it; and then the marks stand where these do
 abbrev pub PassesLineFeeds : List ℕ → List Frame → Passing → Passing → Type 0
 PassesLineFeeds bytes fs old new =
     (new ≡ record old { marks = new.marks })
-    ⊎ (EndInFeed bytes old.all new.all × (new ≡ record (passed_line_end fs old new.all) { marks = new.marks }))
+    ⊎ (EndInFeed bytes old.all new.all × CountsOn bytes old new × (new ≡ passed_feeds fs old new.all new.ends new.marks))
 
 -- the next byte that isn't plain stands at this place, or the bytes end there; lines that end with LF before it were passed
 pub record FindsSpecial (bytes : List ℕ) (fs : List Frame) (old : Passing) (at : ℕ) (new : Passing) : Type 0 where
@@ -91,6 +119,7 @@ pub record PassesSo (bytes : List ℕ) (at place : ℕ) (old : Passing) (b : Lis
   pub further : at < new.all
   pub within : new.all ≤ length bytes
   pub lines : new.lines ≡ old.lines
+  pub counted : CountsOn bytes old new
   pub marked : HasMarks bytes new.all new.marks
   pub outside : has_field b ≡ false → has_field c ≡ false
   pub over : (start : ℕ) → place ≡ start + (at - old.all) → Passes (drop old.all bytes) (new.all - old.all) start b c
@@ -111,6 +140,7 @@ pub record EndsLineSo (bytes : List ℕ) (at : ℕ) (old : Passing) (b : List Fr
   pub all : new.all ≡ at + len
   pub within : new.all ≤ length bytes
   pub lines : new.lines ≡ new.all
+  pub counted : CountsOn bytes old new
   pub marked : HasMarks bytes new.all new.marks
   pub some : 0 < len
   pub frames : c ≡ []

@@ -596,6 +596,11 @@ abbrev pub StaysIn : OpenMode → TextMove → Type 0
 StaysIn mode (text_moves.Grows next len) = next ≡ mode
 StaysIn mode other = Unit {0}
 
+-- the byte that is left, if it is the only one
+abbrev pub lone_of : List ℕ → ℕ
+lone_of (b ∷ []) = b
+lone_of other = 0
+
 -- what is wrong where the text ends with these characters, if anything is
 abbrev pub EndsOpen : Scan → List ℕ → Option LineFault → Type 0
 EndsOpen scan run line_fault = (t u : FieldScanned) → Follows scan t → Goes t run u → IsFieldEnd u line_fault

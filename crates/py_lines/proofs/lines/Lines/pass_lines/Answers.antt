@@ -10,10 +10,11 @@ use Rattle.py_lines.proofs.lines.Lines.pass_lines.Goals as goal
 
 pub returns : goal.returns
 returns c =
-    let s = c.self.inside.source in let len = c.pass_lines-len.result in let ends = c.line_ends.result in
+    let s = c.self.inside.source in let (len, ends) = c.pass_lines-len.result in
     let none = none_is s.state.fault (sym c.is_some.ensures ∙ c.if-is_some.false) in
     record {
       passes = subst (λ (t : LineState). PassesUpTo c.args.self.now c.args.before len (record { text = s.bytes.now; place = t.place; line = t.line; fault = t.fault })) (sym c.pass.ensures)
           (subst (λ (r : Reader). PassesUpTo r c.args.before len (further (reader_of s) len ends)) c.self.view_is
-          (passes_found (reader_of s) c.args.before len ends none c.if-place-before.false c.if-before-source.false c.pass_lines-len.ensures c.line_ends.ensures.count));
+          (passes_found (reader_of s) c.args.before len ends none c.if-place-before.false c.if-before-source.false
+          c.pass_lines-len.ensures.lines c.pass_lines-len.ensures.ends));
     }

@@ -4,6 +4,7 @@ use Rattle.py_lines.specs.Character.{is_break}
 use Rattle.py_lines.specs.Private.LineEnds.{BeginsOuterEnd}
 use Rattle.py_lines.proofs.FieldScans.LineEnds.{feed_breaks, return_breaks}
 use Rattle.py_lines.proofs.FieldScans.TextLengths.{rest_is}
+use Rattle.py_lines.proofs.PassedPieces.Counts.{join_counts}
 use Rattle.py_lines.proofs.PassedPieces.Items.{join_over}
 use Rattle.py_lines.proofs.PassedPieces.Passed.{closing_passed, feed_begins, line_end_passed, opening_passed, passes_same}
 use Rattle.py_lines.proofs.Text.CharacterTests.{feed_is, return_is}
@@ -47,16 +48,30 @@ returns-then-passed c =
           let ends = subst (λ (xs : List ℕ). BeginsOuterEnd xs len) (rest_is bytes (at + 1)) w.in-Some-outer_end_len.ensures in
           rw (w.self-is, w.frames-is) (passes_same bytes at old next c.requires.within _ before (1 + len) place (omega arith)
           (omega (arith, ends.within, length-drop (at + 1) bytes, c.requires.within)) (omega arith) refl
+          (omega (arith, join_counts bytes at len c.requires.within w.in-Backslash.ensures ends))
           (w.pass-in-Backslash.ensures (at + 1) rest (omega arith))
           (λ scan p frames. join_over p first (drop (at + 1) bytes) (next.special c.requires.within) len w.in-Backslash.ensures ends))
       | in-Hash w ↦ rw (w.self-is, w.frames-is) (w.pass_comment-passed.ensures.passed (sym w.passed-is ∙ c.if-passed.true) place before)
       | in-Opening w ↦
-          rw (w.self-is, w.frames-is) (opening_passed bytes at old next c.requires.within _ before w.open.new.self place refl refl rest
+          rw (w.self-is, w.frames-is) (opening_passed bytes at old next c.requires.within _ before w.open.new.self place rest
           w.in-Opening.ensures (rw w.if-open.true at w.open.ensures))
       | in-Closing w ↦
-          rw (w.self-is, w.frames-is) (closing_passed bytes at old next c.requires.within _ before w.close.new.self place refl refl rest
+          rw (w.self-is, w.frames-is) (closing_passed bytes at old next c.requires.within _ before w.close.new.self place rest
           w.in-Closing.ensures (rw w.if-close.true at w.close.ensures))
       | in_default-2 w ↦ absurd (both_ways _ w.passed-is c.if-passed.true)
       | in_default-3 w ↦ absurd (both_ways _ w.passed-is c.if-passed.true)
       | in_default w ↦ absurd (both_ways _ w.passed-is c.if-passed.true)
+    ]
+
+pub returns-else-passed : goal.returns-else-passed
+returns-else-passed c =
+    elim c.match-of.branch [
+      | in-Quote w ↦ (w.self-is ∙ w.pass_string-passed.ensures.same (sym w.passed-is ∙ c.if-passed.false), w.frames-is)
+      | in-Backslash+in-Some-outer_end_len w ↦ absurd (both_ways _ c.if-passed.false w.passed-is)
+      | in-Hash w ↦ (w.self-is ∙ w.pass_comment-passed.ensures.same (sym w.passed-is ∙ c.if-passed.false), w.frames-is)
+      | in-Opening w ↦ absurd (both_ways _ c.if-passed.false w.passed-is)
+      | in-Closing w ↦ absurd (both_ways _ c.if-passed.false w.passed-is)
+      | in_default-2 w ↦ (w.self-is, w.frames-is ∙ (rw w.if-open.false at w.open.ensures).1)
+      | in_default-3 w ↦ (w.self-is, w.frames-is ∙ (rw w.if-close.false at w.close.ensures).1)
+      | in_default w ↦ (w.self-is, w.frames-is)
     ]

@@ -1,4 +1,4 @@
-use Rattle.std.proofs.Common.{◌<◌, ◌∙◌, arith, length, refl, sym}
+use Rattle.std.proofs.Common.{◌<◌, ◌∙◌, arith, length, sym}
 use Rattle.py_lines.specs.Character.{is_break, is_hash}
 use Rattle.py_lines.proofs.PassedPieces.Reads.{comment_begun, comment_item, comment_passed, reads_on}
 use Rattle.py_lines.proofs.passing.Passing.pass_comment.Goals as goal
@@ -28,7 +28,6 @@ returns c =
     let ends = sym c.is_break.ensures ∙ c.if-not-is_break.false in
     record {
       passed = λ _ place b. comment_passed bytes at end c.specials.marks c.args.self.now _ b place c.requires.next read within
-          c.requires.hash ends refl refl
-          (c.keep.ensures bytes (within, read.next.special within) (read.next.rest within));
+          c.requires.hash ends (c.keep.ensures bytes (within, read.next.special within) (read.next.rest within));
       same = λ h. absurd (cc);
     }

@@ -1,4 +1,4 @@
-use Rattle.std.proofs.Common.{◌+◌, ◌-◌, ◌≤◌, ap, arith, drop, length, refl, take}
+use Rattle.std.proofs.Common.{◌+◌, ◌-◌, ◌≤◌, ◌∙◌, ap, arith, drop, length, refl, take}
 use Rattle.py_lines.specs.declared.scan.Scan.{Scan}
 use Rattle.py_lines.specs.Private.Scan.{Takes, passed}
 use Rattle.py_lines.specs.Private.TakenPieces.{IsOperatorEnd, IsWordStart}
@@ -10,12 +10,18 @@ use Rattle.py_lines.proofs.scan.Scan.take_pieces.Goals as goal
 pub specials-init : goal.specials-init
 specials-init c =
     let code = in_code c.args.self.now c.requires.code in
-    rw c.new-passing.ensures.nothing (record {
-      same = refl;
-      outside = code.1;
-      takes = passes_none c.args.self.now c.args.bytes.now code.0;
-      next = c.next-at.ensures 0 c.new-passing.ensures.marked;
-    })
+    rw c.new-passing.ensures.nothing (
+      record {
+        same = refl;
+        outside = code.1;
+        takes = passes_none c.args.self.now c.args.bytes.now code.0;
+        next = c.next-at.ensures 0 c.new-passing.ensures.marked;
+      },
+      omega arith,
+    )
+
+pub pass-requires-clause-counted : goal.pass-requires-clause-counted
+pass-requires-clause-counted c = c.specials.invariant.1
 
 pub specials-smaller : goal.specials-smaller
 specials-smaller c =
@@ -24,14 +30,16 @@ specials-smaller c =
     omega (arith, on.further, next.after, next.within, c.specials-test.true)
 
 pub specials-preserved : goal.specials-preserved
-specials-preserved c =
-    passes_next _ _ _ _ _ c.specials.invariant c.pass.new.frames c.pass.new.self c.next-at-in-Passed.result c.next-at-in-Passed.new.self
-    c.in-Passed.ensures (c.next-at-in-Passed.ensures c.pass.new.self.all c.in-Passed.ensures.marked)
+specials-preserved c = (
+  passes_next _ _ _ _ _ c.specials.invariant.0 c.pass.new.frames c.pass.new.self c.next-at-in-Passed.result c.next-at-in-Passed.new.self
+      c.in-Passed.ensures (c.next-at-in-Passed.ensures c.pass.new.self.all c.in-Passed.ensures.marked),
+  c.in-Passed.ensures.counted ∙ c.specials.invariant.1,
+)
 
 pub returns-in-LineEnd : goal.returns-in-LineEnd
 returns-in-LineEnd c = (
   c.specials.at,
-  passes_line _ _ _ _ _ c.specials.invariant c.in-LineEnd.len c.pass-in-LineEnd.new.self c.pass.new.self c.pass.new.frames
+  passes_line _ _ _ _ _ c.specials.invariant.0 c.in-LineEnd.len c.pass-in-LineEnd.new.self c.pass.new.self c.pass.new.frames
       c.in-LineEnd.ensures c.pass-in-LineEnd.ensures,
 )
 
@@ -43,9 +51,9 @@ returns c =
     let scan = c.specials-test.self in
     let p = c.specials-test.passing in
     let on : HasPassed old bytes at scan p = elim c.specials-test.branch [
-      | else-specials-test w ↦ rw (w.self-is, w.passing-is) c.specials.invariant
+      | else-specials-test w ↦ rw (w.self-is, w.passing-is) c.specials.invariant.0
       | then-specials-test+in-Unpassed w ↦
-          let (same, kept) = w.in-Unpassed.ensures in rw (w.self-is, w.passing-is, kept, same) c.specials.invariant
+          let (same, kept) = w.in-Unpassed.ensures in rw (w.self-is, w.passing-is, kept, same) c.specials.invariant.0
     ] in
     let k = c.if-at-bytes.finished in
     let plain = take (at - p.all) (drop p.all bytes) in

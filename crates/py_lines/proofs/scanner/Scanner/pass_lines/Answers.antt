@@ -1,19 +1,31 @@
-use Rattle.std.proofs.Common.{rules, ◌≡◌, take, length, arith, sym, subst, ap, ◌∙◌}
+use Rattle.std.proofs.Common.{rules, ◌≡◌, take, length, length-take, arith, sym, subst, ap, ◌∙◌}
+use Rattle.std.proofs.lemmas.List.{length-take-le}
 use Rattle.std.proofs.lemmas.Bool.Decides.{Decides-eqb}
 use Rattle.std.proofs.lemmas.Slice.Eq.{starts_is}
 use Rattle.std.proofs.Math.Seq.{take-append_seam}
+use Rattle.py_lines.specs.LogicalLine.{line_ends}
 use Rattle.py_lines.specs.ScannerState.{PassesPieceLines, ScannerState, StandsAtLine}
 use Rattle.py_lines.specs.Private.LineState.{BeginsAnew}
 use Rattle.py_lines.specs.Private.Feed.{Feed, IsSoundFeed, LineState, ready_of, scanning_of}
-use Rattle.py_lines.proofs.Feeds.PassedLines.{begun_none, end_within, passed}
-use Rattle.py_lines.proofs.Feeds.LastBytes.{ends_with_return}
+use Rattle.py_lines.proofs.Feeds.PassedLines.{begun_none, end_within, none_found, passed}
+use Rattle.py_lines.proofs.Feeds.LastBytes.{ends_with_return, one_most}
 use Rattle.py_lines.proofs.Feeds.ReadyLines.{none_is}
+use Rattle.py_lines.proofs.LineScan.LineCount.{few_first}
+use Rattle.py_lines.proofs.Text.LineEnds.{line_ends-encoded}
 use Rattle.py_lines.proofs.scanner.Scanner.pass_lines.Goals.{Else-is_some-2}
 use Rattle.py_lines.proofs.scanner.Scanner.pass_lines.Goals as goal
 
 pub slice_bounds-extend_from_slice-end : goal.slice_bounds-extend_from_slice-end
 slice_bounds-extend_from_slice-end c =
-    omega (arith, end_within _ _ c.pass_lines-len.ensures c.ends_with.result (c.ends_with.ensures.value ∙ ends_with_return (take c.pass_lines-len.result (take c.min.result c.args.bytes.now))))
+    let returns = c.ends_with.ensures.value ∙ ends_with_return (take c.pass_lines-len.result.0 (take c.min.result c.args.bytes.now)) in
+    omega (arith, end_within _ _ c.pass_lines-len.ensures.lines c.ends_with.result returns)
+
+pub overflow_add-line : goal.overflow_add-line
+overflow_add-line c =
+    let clear = take c.min.result c.args.bytes.now in
+    let few = few_first clear c.pass_lines-len.result.0 in let size = length-take c.min.result c.args.bytes.now in
+    let within = c.pass_lines-len.ensures.lines.within in let place = ap (λ (s : ScannerState). s.place) c.self.view_is in
+    omega (arith, c.pass_lines-len.ensures.ends, few, within, size, c.self.invariant.room.few_lines, c.requires.fits, place)
 
 stands : (c : Else-is_some-2) → StandsAtLine (scanning_of c.self.inside.feed)
 stands c =
@@ -39,16 +51,46 @@ returns-then-is_err c = record { passes = rw (← c.self.view_is) (none_passed c
 -- lines were passed, if any were found
 some_passed : (c : goal.After-restart-2) → StandsAtLine (scanning_of c.self.inside.feed)
     → let new : Feed = record c.self.inside.feed { held = c.drop-drain.new.self.0; state = c.restart-2.new.self } in
-    PassesPieceLines (scanning_of c.self.inside.feed) c.args.bytes.now c.args.before c.pass_lines-len.result (scanning_of new) × IsSoundFeed new
+    PassesPieceLines (scanning_of c.self.inside.feed) c.args.bytes.now c.args.before c.pass_lines-len.result.0 (scanning_of new) × IsSoundFeed new
 some_passed c at =
-    let f = c.self.inside.feed in let bytes = c.args.bytes.now in let lines = c.pass_lines-len.ensures in
+    let f = c.self.inside.feed in let bytes = c.args.bytes.now in let lines = c.pass_lines-len.ensures.lines in
     let begins = rw c.deref.ensures.value at ((starts_is Decides-eqb bytes _ c.starts_with-begins.result c.starts_with-begins.ensures.value).0 c.if-not-begins.false) in
     let began : take (length f.held.items) bytes ≡ f.held.items = ap (take (length f.held.items)) begins ∙ take-append_seam f.held.items _ in
-    passed f bytes c.args.before c.min.result c.pass_lines-len.result at began c.min.ensures lines c.drop-drain.new.self.0 c.ends_with.result c.ends_with.ensures.value (search rules)
-    (c.line_ends.ensures.count lines.read lines.spell) (subst (λ (s : LineState). BeginsAnew s c.restart-2.new.self) c.pass.ensures c.restart-2.ensures) (omega (arith, c.requires.fits, ap (λ (s : ScannerState). s.place) c.self.view_is)) c.self.invariant
+    passed f bytes c.args.before c.min.result c.pass_lines-len.result.0 at began c.min.ensures lines c.drop-drain.new.self.0
+    c.ends_with.result c.ends_with.ensures.value (search rules)
+    (c.pass_lines-len.ensures.ends ∙ ap line_ends (sym lines.spell) ∙ line_ends-encoded lines.read)
+    (subst (λ (s : LineState). BeginsAnew s c.restart-2.new.self) c.pass.ensures c.restart-2.ensures)
+    (omega (arith, c.requires.fits, ap (λ (s : ScannerState). s.place) c.self.view_is)) c.self.invariant
 
 pub invariant_of-self-2 : goal.invariant_of-self-2
 invariant_of-self-2 c = (some_passed c (stands (goal.at.invariant_of-self-2 c).Else-is_some-2)).1
 
 pub returns : goal.returns
 returns c = record { passes = rw (← c.self.view_is) (some_passed c (stands (goal.at.returns c).Else-is_some-2)).0 }
+
+pub slice_bounds-clear-end : goal.slice_bounds-clear-end
+slice_bounds-clear-end c = sym (length-take-le c.min.result c.args.bytes.now (omega (arith, c.min.ensures)))
+
+pub slice_bounds-ends_with-end : goal.slice_bounds-ends_with-end
+slice_bounds-ends_with-end c = sym (length-take-le c.pass_lines-len.result.0 (take c.min.result c.args.bytes.now) c.pass_lines-len.ensures.lines.within)
+
+pub overflow_cast-end : goal.overflow_cast-end
+overflow_cast-end c = tt
+
+pub overflow_add-end : goal.overflow_add-end
+overflow_add-end c = omega (arith, c.pass_lines-len.ensures.lines.within, length-take c.min.result c.args.bytes.now, c.requires.fits, one_most c.ends_with.result)
+
+pub slice_bounds-extend_from_slice-count : goal.slice_bounds-extend_from_slice-count
+slice_bounds-extend_from_slice-count c = omega arith
+
+pub drain-requires-clause-start_le_end : goal.drain-requires-clause-start_le_end
+drain-requires-clause-start_le_end c = omega arith
+
+pub drain-requires-clause-not_exhausted : goal.drain-requires-clause-not_exhausted
+drain-requires-clause-not_exhausted c = tt
+
+pub pass-requires : goal.pass-requires
+pass-requires c = omega (arith, c.pass_lines-len.ensures.lines.within, length-take c.min.result c.args.bytes.now, c.requires.fits, ap (λ (s : ScannerState). s.place) c.self.view_is)
+
+pub returns-then-held-gt1 : goal.returns-then-held-gt1
+returns-then-held-gt1 c = record { passes = none_found c.args.self.now c.args.bytes.now c.args.before }

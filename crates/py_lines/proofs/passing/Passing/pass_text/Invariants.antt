@@ -1,6 +1,6 @@
 use Rattle.std.proofs.Common.{◌-◌, length, slice_index}
 use Rattle.py_lines.proofs.PassedPieces.Reads.{ReadsText}
-use Rattle.py_lines.proofs.passing.Passing.pass_string.Given as goal
+use Rattle.py_lines.proofs.passing.Passing.pass_text.Given as goal
 
 abbrev pub invariant-specials : goal.invariant-specials
 invariant-specials l = ReadsText (slice_index l.bytes l.at) l.bytes l.at l.end l.marks

@@ -1,0 +1,36 @@
+use Rattle.std.proofs.Common.{◌+◌, ◌<◌, ◌≡◌, ◌∙◌, List, ℕ, ap, arith, get_or-drop, length, length-drop, refl, slice_index, subst, sym}
+use Rattle.py_lines.specs.declared.frames.Frame.{Frame}
+use Rattle.py_lines.specs.Private.FieldText.{HasText}
+use Rattle.py_lines.specs.Private.Scan.{quotes_in}
+use Rattle.py_lines.proofs.FieldScans.TextLengths.{rest_is}
+use Rattle.py_lines.proofs.PassedPieces.Counts.{line_counts, quoted_counts}
+use Rattle.py_lines.proofs.PassedPieces.FieldStrings.{field_over}
+use Rattle.py_lines.proofs.PassedPieces.FirstBytes.{bytes_from}
+use Rattle.py_lines.proofs.PassedPieces.Passed.{passes_same}
+use Rattle.py_lines.proofs.passing.Passing.pass_fields.Goals as goal
+
+pub returns : goal.returns
+returns c =
+    let bytes = c.args.bytes.now in
+    let at = c.args.at in
+    let old = c.args.self.now in
+    let meets = c.requires.quote in
+    let next = meets.next in
+    let here = meets.within in
+    let n = c.text_len-len.result in
+    let q = slice_index bytes at in
+    let has = c.text_len-len.ensures in
+    let (text, within, last) = subst (λ (xs : List ℕ). HasText q xs n × (n < length xs) × (slice_index xs n ≡ q)) (rest_is bytes (at + 1))
+    (has, omega (arith, c.if-len-text.false, has.0), c.if-text-len.false) in
+    let room : at + 1 + n < length bytes = omega (arith, within, length-drop (at + 1) bytes) in
+    record {
+      passed = λ _ place. passes_same bytes at old next here _ c.args.frames.now (1 + (n + 1)) place (omega arith)
+          (omega (arith, room)) (omega arith) refl
+          (ap (λ m. old.ends + m) (quoted_counts bytes at (at + 1 + n) _ (omega arith) here room meets.quote
+          (sym (get_or-drop (at + 1) bytes n 0) ∙ last) (line_counts bytes (at + 1) n text.1.low)))
+          (c.pass.ensures (at + 1) (next.rest here) (omega arith))
+          (λ scan p frames. field_over p q (next.special here) _ n meets.quote c.requires.fields
+          (omega (arith, ap (λ (fs : List Frame). length fs) frames, c.len.ensures.is, c.if-len-gt10.false))
+          (meets.alone ∙ ap quotes_in (bytes_from bytes at here)) text within last);
+      same = λ h. absurd (cc);
+    }
