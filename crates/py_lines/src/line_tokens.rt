@@ -6,7 +6,8 @@ ghost use Rattle.py_lines.specs.Piece.{Piece, begins, string};
 ghost use Rattle.py_lines.specs.Private.Run.{IsRunOf, is_wide_word, word_spelling};
 ghost use Rattle.py_lines.specs.Private.Machine.{is_field_spelling};
 ghost use Rattle.py_lines.specs.Private.LineTokens.{AddsPiece, BeginWithPiece, HoldsTokens, IsFirstPiece, IsLineAfter, IsLineText};
-ghost use Rattle.py_lines.specs.Private.LineTokens.{ReadsPiece, is_prefix_word, line_end_len, mark_len, string_piece, token_of, token_piece};
+ghost use Rattle.py_lines.specs.Private.LineTokens.{ReadsPiece, is_prefix_word, line_end_len, mark_len};
+ghost use Rattle.py_lines.specs.Private.LineTokens.{string_piece, token_of, token_piece};
 
 use crate::character::{is_quote, is_space};
 use crate::class::Class;

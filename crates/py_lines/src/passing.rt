@@ -38,7 +38,7 @@ fn is_line_byte(b: u8) -> bool
 }
 
 /// Whether the string has fields that a quote begins after these plain bytes, where they end with its prefix or with no word. `None`
-/// promises nothing: it is the answer after another word.
+/// promises nothing.
 #[inline(always)]
 fn fields_after(plain: &[u8]) -> Option<bool>
     ensures { TellsFields (tail_of plain.now) result }
@@ -150,7 +150,8 @@ impl Passing {
         Special::LineEnd(len)
     }
 
-    /// Passes the string without fields that the quote at this byte begins, if it is short and ASCII on one line: whether it is so.
+    /// Passes the string without fields that the quote at this byte begins, and answers whether it did: it does for most that are short and
+    /// ASCII on one line. `false` promises that nothing changed, and no more.
     #[inline(always)]
     fn pass_text(&mut self, bytes: &[u8], at: usize) -> bool
         requires quote { MeetsString bytes.now at self.old }
@@ -175,8 +176,8 @@ impl Passing {
         true
     }
 
-    /// Passes the string with fields that the quote at this byte begins, if it is short and simple, where few brackets are open: whether it
-    /// is so.
+    /// Passes the string with fields that the quote at this byte begins, and answers whether it did: it does for short and simple ones where
+    /// few brackets are open. `false` promises that nothing changed, and no more.
     #[inline(always)]
     fn pass_fields(&mut self, frames: &Frames, bytes: &[u8], at: usize) -> bool
         requires quote { MeetsString bytes.now at self.old }
@@ -196,8 +197,8 @@ impl Passing {
         true
     }
 
-    /// Passes the string that the quote at this byte begins, if it is empty, or short and ASCII on one line, or one with fields that is short
-    /// and simple, where few brackets are open: whether it is so. Most strings are.
+    /// Passes the string that the quote at this byte begins, and answers whether it did: it does for most strings, as empty ones, and those
+    /// that are short and simple. `false` promises that nothing changed, and no more.
     #[inline(always)]
     fn pass_string(&mut self, frames: &Frames, bytes: &[u8], at: usize) -> bool
         requires next { FindsNext bytes.now self.old.all at self.old.marks }
