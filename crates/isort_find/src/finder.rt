@@ -163,8 +163,11 @@ impl<'t> Finder<'t> {
         ensures next { GivesNext self.old result self.new }
     {
         'lines: while self.walker.is_open() {
-            if let Some(binding) = self.next_new()? {
-                return Ok(Some(binding));
+            // Mostly nothing is left of the line read last.
+            if self.walker.is_within() {
+                if let Some(binding) = self.next_new()? {
+                    return Ok(Some(binding));
+                }
             }
             self.read_line()?;
         }

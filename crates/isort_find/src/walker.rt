@@ -61,7 +61,7 @@ impl Model for Walker {
 }
 
 impl Walker {
-    ghost use Rattle.isort_find.specs.Position.{phase_in, ready_in, skip_in};
+    ghost use Rattle.isort_find.specs.Position.{left_in, phase_in, ready_in, skip_in};
     ghost use Rattle.isort_find.specs.Private.CursorMoves.{cursor_before};
     ghost use Rattle.isort_find.specs.Private.Walks.{FollowsStep, LooksAhead, ReadsOrLosesLine, TakesOne, TriesLine, walker_state};
     ghost use Rattle.isort_find.specs.Private.Walks.{with_fault, with_position, after_line, passed_in, passed_up_to, read_again, unread_in};
@@ -163,6 +163,23 @@ impl Walker {
         FindError::Fault(fault)
     }
 
+    /// Whether bindings of the logical line read last may be left.
+    pub fn is_within(&self) -> bool
+        ensures { result ≡ false → left_in self.now.position ≡ [] }
+    {
+        matches!(&self.position, Position::Within(_))
+    }
+
+    /// Goes on after a logical line that binds nothing, as most do.
+    fn pass_line(&mut self)
+        ensures { self.new ≡ with_position self.old (Position.Between 0) }
+    {
+        match &mut self.position {
+            Position::Between { skip } => *skip = 0,
+            _ => self.position = Position::Between { skip: 0 },
+        }
+    }
+
     /// Does what follows from the logical line that begins at `start`.
     pub fn follow(&mut self, start: LineStart, step: Step) -> Result<(), FindError>
         ensures { FollowsStep self.old start step result self.new }
@@ -172,7 +189,7 @@ impl Walker {
                 let skip = self.skip();
                 self.position = Position::Within(Pending::new(bindings, start, skip));
             }
-            Step::Plain => self.position = Position::Between { skip: 0 },
+            Step::Plain => self.pass_line(),
             Step::End => self.position = Position::End { passed: 0 },
             Step::Fault(fault) => return Err(self.fail(start, fault)),
             Step::LineLost => {

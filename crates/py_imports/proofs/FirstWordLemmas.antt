@@ -52,11 +52,11 @@ other_word kind.Number word e f = refl
 other_word kind.Str word e f = refl
 other_word kind.Remark word e f = refl
 
-first_fails : (a b : Bool) → a || b ≡ false → a ≡ false
+pub first_fails : (a b : Bool) → a || b ≡ false → a ≡ false
 first_fails true b e = absurd cc
 first_fails false b e = refl
 
-second_fails : (a b : Bool) → a || b ≡ false → b ≡ false
+pub second_fails : (a b : Bool) → a || b ≡ false → b ≡ false
 second_fails true b e = absurd cc
 second_fails false b e = e
 

@@ -117,13 +117,44 @@ fn bind_statement(
     bind_items(alloc, items, head, fault_at(unit, place), bindings)
 }
 
-/// Whether a word has the length of `import` or `from`, and begins as one of them. Its length rules out most words.
+/// Whether a word has the length of `import` or `from`, and begins as one of them, which rules out most words.
 #[inline(always)]
 fn may_be_first_word(word: &[u8]) -> bool
     ensures import { result ≡ false → bytes_eq word.now (codes "import") ≡ false }
     ensures from { result ≡ false → bytes_eq word.now (codes "from") ≡ false }
 {
-    matches!(word.len(), 4 | 6) && matches!(word[0], b'i' | b'f')
+    match word {
+        [first, ..] => {
+            let has_length = (word.len() == 4) | (word.len() == 6);
+            has_length & ((*first == b'i') | (*first == b'f'))
+        }
+        [] => false,
+    }
+}
+
+/// Whether the token at `place` may be spelled as the first word of an import statement.
+#[inline(always)]
+fn may_be_first_word_at(unit: &Unit<'_>, place: usize) -> bool
+    requires { place < length unit.now.tokens.now }
+    ensures { result ≡ false → (t : Token) → slice_get unit.now.tokens.now place ≡ Some t
+        → is_first_word unit.now.text.now t ≡ false }
+{
+    let token = unit.tokens[place];
+    may_be_first_word(&unit.text.as_bytes()[token.start..token.stop])
+}
+
+/// Whether a token of the logical line may be spelled so. In most lines none may. No branch depends on what the tokens are, as a processor
+/// can't foresee it.
+#[inline(always)]
+fn may_have_first_word(unit: &Unit<'_>) -> bool
+    ensures { result ≡ false
+        → list_any (is_first_word unit.now.text.now) unit.now.tokens.now ≡ false }
+{
+    let mut may = false;
+    'tokens: for place in 0..unit.tokens.len() {
+        may |= may_be_first_word_at(unit, place);
+    }
+    may
 }
 
 /// Whether the token at `place` is spelled as the first word of an import statement.
@@ -133,9 +164,7 @@ fn is_first_word(unit: &Unit<'_>, place: usize) -> bool
     ensures { (t : Token) → slice_get unit.now.tokens.now place ≡ Some t
         → result ≡ is_first_word unit.now.text.now t }
 {
-    let token = unit.tokens[place];
-    may_be_first_word(&unit.text.as_bytes()[token.start..token.stop])
-        && form_of(token.kind, unit.word(place)).is_some()
+    form_of(unit.tokens[place].kind, unit.word(place)).is_some()
 }
 
 /// Whether a token of the logical line is spelled as the first word of an import statement, `import` or `from`. Few lines
@@ -145,6 +174,9 @@ pub fn has_first_word(unit: &Unit<'_>) -> bool
         ≡ list_any (λ t. begins_import (terminal_in unit.now.text.now t ∷ [])) unit.now.tokens.now }
     ensures none { result ≡ false → Binds (line_in unit.now) [] }
 {
+    if !may_have_first_word(unit) {
+        return false;
+    }
     'tokens: for place in 0..unit.tokens.len() {
         if is_first_word(unit, place) {
             return true;

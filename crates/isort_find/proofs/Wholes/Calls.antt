@@ -1,11 +1,11 @@
 -- A call of `next_import`, from where it begins to the end or the fault.
-use Rattle.std.proofs.Common.{◌≡◌, ℕ, ◌+◌, ◌⊎◌, None, List, inl, inr, refl, sym, ap, ◌∙◌, subst, arith}
+use Rattle.std.proofs.Common.{◌≡◌, ℕ, ◌+◌, ◌⊎◌, ⊎_elim, None, List, inl, inr, refl, sym, ap, ◌∙◌, subst, arith}
 use Rattle.py_lines.specs.declared.fault.Fault.{Fault}
 use Rattle.py_imports.specs.BindingValue.{BindingValue}
 use Rattle.isort_find.specs.Found.{IsFound}
 use Rattle.isort_find.specs.Position.{phase_in, MeetsEndAt, EndsInFaultAt}
-use Rattle.isort_find.specs.Finder.{FinderState, HasFound, HasReached, FindsEnd, FindsFault, finder_text, options_of}
-use Rattle.isort_find.specs.Private.FinderSteps.{GoesThroughCall}
+use Rattle.isort_find.specs.Finder.{FinderState, HasFound, HasReached, KeepsGiven, FindsEnd, FindsFault, finder_text, options_of}
+use Rattle.isort_find.specs.Private.FinderSteps.{GoesThroughCall, LooksThrough, ReadsOn}
 use Rattle.isort_find.specs.declared.options.FindOptions.{FindOptions}
 use Rattle.isort_find.specs.declared.walker.Position.{Position}
 use Rattle.isort_find.specs.declared.walker.Position.TheVariants as position
@@ -26,6 +26,34 @@ goes_start i = record {
   cursor = λ e. refl;
   start = inr refl;
 }
+
+-- it goes on from where it is open
+module _ {i f g : FinderState} (goes : GoesThroughCall i f) (opened : phase_in f.position ≡ phase.Open) where
+  keeps_on : KeepsGiven f g → KeepsGiven i g
+  keeps_on keeps = record {
+    kept = λ values h. keeps.kept values (goes.keeps.kept values h);
+    task = record { text = keeps.task.text ∙ goes.keeps.task.text; options = keeps.task.options ∙ goes.keeps.task.options };
+    given = keeps.given ∙ goes.keeps.given;
+  }
+
+  began_open : (phase_in i.position ≡ phase.Open) ⊎ (g ≡ i)
+  began_open = inl (⊎_elim (λ was. was) (λ same. ap (λ (x : FinderState). phase_in x.position) (sym same) ∙ opened) goes.start)
+
+  pub looks_on : LooksThrough f g → GoesThroughCall i g
+  looks_on looks = record {
+    keeps = keeps_on looks.keeps;
+    falls = λ e. omega (arith, looks.falls, goes.falls opened);
+    cursor = λ e. looks.cursor ∙ goes.cursor opened;
+    start = began_open;
+  }
+
+  pub reads_on : ReadsOn f g → GoesThroughCall i g
+  reads_on reads = record {
+    keeps = keeps_on reads.keeps;
+    falls = λ e. omega (arith, reads.falls e, goes.falls opened);
+    cursor = λ e. reads.cursor e ∙ goes.cursor opened;
+    start = began_open;
+  }
 
 -- where a finder has got that has met the end
 at_end : (f : FinderState) (values : List BindingValue) (s : Position) → phase_in s ≡ phase.End → HasReached f values s → IsFound (finder_text f) (options_of f) values None × MeetsEndAt (finder_text f) (options_of f) f.cursor.offset
