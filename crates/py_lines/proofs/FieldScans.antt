@@ -3,7 +3,6 @@ pub mod Bytes
 pub mod FrameArrays
 pub mod Frames
 pub mod Moves
-pub mod Returns
 pub mod Runs
 pub mod StringTexts
 pub mod StringBytes

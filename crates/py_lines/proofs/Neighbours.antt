@@ -78,8 +78,7 @@ touches operator text nc next rest o h = tt
 touches space text nc next rest o h = first_of is_space next rest o ∙ no_space nc o.first h o.passes
 touches word text nc next rest o h = let n = no_word nc o.first h o.passes in (first_of is_word_character next rest o ∙ n.0, ap (λ b. fielded.is_prefix text && b) (first_of is_quote next rest o ∙ n.1) ∙ none_false (fielded.is_prefix text))
 touches comment text nc next rest o h = inr (first_of is_break next rest o ∙ end_breaks nc o.first h o.passes)
-touches join text nc next rest o h = ap (λ b. ends is_return text && b) (first_of is_line_feed next rest o ∙ sym (ap (begins is_line_feed) o.is)) ∙ not-true _ h
-touches line_end text nc next rest o h = ap (λ b. ends is_return text && b) (first_of is_line_feed next rest o ∙ sym (ap (begins is_line_feed) o.is)) ∙ not-true _ h
+touches class text nc next rest o h = ap (λ b. ends is_return text && b) (first_of is_line_feed next rest o ∙ sym (ap (begins is_line_feed) o.is)) ∙ not-true _ h
 
 ends_so : (class : Class) (text : List ℕ) → is_simple class ≡ true → MayPrecede class text []
 ends_so operator text s = tt

@@ -1,8 +1,8 @@
 //! What bytes are outside strings and comments.
 
-ghost use Rattle.std.specs.Prelude.{◌≡◌, ◌<◌, ◌≤◌, ℕ, true, length, map, not, slice_index};
+ghost use Rattle.std.specs.Prelude.{◌≡◌, ◌<◌, ◌≤◌, ℕ, true, length, not, slice_index};
 ghost use Rattle.py_lines.specs.Character.{is_line_feed};
-ghost use Rattle.py_lines.specs.Private.Marks.{is_of_class, is_plain, is_set, plain_uppers, upper_bit};
+ghost use Rattle.py_lines.specs.Private.Marks.{is_of_class, is_plain, is_set};
 
 use crate::class::Class::{
     Backslash as K, Closing as E, Hash as H, LineFeed as L, Opening as B, Operator as O,
@@ -70,22 +70,6 @@ const UPPER: [u8; 64] = [
     0, 0, 0, 0, 0, 0, 0, 0,
 ];
 
-/// For each lane, the upper halves with which its lower half is a plain byte, a bit for each.
-#[inline(always)]
-fn plain_uppers(lanes: u8x64) -> u8x64
-    ensures { result ≡ map plain_uppers lanes }
-{
-    u8x64::from_array(PLAIN).swizzle_dyn_within::<16>(lanes & u8x64::splat(15))
-}
-
-/// For each lane, the bit of its upper half.
-#[inline(always)]
-fn upper_bits(lanes: u8x64) -> u8x64
-    ensures { result ≡ map upper_bit lanes }
-{
-    u8x64::from_array(UPPER).swizzle_dyn_within::<16>(lanes >> u8x64::splat(4))
-}
-
 /// Which of the first 64 bytes are not plain, a bit for each.
 #[inline(always)]
 pub fn special64(bytes: &[u8]) -> u64
@@ -93,9 +77,9 @@ pub fn special64(bytes: &[u8]) -> u64
     ensures { (k : ℕ) → k < 64 → is_set result k ≡ not (is_plain (slice_index bytes.now k)) }
 {
     let lanes = u8x64::from_slice(bytes);
-    (plain_uppers(lanes) & upper_bits(lanes))
-        .simd_eq(u8x64::splat(0))
-        .to_bitmask()
+    let uppers = u8x64::from_array(PLAIN).swizzle_dyn_within::<16>(lanes & u8x64::splat(15));
+    let own = u8x64::from_array(UPPER).swizzle_dyn_within::<16>(lanes >> u8x64::splat(4));
+    (uppers & own).simd_eq(u8x64::splat(0)).to_bitmask()
 }
 
 /// Which of the first 64 bytes are LF, a bit for each.

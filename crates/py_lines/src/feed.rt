@@ -42,10 +42,10 @@ impl Feed {
         requires room { HasRoom self.old 0 }
         ensures { ReadsTokens self.old before result self.new }
     {
-        if self.ready.is_none() {
+        let Some(end_len) = self.ready else {
             return Ok(());
-        }
-        match self.state.read_tokens(&self.held) {
+        };
+        match self.state.read_tokens(&self.held, end_len) {
             Ok(line) => {
                 self.next_line = line;
                 Ok(())

@@ -120,7 +120,6 @@ impl Frames {
     }
 
     /// What was opened last and is still open.
-    #[tactic(auto, using(crate::proofs::FieldScans::FrameArrays::first_frames_last))]
     pub fn innermost(&self) -> Option<Frame>
         ensures { IsInnermostFrame result self.now }
     {
@@ -159,11 +158,12 @@ impl Frames {
 
     /// Takes away what was opened last, if something is open.
     #[inline(always)]
-    #[tactic(auto, using(crate::proofs::FieldScans::FrameArrays::first_frames_last))]
     pub fn pop(&mut self) -> Option<Frame>
         ensures { TakesFrame self.old result self.new }
     {
-        let frame = self.innermost()?;
+        let Some(frame) = self.innermost() else {
+            return None;
+        };
         self.depth -= 1;
         if let Frame::Field(_) = frame {
             self.fields -= 1;

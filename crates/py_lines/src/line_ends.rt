@@ -1,90 +1,43 @@
 //! Line numbers: a place's line is one more than the line ends before it.
 
-ghost use Rattle.std.specs.Prelude.{◌≡◌, ℕ, ◌+◌, ◌-◌, ◌<◌, ◌≤◌, List, drop, length, encode_utf8_all};
+ghost use Rattle.std.specs.Prelude.{◌≡◌, ℕ, ◌+◌, ◌≤◌, List, drop, length, encode_utf8_all};
 ghost use Rattle.std.specs.List.{count_by};
-ghost use Rattle.py_lines.specs.Character.{is_line_feed, is_return};
+ghost use Rattle.memchr.specs.Find.{is_byte};
 ghost use Rattle.py_lines.specs.LogicalLine.{line_ends};
-ghost use Rattle.py_lines.specs.Private.LineEnds.{HasOuterEnd, lone_returns};
+ghost use Rattle.py_lines.specs.Private.LineEnds.{HasOuterEnd};
 
-/// So many bytes are counted at once.
-const BLOCK: usize = 224;
+use std::simd::prelude::*;
 
-/// How many of a few bytes are LF, and how many CR.
-#[tactic(auto, using(crate::proofs::Text::LineEnds::feeds_more, crate::proofs::Text::LineEnds::returns_more))]
+/// How many of these bytes are LF. They are looked at 64 at a time.
 #[inline(always)]
-fn few_breaks(bytes: &[u8]) -> (u8, u8)
-    requires { length bytes.now ≤ 224 }
-    ensures feeds { result.0 ≡ count_by is_line_feed bytes.now }
-    ensures returns { result.1 ≡ count_by is_return bytes.now }
-{
-    let mut feeds = 0;
-    let mut returns = 0;
-    for &b in bytes {
-        feeds += (b == b'\n') as u8;
-        returns += (b == b'\r') as u8;
-    }
-    (feeds, returns)
-}
-
-/// How many of these bytes are LF, and how many CR.
-fn breaks(bytes: &[u8]) -> (u64, u64)
-    ensures feeds { result.0 ≡ count_by is_line_feed bytes.now }
-    ensures returns { result.1 ≡ count_by is_return bytes.now }
-{
-    let mut feeds = 0;
-    let mut returns = 0;
-    for block in bytes.chunks(BLOCK) {
-        let few = few_breaks(block);
-        feeds += few.0 as u64;
-        returns += few.1 as u64;
-    }
-    (feeds, returns)
-}
-
-/// How many of a few bytes are CR that isn't before LF, the last byte aside.
-#[tactic(auto, using(crate::proofs::Text::LineEnds::lone_more), unfolding(crate::specs::Character::is_return, crate::specs::Character::is_line_feed))]
-#[inline(always)]
-fn few_lone_returns(bytes: &[u8]) -> u8
-    requires some { 0 < length bytes.now }
-    requires few { length bytes.now ≤ 225 }
-    ensures { result + lone_returns (drop (length bytes.now - 1) bytes.now) ≡ lone_returns bytes.now }
+fn line_feeds(bytes: &[u8]) -> u64
+    ensures { result ≡ count_by (is_byte 10) bytes.now }
 {
     let mut count = 0;
-    for i in 0..bytes.len() - 1 {
-        count += ((bytes[i] == b'\r') & (bytes[i + 1] != b'\n')) as u8;
+    let mut rest = bytes;
+    while rest.len() >= 64 {
+        let lanes = u8x64::from_slice(rest);
+        count += lanes.simd_eq(u8x64::splat(b'\n')).to_bitmask().count_ones() as u64;
+        rest = &rest[64..];
     }
-    count
-}
-
-/// How many of these bytes are CR that isn't before LF.
-#[tactic(auto, using(crate::proofs::Text::LineEnds::few_lone, crate::proofs::Text::LineEnds::lone_last))]
-fn lone_returns(bytes: &[u8]) -> u64
-    ensures { result ≡ lone_returns bytes.now }
-{
-    let mut count = 0;
-    let mut at = 0;
-    // Each byte is looked at with the one after it.
-    while bytes.len() - at > 1 {
-        let end = (at + BLOCK).min(bytes.len() - 1);
-        count += few_lone_returns(&bytes[at..=end]) as u64;
-        at = end;
-    }
-    count + bytes.ends_with(b"\r") as u64
+    count + memchr::memchr_iter(b'\n', rest).count() as u64
 }
 
 /// How many line ends the bytes of characters hold: LF, CR LF and CR (Python Language Reference, 2.1.2).
-#[tactic(auto, using(crate::proofs::Text::LineEnds::end_facts))]
 pub fn line_ends(bytes: &[u8]) -> u64
     ensures few { result ≤ length bytes.now }
     ensures bytes { result ≡ line_ends bytes.now }
     ensures count { (characters : List ℕ)
         → encode_utf8_all characters ≡ bytes.now → result ≡ line_ends characters }
 {
-    let (feeds, returns) = breaks(bytes);
-    if returns == 0 {
-        return feeds;
+    let mut count = line_feeds(bytes);
+    let mut rest = bytes;
+    while let Some(at) = memchr::memchr(b'\r', rest) {
+        rest = &rest[at + 1..];
+        // Of CR LF it is LF that counts.
+        count += !rest.starts_with(b"\n") as u64;
     }
-    feeds + lone_returns(bytes)
+    count
 }
 
 /// How many line ends of these bytes end before this one. Of CR LF it is LF that ends there.

@@ -89,17 +89,19 @@ impl LineState {
     }
 
     /// Reads the tokens of the next line, with which these bytes begin, up to where the scan stopped, and answers the line after it. The
-    /// scan is lent for its strings: where it stopped is as it was.
-    pub fn read_tokens(&mut self, bytes: &[u8]) -> Result<u64, AllocError>
+    /// last `end_len` bytes up to there are its line end. The scan is lent for its strings: where it stopped is as it was.
+    pub fn read_tokens(&mut self, bytes: &[u8], end_len: usize) -> Result<u64, AllocError>
         requires within { self.old.scan.stop ≤ length bytes.now }
-        requires text { IsLineText (take self.old.scan.stop bytes.now) }
+        requires text { IsLineText (take self.old.scan.stop bytes.now) end_len }
         requires lines { self.old.line + self.old.scan.stop < 2 ^ 64 }
         ensures same { self.new ≡ with_tokens self.old self.new }
-        ensures tokens { OnOk result (HoldsTokens (take self.old.scan.stop bytes.now) self.old.line self.new.tokens) }
-        ensures after { IfOk result (IsLineAfter self.old.line (take self.old.scan.stop bytes.now)) }
+        ensures tokens { OnOk result (HoldsTokens (take self.old.scan.stop bytes.now) end_len self.old.line self.new.tokens) }
+        ensures after { IfOk result (IsLineAfter self.old.line (take self.old.scan.stop bytes.now) end_len) }
     {
         let stop = self.scan.stop;
-        let read = self.tokens.read(&mut self.scan, bytes, stop, self.line);
+        let read = self
+            .tokens
+            .read(&mut self.scan, bytes, stop, end_len, self.line);
         self.scan.stop = stop;
         read
     }

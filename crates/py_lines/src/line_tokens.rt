@@ -187,20 +187,21 @@ impl LineTokens {
     }
 
     /// Reads the tokens of a whole logical line without fault, which begins on this line, and answers the line after it. Its text is
-    /// the first `len` of these bytes. The scan goes through the strings that aren't simple. If there is no memory for the tokens,
-    /// nothing is said of those that it holds.
+    /// the first `len` of these bytes, and the last `end_len` of them are its line end. The scan goes through the strings that aren't
+    /// simple. If there is no memory for the tokens, nothing is said of those that it holds.
     pub fn read(
         &mut self,
         scan: &mut Scan,
         bytes: &[u8],
         len: usize,
+        end_len: usize,
         line: u64,
     ) -> Result<u64, AllocError>
         requires within { len ≤ length bytes.now }
-        requires text { IsLineText (take len bytes.now) }
+        requires text { IsLineText (take len bytes.now) end_len }
         requires lines { line + len < 2 ^ 64 }
-        ensures tokens { OnOk result (HoldsTokens (take len bytes.now) line self.new) }
-        ensures after { IfOk result (IsLineAfter line (take len bytes.now)) }
+        ensures tokens { OnOk result (HoldsTokens (take len bytes.now) end_len line self.new) }
+        ensures after { IfOk result (IsLineAfter line (take len bytes.now) end_len) }
     {
         let text = &bytes[..len];
         let mark = mark_len(text);
@@ -209,7 +210,8 @@ impl LineTokens {
         self.tokens.clear();
         let mut start = mark + self.indent;
         let mut line_here = line;
-        'pieces: while start < len {
+        let content_len = len - end_len;
+        'pieces: while start < content_len {
             let (piece, line_ends) = self.read_piece(
                 scan,
                 &text[start..],
@@ -222,6 +224,6 @@ impl LineTokens {
             // Mostly no space follows, or one.
             start += text[start..].starts_with(b" ") as usize;
         }
-        Ok(line_here)
+        Ok(line_here + (end_len > 0) as u64)
     }
 }

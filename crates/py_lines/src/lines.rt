@@ -97,7 +97,6 @@ impl<'t> Lines<'t> {
     ///
     /// A line is passed over only where it ends at byte `before` of the text or before it, and nothing is wrong in it. That each such line is
     /// passed over is not promised.
-    #[tactic(auto, using(crate::proofs::LineScan::LineCount::few_first))]
     pub fn pass_lines(&mut self, before: usize) -> usize
         ensures passes { PassesUpTo self.old before result self.new }
     {

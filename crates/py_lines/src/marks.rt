@@ -36,7 +36,6 @@ impl Marks {
     }
 
     /// Those of a text's last bytes, fewer than 64.
-    #[tactic(auto, using(crate::proofs::SpecialBytes::Places::filled, crate::proofs::SpecialBytes::Places::filled_feeds))]
     #[inline(never)]
     fn of_last(rest: &[u8], base: usize) -> Marks
         requires { length rest.now < 64 }

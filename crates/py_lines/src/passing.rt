@@ -119,7 +119,6 @@ impl Passing {
 
     /// The next byte that isn't plain, or the bytes' end. It is passed by the marks. LF before it are passed first: with each of them a line
     /// ends, except in brackets.
-    #[tactic(auto, using(crate::proofs::PassedPieces::Counts::few_ends, crate::proofs::PassedPieces::LineFeeds::counted_so))]
     #[inline(always)]
     pub fn next(&mut self, frames: &Frames, bytes: &[u8]) -> usize
         requires counted { IsCounted bytes.now self.old }
@@ -249,7 +248,6 @@ impl Passing {
 
     /// Passes the byte at this place, which is not plain, or the piece that it begins, with the plain bytes before it. In its line it
     /// stands at the byte `place`.
-    #[tactic(auto, using(crate::proofs::PassedPieces::Counts::few_ends))]
     #[inline(always)]
     pub fn pass(&mut self, frames: &mut Frames, bytes: &[u8], at: usize, place: usize) -> Special
         requires next { FindsNext bytes.now self.old.all at self.old.marks }
@@ -257,7 +255,8 @@ impl Passing {
         requires counted { IsCounted bytes.now self.old }
         ensures { PassesSpecial bytes.now at place self.old frames.old result self.new frames.new }
     {
-        let passed = match Class::of(bytes[at]) {
+        let first = bytes[at];
+        let passed = match Class::of(first) {
             Class::LineFeed => return self.pass_line_end(frames, at, 1),
             Class::Return => {
                 let Some(len) = outer_end_len(&bytes[at..]) else {
@@ -278,11 +277,11 @@ impl Passing {
                 true
             }
             Class::Hash => self.pass_comment(bytes, at),
-            Class::Opening if frames.open(Frame::Bracket(bytes[at] as char, place)) => {
+            Class::Opening if frames.open(Frame::Bracket(first as char, place)) => {
                 self.all = at + 1;
                 true
             }
-            Class::Closing if frames.close(bytes[at] as char) => {
+            Class::Closing if frames.close(first as char) => {
                 self.all = at + 1;
                 true
             }

@@ -4,7 +4,7 @@ ghost use Rattle.std.specs.Prelude.{◌≡◌, ◌<◌, ◌≤◌, ◌==◌, len
 ghost use Rattle.std.specs.List.{prefix_len};
 ghost use Rattle.py_lines.specs.Private.Scan.{HasQuote};
 ghost use Rattle.py_lines.specs.Private.Run.{IsRunOf, Marks, Spans, is_between, is_in_run, stays};
-ghost use Rattle.py_lines.specs.Private.Run.{is_ascii_word, is_body_byte, is_comment_byte, is_long_byte};
+ghost use Rattle.py_lines.specs.Private.Run.{is_ascii_word, is_body_byte, is_comment_byte, is_long_byte, is_wide_word};
 
 use crate::character::is_break;
 use crate::mode::{Mode, Spelling};
@@ -35,13 +35,31 @@ fn equal(lanes: u8x16, byte: u8) -> mask8x16
     lanes.simd_eq(u8x16::splat(byte))
 }
 
+/// For each lower half of a byte, the upper halves with which the byte stands in a word, a bit for each; the lowest bit stands
+/// for those of bytes that aren't ASCII.
+const WORD: [u8; 16] = [
+    169, 249, 249, 249, 249, 249, 249, 249, 249, 249, 241, 81, 81, 81, 81, 113,
+];
+
+/// The bit of each upper half.
+const UPPER: [u8; 16] = [0, 2, 4, 8, 16, 32, 64, 128, 1, 1, 1, 1, 1, 1, 1, 1];
+
+/// The lanes that hold bytes of words, or of characters that aren't ASCII.
+#[inline(always)]
+fn wide_words(lanes: u8x16) -> mask8x16
+    ensures { Marks is_wide_word lanes result }
+{
+    let uppers = u8x16::from_array(WORD).swizzle_dyn_within::<16>(lanes & u8x16::splat(15));
+    let own = u8x16::from_array(UPPER).swizzle_dyn_within::<16>(lanes >> u8x16::splat(4));
+    (uppers & own).simd_ne(u8x16::splat(0))
+}
+
 /// The lanes that hold bytes of words.
 #[inline(always)]
 fn words(lanes: u8x16) -> mask8x16
     ensures { Marks is_ascii_word lanes result }
 {
-    let capital = between(lanes, b'0', b'9') | between(lanes, b'A', b'Z');
-    capital | between(lanes, b'a', b'z') | equal(lanes, b'_')
+    wide_words(lanes) & lanes.simd_lt(u8x16::splat(128))
 }
 
 /// The lanes of the body of a string.
@@ -83,7 +101,7 @@ impl ByteRun {
         let ascii = lanes.simd_lt(u8x16::splat(128));
         let passing = match self {
             ByteRun::Word => words(lanes),
-            ByteRun::WideWord => words(lanes) | !ascii,
+            ByteRun::WideWord => wide_words(lanes),
             ByteRun::Space => equal(lanes, b' ') | equal(lanes, b'\t') | equal(lanes, b'\x0c'),
             ByteRun::Body(quote) => body(quote, lanes),
             ByteRun::Text(quote) => body(quote, lanes) & ascii,
@@ -101,7 +119,6 @@ impl ByteRun {
     }
 
     /// How many such bytes a text begins with. They are taken sixteen at a time.
-    #[tactic(auto, using(crate::proofs::Text::Lanes::sixteen_on))]
     #[inline(always)]
     pub fn len_in(self, bytes: &[u8]) -> usize
         ensures { IsRunOf (is_in_run self) bytes.now result }
@@ -118,7 +135,6 @@ impl ByteRun {
     }
 
     /// The same, where the text has fewer than sixteen.
-    #[tactic(auto, using(crate::proofs::Text::Lanes::shorter_run))]
     fn short_len_in(self, bytes: &[u8]) -> usize
         requires { length bytes.now < 16 }
         ensures within { result ≤ length bytes.now }
@@ -150,7 +166,6 @@ fn long_run(quote: u8, bytes: &[u8]) -> usize
 }
 
 /// How many bytes of whole characters a text begins with that leave the open piece as it is, where that is no string with fields.
-#[tactic(auto, using(crate::proofs::LineScan::Spans::text_spans))]
 #[inline(always)]
 pub fn characters_in(mode: Mode, bytes: &[u8]) -> usize
     requires quote { HasQuote mode }

@@ -222,7 +222,6 @@ impl Scan {
     }
 
     /// Takes what the bytes begin with, after the open piece: this character is the first of it.
-    #[tactic(auto, using(crate::proofs::FieldScans::CodeItems::some_first))]
     fn take_piece(&mut self, c: char, bytes: &[u8]) -> Progress
         requires bytes { self.old.stop + length bytes.now < 2 ^ 64 }
         requires first { BeginsWith bytes.now c }

@@ -33,7 +33,7 @@ impl<'t> Source<'t> {
         match self.state.scan_line(rest) {
             Ok(end_len) => {
                 let len = self.state.scan.stop;
-                let line = self.state.read_tokens(rest)?;
+                let line = self.state.read_tokens(rest, end_len)?;
                 self.state.pass(len, line);
                 Ok(Some(end_len))
             }

@@ -5,7 +5,6 @@ ghost use Rattle.std.specs.Str.{StartsWithNoChar};
 ghost use Rattle.py_lines.specs.Private.Run.{BeginsWith};
 
 /// The text that the bytes begin with, up to the first that begin no character.
-#[tactic(auto, using(crate::proofs::Text::Utf8Prefixes::whole_text, crate::proofs::Text::Utf8Prefixes::front_text))]
 pub fn utf8_prefix(bytes: &[u8]) -> &str
     ensures prefix { result.now ≡ take (length result.now) bytes.now }
     ensures bad { StartsWithNoChar (drop (length result.now) bytes.now) }

@@ -11,7 +11,7 @@ use Rattle.py_lines.specs.Dialect.{Dialect, fielded_dialect, plain_dialect}
 use Rattle.py_lines.specs.Fields.{Fields}
 use Rattle.py_lines.specs.Reading.{IsReadingIn, Decodes, IsReadPrefixIn}
 use Rattle.py_lines.specs.OpenFields.{Spot, IsOpenStringIn, in_literal, in_specification, AreBegunIn, BeginsListIn, at_start, in_field, StandsOpenIn, IsOpenUpToIn, InOpenShortIn, InOpenLongIn, AfterOpenBackslashIn, InSpecificationIn, InOpenFieldIn}
-use Rattle.py_lines.specs.Faults.{IsLiveIn, DiesAtIn, IsFieldDueIn, IsAtDepthIn, OpensBraceTooDeepIn, Cause, brace_too_deep, breaks_string, breaks_join, closes_wrong, opens_too_deep, ends_specification, begins_nothing, ExplainsIn, causes_before, NoneExplainsIn, IsCharacterFaultIn, InOpenBracketIn, Unfinished, open_brace, open_short, open_long, open_join, open_bracket, open_inside, IsOpenAtEndIn, IsFaultAtIn, at_character, at_bytes, at_end, IsLexicalFaultIn}
+use Rattle.py_lines.specs.Faults.{IsLiveIn, DiesAtIn, IsFieldDueIn, IsAtDepthIn, OpensBraceTooDeepIn, Cause, brace_too_deep, breaks_string, breaks_join, opens_too_deep, ends_specification, ExplainsIn, causes_before, NoneExplainsIn, IsCharacterFaultIn, InOpenBracketIn, Unfinished, open_brace, open_short, open_long, open_join, open_bracket, open_inside, IsOpenAtEndIn, IsFaultAtIn, at_character, at_bytes, at_end, IsLexicalFaultIn}
 use Rattle.py_lines.proofs.Fields.Parts.{not_nothing}
 use Rattle.py_lines.proofs.Fields.Elsewhere.{later, none_false, no_field_prefix, quotes_begin, read_with, read_without, balanced_with, balanced_without}
 use Rattle.py_lines.proofs.Elsewhere.SameRuns.{live_with, live_without}
@@ -79,11 +79,9 @@ module _ (old new : Dialect) (same : Carries old new) where
 
   -- a piece that is open
   stands_carried : (Open Other : List ℕ → Type 0) → ((front : List ℕ) → may_have_fields front ≡ false → Open front → Other front) → (characters start : List ℕ) → may_have_fields characters ≡ false → StandsOpenIn old Open characters start → StandsOpenIn new Other characters start
-  stands_carried Open Other carry characters start h is =
-      let whole : may_have_fields (is.outside ++ (spelled is.pieces ++ is.front)) ≡ false =
+  stands_carried Open Other carry characters start h is = let whole : may_have_fields (is.outside ++ (spelled is.pieces ++ is.front)) ≡ false =
       ap may_have_fields (sym (append_assoc is.outside (spelled is.pieces) is.front) ∙ ap (λ t. t ++ is.front) is.before ∙ is.spell) ∙ h in
-      let own = later is.outside (spelled is.pieces ++ is.front) whole in
-      search (
+      let own = later is.outside (spelled is.pieces ++ is.front) whole in search (
         is,
         list_carried is.outside (spelled is.pieces ++ is.front) is.depth whole is.list,
         begun_carried is.depth is.pieces is.front own is.begun,
@@ -121,10 +119,8 @@ module _ (old new : Dialect) (same : Carries old new) where
   no_brace before after offset h is = no_field _ _ is.start after (earlier is.start (byte "{" ∷ []) (ap may_have_fields is.spell ∙ h)) is.due
 
   depth_carried : (before : List ℕ) (c depth : ℕ) → may_have_fields (before ++ c ∷ []) ≡ false → IsAtDepthIn old before c depth → IsAtDepthIn new before c depth
-  depth_carried before c depth h is =
-      let whole : may_have_fields (is.outside ++ (spelled is.pieces ++ c ∷ [])) ≡ false =
-      ap may_have_fields (sym (append_assoc is.outside (spelled is.pieces) (c ∷ [])) ∙ ap (λ t. t ++ c ∷ []) is.spell) ∙ h in
-      search (
+  depth_carried before c depth h is = let whole : may_have_fields (is.outside ++ (spelled is.pieces ++ c ∷ [])) ≡ false =
+      ap may_have_fields (sym (append_assoc is.outside (spelled is.pieces) (c ∷ [])) ∙ ap (λ t. t ++ c ∷ []) is.spell) ∙ h in search (
         is,
         list_carried is.outside (spelled is.pieces ++ c ∷ []) is.base whole is.list,
         begun_carried is.base is.pieces (c ∷ []) (later is.outside (spelled is.pieces ++ c ∷ []) whole) is.begun,
@@ -140,21 +136,18 @@ module _ (old new : Dialect) (same : Carries old new) where
     inside = ⊎_elim (λ short. inl (in_short_carried before is.start (earlier before (c ∷ []) h) short)) (λ other. absurd (no_specification other.host before other.field (earlier before (c ∷ []) h) other.inside)) is.inside;
   }
   explains_carried breaks_join before c offset h is = record { start = is.start; after = backslash_carried before is.start (earlier before (c ∷ []) h) is.after; place = is.place }
-  explains_carried closes_wrong before c offset h is = is
   explains_carried opens_too_deep before c offset h is = record {
     opens = is.opens;
     place = is.place;
     deep = ⊎_elim (λ at. inl (depth_carried before c 200 h at)) (λ due. absurd (no_field _ _ before [] (earlier before (c ∷ []) h) due.1)) is.deep;
   }
   explains_carried ends_specification before c offset h is = absurd (no_specification is.host before is.start (earlier before (c ∷ []) h) is.inside)
-  explains_carried begins_nothing before c offset h is = is
+  explains_carried cause before c offset h is = is
 
   -- the bracket that is open
   bracket_carried : (characters start : List ℕ) → may_have_fields characters ≡ false → InOpenBracketIn old characters start → InOpenBracketIn new characters start
-  bracket_carried characters start h is =
-      let ps : List Piece = is.outer ++ is.opener ∷ is.inner in
-      let whole : may_have_fields (is.outside ++ spelled ps) ≡ false = ap may_have_fields is.spell ∙ h in
-      search (
+  bracket_carried characters start h is = let ps : List Piece = is.outer ++ is.opener ∷ is.inner in
+      let whole : may_have_fields (is.outside ++ spelled ps) ≡ false = ap may_have_fields is.spell ∙ h in search (
         is,
         list_carried is.outside (spelled ps) is.depth whole is.list,
         begun_carried is.depth ps [] (ap may_have_fields (append-nil (spelled ps)) ∙ later is.outside (spelled ps) whole) is.begun,
@@ -173,19 +166,16 @@ module _ (old new : Dialect) (there : Carries old new) (back : Carries new old) 
   through before after characters c spell h = earlier (before ++ c ∷ []) after (ap may_have_fields (append_assoc before (c ∷ []) after ∙ spell) ∙ h)
 
   dies_carried : (characters before : List ℕ) (c : ℕ) → may_have_fields characters ≡ false → DiesAtIn old characters before c → DiesAtIn new characters before c
-  dies_carried characters before c h is =
-      let here = through before is.after characters c is.spell h in
+  dies_carried characters before c h is = let here = through before is.after characters c is.spell h in
       record { after = is.after; spell = is.spell; live = there.live before (earlier before (c ∷ []) here) is.live; dead = λ live. is.dead (back.live (before ++ c ∷ []) here live) }
 
   character_carried : (kind : FaultKind) (characters : List ℕ) (offset : ℕ) → may_have_fields characters ≡ false → IsCharacterFaultIn old kind characters offset → IsCharacterFaultIn new kind characters offset
-  character_carried kind characters offset h is =
-      let here = through is.before is.dies.after characters is.c is.dies.spell h in
-      search (
-        is,
-        dies_carried characters is.before is.c h is.dies,
-        explains_carried old new there is.cause is.before is.c offset here is.fits,
-        none_carried (causes_before is.cause) is.before is.c here is.first,
-      )
+  character_carried kind characters offset h is = let here = through is.before is.dies.after characters is.c is.dies.spell h in search (
+    is,
+    dies_carried characters is.before is.c h is.dies,
+    explains_carried old new there is.cause is.before is.c offset here is.fits,
+    none_carried (causes_before is.cause) is.before is.c here is.first,
+  )
 
   -- what is open at the end
   open_carried : (unfinished : Unfinished) (characters : List ℕ) (offset : ℕ) → may_have_fields characters ≡ false → IsOpenAtEndIn old unfinished characters offset → IsOpenAtEndIn new unfinished characters offset
@@ -222,8 +212,7 @@ module _ (old new : Dialect) (there : Carries old new) (back : Carries new old) 
 
   lexed_carried : (text : List ℕ) (lines : List LogicalLine) (end : Option Fault) → HasNoFields text → IsLexedIn old text lines end → IsLexedIn new text lines end
   lexed_carried text lines None free is = search (is, there.reading is.pieces is.characters (none_in text is.characters _ free is.decodes) is.reading)
-  lexed_carried text lines (Some fault) free is =
-      let h = none_in text is.characters is.tail free is.decodes in
+  lexed_carried text lines (Some fault) free is = let h = none_in text is.characters is.tail free is.decodes in
       search (is, prefix_carried is.pieces is.characters h is.prefix, lexical_carried is.characters is.tail fault h is.refused)
 
 pub lexed_with : (text : List ℕ) (lines : List LogicalLine) (end : Option Fault) → HasNoFields text → IsPlainLexed text lines end → IsLexed text lines end

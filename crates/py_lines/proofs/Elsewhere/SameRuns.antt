@@ -12,8 +12,7 @@ use Rattle.py_lines.specs.FieldStrings.{is_field_prefix, may_have_fields}
 use Rattle.py_lines.specs.Dialect.{plain_dialect, fielded_dialect}
 use Rattle.py_lines.specs.Faults.{IsLiveIn}
 use Rattle.py_lines.specs.Private.Mode as modes
-use Rattle.py_lines.specs.Private.Machine.{Mode, Move, Start, class_of, closed, move_of, start_of, first_spelling}
-use Rattle.py_lines.specs.Private.Machine.{Move as moves, Start as starts}
+use Rattle.py_lines.specs.Private.Machine.{Mode, Move, Start, class_of, closed, move_of, start_of, first_spelling, Move as moves, Start as starts}
 use Rattle.py_lines.specs.Private.FieldMachine.{FieldMode, plain, plain_move, begins_host, Level, FieldScanned, field_state, field_text_start, field_pieces, field_moved, field_started, field_step, after_operator, openers_with, openers_through}
 use Rattle.py_lines.proofs.Text.Splits.{Either, either}
 use Rattle.py_lines.proofs.Text.CharacterTests.{prefix_word}
@@ -99,8 +98,7 @@ begins_none : (cs : List ℕ) (t u : FieldScanned) (read : List ℕ) → IsField
 begins_none [] t u read sound own h runs = tt
 begins_none (c ∷ cs) t u read sound own h runs =
     let (n, one, rest) = runs_parts t (c ∷ []) cs u runs in
-    let step = (roomy_parts _ _ n (one_runs t c n one)).1 in
-    let none = text_none t.outer t.done t.openers t.mode t.held read c cs sound own h in
+    let step = (roomy_parts _ _ n (one_runs t c n one)).1 in let none = text_none t.outer t.done t.openers t.mode t.held read c cs sound own h in
     let after = begins_none cs n u (read ++ c ∷ []) (runs_on t read (c ∷ []) n sound one) (subst PlainIf step (plain_step t.outer t.done t.openers t.mode t.held read c sound own none)) (ap may_have_fields (append_assoc read (c ∷ []) cs) ∙ h) rest in
     (none, λ next is. subst (λ (o : Option FieldScanned). NoneIf o) (sym step ∙ is) after)
   where
@@ -116,16 +114,12 @@ plain_pieces outer done os n held read sound own = absurd own
 -- such a text is live without fields if it is live with them
 pub live_without : (cs : List ℕ) → may_have_fields cs ≡ false → IsLiveIn fielded_dialect cs → IsLiveIn plain_dialect cs
 live_without cs h live =
-    let (t, runs) = live_runs cs live in
-    let sound = runs_sound cs t runs in
-    let start = start_is_sound two_hundred in
+    let (t, runs) = live_runs cs live in let sound = runs_sound cs t runs in let start = start_is_sound two_hundred in
     let own = plain_run cs field_text_start t [] start tt (begins_none cs field_text_start t [] start tt h runs) runs in
     let end = state_finishes two_hundred BelowLimit t.outer t.done t.openers t.mode t.held cs sound in
-    let more : RunsFrom t end.more end.to = (steps_of BelowLimit t end.to end.more end.goes, room_of t end.to end.more end.goes) in
-    let to = end.to in
+    let more : RunsFrom t end.more end.to = (steps_of BelowLimit t end.to end.more end.goes, room_of t end.to end.more end.goes) in let to = end.to in
     let last = plain_pieces to.outer to.done to.openers to.mode to.held (cs ++ end.more) (runs_on t cs end.more to sound more) (plain_run end.more t to cs sound own end.none more) in
-    let reading = reading_at (cs ++ end.more) to (runs_both field_text_start cs end.more t to runs more) end.final in
-    record {
+    let reading = reading_at (cs ++ end.more) to (runs_both field_text_start cs end.more t to runs more) end.final in record {
       more = end.more;
       pieces = field_pieces to;
       scalars = end.scalars;
@@ -179,34 +173,34 @@ record Opens (class : Class) (c : ℕ) (cs rest : List ℕ) : Type 0 where
 
 string_opens : (prefix : List ℕ) (q : ℕ) (body rest : List ℕ) (c : ℕ) (cs : List ℕ) → c ∷ cs ≡ prefix ++ q ∷ body → IsPrefix prefix → is_quote q ≡ true → EndsWith string (modes.Opened q) body rest → Opens string c cs rest
 string_opens [] q body rest c cs is begun quotes ends =
-    let first : q ≡ c = cc in
-    let others : body ≡ cs = cc in
+    let first : q ≡ c = cc in let others : body ≡ cs = cc in
     rw (← first, ← others) (record { mode = modes.Opened q; starts_as = start-quote q quotes; ends = ends })
 string_opens (a ∷ bs) q body rest c cs is (inl none) quotes ends = absurd (cc)
 string_opens (a ∷ bs) q body rest c cs is (inr begun) quotes ends =
     let first : a ≡ c = cc in
-    let others : (bs ++ q ∷ []) ++ body ≡ cs = append_assoc bs (q ∷ []) body ∙ (cc) in
-    rw (← first, ← others) (record {
+    let others : (bs ++ q ∷ []) ++ body ≡ cs = append_assoc bs (q ∷ []) body ∙ (cc) in rw (← first, ← others) (record {
       mode = modes.Word (first_spelling a);
       starts_as = start-word a (prefix_word a bs begun).0;
       ends = ends_after string _ (modes.Opened q) (bs ++ q ∷ []) body rest (grown-prefix a bs q begun quotes) ends;
     })
 
+more_than_one : (text : List ℕ) (c : ℕ) (front : List ℕ) (d : ℕ) (back : List ℕ) (x : ℕ) → text ≡ c ∷ (front ++ d ∷ back) → text ≡ x ∷ [] → ⊥
+more_than_one text c front d back x spell one = not_nothing front d back (cc)
+
+opens_read : (class : Class) (text rest : List ℕ) (c : ℕ) (front : List ℕ) (d : ℕ) (back : List ℕ) → text ≡ c ∷ (front ++ d ∷ back) → IsRead class text rest → Opens class c (front ++ d ∷ back) rest
+opens_read class text rest c front d back spell (at_once so feed) = absurd (more_than_one text c front d back 10 spell feed)
+opens_read class text rest c front d back spell (opened e es m at starts_as quiet ends) =
+    let first : e ≡ c = cc in let others : es ≡ front ++ d ∷ back = cc in
+    record { mode = m; starts_as = ap start_of (sym first) ∙ starts_as; ends = subst (λ t. EndsWith class m t rest) others ends }
+
 opens_so : (class : Class) (text rest : List ℕ) (c : ℕ) (front : List ℕ) (d : ℕ) (back : List ℕ) → text ≡ c ∷ (front ++ d ∷ back) → InPlainClass class text → MayPrecedePlain class text rest → Opens class c (front ++ d ∷ back) rest
-opens_so mark text rest c front d back spell (x, is, passes) before = absurd (not_nothing front d back (cc))
-opens_so operator text rest c front d back spell (x, is, passes) before = absurd (not_nothing front d back (cc))
+opens_so mark text rest c front d back spell (x, is, passes) before = absurd (more_than_one text c front d back x spell is)
+opens_so operator text rest c front d back spell (x, is, passes) before = absurd (more_than_one text c front d back x spell is)
 opens_so string text rest c front d back spell (inl short) before =
     string_opens short.prefix short.quote _ rest c _ (sym spell ∙ short.spell) short.begun short.opens (short_ends text short.prefix short.quote short.items rest short.spell short.begun short.opens short.each before)
 opens_so string text rest c front d back spell (inr long) before =
     string_opens long.prefix long.quote _ rest c _ (sym spell ∙ long.spell) long.begun long.opens (long_ends long.quote long.items rest long.opens long.each long.first)
-opens_so class text rest c front d back spell is before = go (is_read class text rest tt is before)
-  where
-    go : IsRead class text rest → Opens class c (front ++ d ∷ back) rest
-    go (at_once so feed) = absurd (not_nothing front d back (cc))
-    go (opened e es m at starts_as quiet ends) =
-        let first : e ≡ c = cc in
-        let others : es ≡ front ++ d ∷ back = cc in
-        record { mode = m; starts_as = ap start_of (sym first) ∙ starts_as; ends = subst (λ t. EndsWith class m t rest) others ends }
+opens_so class text rest c front d back spell is before = opens_read class text rest c front d back spell (is_read class text rest tt is before)
 
 -- the machine with fields grows alike
 grown_with : (outer : List Level) (done : List Piece) (os : List ℕ) (m n : Mode) (held text : List ℕ) → may_have_fields (held ++ text) ≡ false → Grown m text n → Goes BelowLimit (field_state outer done os (plain m) held) text (field_state outer done os (plain n) (held ++ text))
@@ -235,24 +229,19 @@ live_with cs h live = go (cut_at live.pieces cs live.more live.reading.reads.spe
         first_reached qs rs front (subst IsBalanced is live.reading.balanced) (subst (IsShallowPlain 0) is live.reading.shallow) (ap may_have_fields spell ∙ h) fit unmarked
 
     go : CutAt live.pieces cs → IsLiveIn fielded_dialect cs
-    go (between qs rs is spell) =
-        let fit = AreReadIn-first _ qs rs [] (subst (λ l. AreReadPlain l []) is live.reading.reads.fit) in
+    go (between qs rs is spell) = let fit = AreReadIn-first _ qs rs [] (subst (λ l. AreReadPlain l []) is live.reading.reads.fit) in
         let (os, at) = first qs rs [] is (append-nil (spelled qs) ∙ spell) (read_nothing _ qs _ fit) (λ none. refl) in
         runs_live cs at.to (subst (λ t. RunsFrom field_text_start t at.to) spell at.runs)
-    go (in_piece qs rs p c front d back is spell own) =
-        let all = subst (λ l. AreReadPlain l []) is live.reading.reads.fit in
+    go (in_piece qs rs p c front d back is spell own) = let all = subst (λ l. AreReadPlain l []) is live.reading.reads.fit in
         let after : spelled (p ∷ rs) ++ [] ≡ c ∷ ((front ++ d ∷ back) ++ (spelled rs ++ [])) = append_assoc p.text (spelled rs) [] ∙ ap (λ t. t ++ (spelled rs ++ [])) own in
         let fit = read_before _ qs c _ front (subst (AreReadPlain qs) after (AreReadIn-first _ qs (p ∷ rs) [] all)) in
-        let read = AreReadIn-second _ qs (p ∷ rs) [] all in
-        let opens = opens_so p.class p.text _ c front d back own read.0 read.1 in
-        let (os, at) = first qs (p ∷ rs) (c ∷ front) is spell fit (λ none. false_from_ne_true _ (λ marks. let both : starts.Nothing ≡ starts.Open opens.mode = sym (start-mark c marks) ∙ opens.starts_as in absurd (cc))) in
-        let (k, grown) = front_grown p.class opens.mode front d back _ opens.ends in
-        let to = at.to in
-        let end : FieldScanned = field_state to.outer (field_pieces to) to.openers (plain k) (c ∷ front) in
-        let goes : Goes BelowLimit to (c ∷ front) end =
+        let read = AreReadIn-second _ qs (p ∷ rs) [] all in let opens = opens_so p.class p.text _ c front d back own read.0 read.1 in
+        let (os, at) = first qs (p ∷ rs) (c ∷ front) is spell fit (λ none. false_from_ne_true _ (λ marks. let none : starts.Nothing ≡ starts.Open opens.mode = sym (start-mark c marks) ∙ opens.starts_as in absurd (cc))) in
+        let (k, grown) = front_grown p.class opens.mode front d back _ opens.ends in let to = at.to in
+        let end : FieldScanned = field_state to.outer (field_pieces to) to.openers (plain k) (c ∷ front) in let goes : Goes BelowLimit to (c ∷ front) end =
         goes-begins BelowLimit to (field_state to.outer (field_pieces to) to.openers (plain opens.mode) (c ∷ [])) end c front at.stops
         (ap (field_started to.outer (field_pieces to) to.openers c) opens.starts_as)
-        (λ bracket. absurd (both_ways _ (opens_no c (starts.Open opens.mode) opens.starts_as (λ e. cc)) bracket))
+        (λ bracket. absurd (both_ways _ (opens_no c (starts.Open opens.mode) opens.starts_as (λ (is : starts.Open opens.mode ≡ starts.Operator). cc)) bracket))
         (grown_with to.outer (field_pieces to) to.openers opens.mode k (c ∷ []) front (later (spelled qs) (c ∷ front) (ap may_have_fields spell ∙ h)) grown) in
         let runs = runs_both field_text_start (spelled qs) (c ∷ front) to end at.runs (steps_of BelowLimit to end (c ∷ front) goes, room_of to end (c ∷ front) goes) in
         runs_live cs end (subst (λ t. RunsFrom field_text_start t end) spell runs)

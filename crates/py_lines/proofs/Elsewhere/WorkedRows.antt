@@ -14,8 +14,7 @@ use Rattle.py_lines.proofs.Pieces.PieceLists.{piece}
 -- f"{x is live without fields: a quote closes the string
 live_without : IsLiveIn plain_dialect (codes "f\"{x")
 unfolding tested
-live_without =
-    let text = codes "f\"{x\"" in
+live_without = let text = codes "f\"{x\"" in
     let short : IsShortString text = record { prefix = codes "f"; quote = 34; items = (123 ∷ []) ∷ (120 ∷ []) ∷ []; spell = refl; begun = inr refl; opens = refl; each = refl } in
     record {
       more = codes "\"";

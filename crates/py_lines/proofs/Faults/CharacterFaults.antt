@@ -5,10 +5,8 @@ use Rattle.std.specs.Prelude.{if◌then◌else◌, codes}
 use Rattle.std.proofs.lemmas.Bool.{both_ways, cond_both, and_from, or_parts, or_from, not_from_false, eq-eqb, and_parts, eqb-true, ltb-false}
 use Rattle.py_lines.specs.Character.{is_quote, is_line_feed, is_return, is_break}
 use Rattle.py_lines.specs.FieldStrings.{Host, Place, literal, specification}
-use Rattle.py_lines.specs.Private.Machine.{Mode}
+use Rattle.py_lines.specs.Private.Machine.{Mode, Move, Holds, move_of, short_move, long_move, start_of}
 use Rattle.py_lines.specs.Private.Mode as modes
-use Rattle.py_lines.specs.Private.Machine.{Move}
-use Rattle.py_lines.specs.Private.Machine.{Holds, move_of, short_move, long_move, start_of}
 use Rattle.py_lines.specs.Private.FieldMachine.{roomy, room_step, text_place, At, between, after_brace, FieldMode, plain, opened, empty, body, FieldMove, breaks, begins_code, opens_field, ends_field, refused, Level, is_after_brace, body_move, field_move, plain_move, begins_host, in_open_short, after_open_backslash, InSpecificationOf, before, FieldScanned, field_state, field_fresh, field_text_start, field_moved, field_started, field_step, field_steps_from, levels_open, frames, has_room, has_room_at, have_room, grows, closes, field_pieces, opened_level}
 use Rattle.py_lines.specs.Private.FieldFaults.{is_waiting, quotes_specification, cause_in, cause_place}
 use Rattle.py_lines.proofs.FieldSoundness.Holds.{Limit, HoldsMode, IsFieldSound}
@@ -43,8 +41,7 @@ IsShortHere m = (in_open_short m ≡ true) ⊎ ((host : Host) × InSpecification
 
 -- a character that is refused is a line end there, or follows a backslash, or is the quote of the string of a specification
 abbrev pub Refuses : FieldMode → ℕ → Type 0
-Refuses m c =
-    ((is_break c ≡ true) × IsShortHere m)
+Refuses m c = ((is_break c ≡ true) × IsShortHere m)
     ⊎ (((after_open_backslash m ≡ true) × (is_break c ≡ false)) ⊎ ((quotes_specification m c ≡ true) × (is_quote c ≡ true)))
 
 abbrev pub Reason : FieldMode → ℕ → FieldMove → Type 0
@@ -63,8 +60,7 @@ abbrev PlainReason : Mode → ℕ → Move → Type 0
 PlainReason m c v = Reason (plain m) c (plain_move v)
 
 either : (m : Mode) (c : ℕ) (b : Bool) (v w : Move) → (b ≡ true → PlainReason m c v) → (b ≡ false → PlainReason m c w) → PlainReason m c (if b then v else w)
-either m c true v w one two = one refl
-either m c false v w one two = two refl
+either m c b v w = cond_both b v w (PlainReason m c)
 
 plain_reason : (m : Mode) (held : List ℕ) (c : ℕ) → Holds m [] held → PlainReason m c (move_of m c)
 unfolding move_of short_move long_move
@@ -93,8 +89,7 @@ quoted_body host specification named at c there same = eq-eqb c host.quote same
 pub reason : (limit : Limit) (outer : List Level) (depth : ℕ) (m : FieldMode) (held : List ℕ) (c : ℕ) → HoldsMode limit outer depth m held → Reason m c (field_move m held c)
 unfolding field_move body_move
 reason limit outer depth (plain m) held c holds = cond_both (begins_host m held c) _ _ (Reason (plain m) c) (λ h. tt) (λ h. plain_reason m held c holds.0)
-reason limit outer depth (opened host) held c holds =
-    cond_both (c == host.quote) _ _ (Reason (opened host) c) (λ h. tt)
+reason limit outer depth (opened host) held c holds = cond_both (c == host.quote) _ _ (Reason (opened host) c) (λ h. tt)
     (λ other. moved_reason limit outer depth host literal (opened host) held c (body_move host literal false between c) refl (λ short. inl refl) (λ there. not_specification there) holds.1 (opened_moves limit outer depth host held c holds other))
 reason limit outer depth (empty host) held c holds = cond_both (c == host.quote) _ breaks (Reason (empty host) c) (λ h. tt) (λ h. tt)
 reason limit outer depth (body host place named after_brace) held c holds =
@@ -117,8 +112,7 @@ at_depth : (outer : List Level) (ps : List Piece) (openers read : List ℕ) (c :
 at_depth outer ps openers read c sound =
     let p : Piece = piece operator (c ∷ []) in
     let begun = are_begun no_limit outer literal (ps ++ p ∷ []) openers [] [] sound.list in
-    let text : spelled (ps ++ p ∷ []) ≡ spelled ps ++ c ∷ [] = spelled-push ps operator (c ∷ []) in
-    record {
+    let text : spelled (ps ++ p ∷ []) ≡ spelled ps ++ c ∷ [] = spelled-push ps operator (c ∷ []) in record {
       outside = before literal outer;
       base = levels_open outer;
       pieces = ps;
@@ -151,12 +145,10 @@ goes_free s next c v is moved room (inr full) = both_ways _ full (ap (has_room_a
 module _ (s : FieldScanned) (read : List ℕ) (c : ℕ) (sound : IsFieldSound two_hundred s read) (steps : field_steps_from (Some field_text_start) read ≡ Some s) where
   -- the place before a bracket that opens
   pub bracket_at : (outer : List Level) (ps : List Piece) (os : List ℕ) → is_opening c ≡ true → field_step s c ≡ Some (field_fresh outer (ps ++ piece operator (c ∷ []) ∷ []) (c ∷ os)) → length os + levels_open outer ≡ 200 → IsAtDepth read c 200
-  bracket_at outer ps os opens step full =
-      let next : FieldScanned = field_fresh outer (ps ++ piece operator (c ∷ []) ∷ []) (c ∷ os) in
+  bracket_at outer ps os opens step full = let next : FieldScanned = field_fresh outer (ps ++ piece operator (c ∷ []) ∷ []) (c ∷ os) in
       let later : field_steps_from (Some field_text_start) (read ++ c ∷ []) ≡ Some next =
       steps-append (Some field_text_start) read (c ∷ []) ∙ ap (λ o. field_steps_from o (c ∷ [])) steps ∙ ap (λ o. field_steps_from o []) step in
-      let own = sound_at no_limit (read ++ c ∷ []) next (any_rooms (Some field_text_start) (read ++ c ∷ [])) later in
-      let p : Piece = piece operator (c ∷ []) in
+      let own = sound_at no_limit (read ++ c ∷ []) next (any_rooms (Some field_text_start) (read ++ c ∷ [])) later in let p : Piece = piece operator (c ∷ []) in
       let whole = opens-depth (c ∷ os) (ps ++ p ∷ []) 0 own.list.opens in
       let pushed = depth_through-append 0 ps (p ∷ []) ∙ depth-opener (depth_through 0 ps) p opens in
       subst (IsAtDepth read c) (omega (arith, whole, pushed, full)) (at_depth outer ps (c ∷ os) read c own)
@@ -203,20 +195,15 @@ module _ (read : List ℕ) (s : FieldScanned) (steps : field_steps_from (Some fi
   -- where a cause fits, its byte is that of the state
   pub place_is : (cause : Cause) (c offset : ℕ) → Explains cause read c offset → offset ≡ cause_place s cause
   place_is brace_too_deep c offset fits = omega (arith, fits.place, brace_more fits.start read fits.spell, text_is read s steps room)
-  place_is breaks_string c offset fits =
-      ⊎_elim (λ short. (end_named read s steps room open_short offset (fits.start, short, fits.place)).1)
-      (λ is.
-      let own = comes_to read _ s (specification_comes is.host read is.field is.inside) steps in
+  place_is breaks_string c offset fits = ⊎_elim (λ short. (end_named read s steps room open_short offset (fits.start, short, fits.place)).1)
+      (λ is. let own = comes_to read _ s (specification_comes is.host read is.field is.inside) steps in
       fits.place ∙ ap byte_len (sym (own.0.string_is ∙ own.1 ∙ is.before)) ∙ ap (λ p. byte_len (before p s.outer ++ spelled s.done)) (sym (specification_says s.outer s.openers is.host s.mode own.0.mode_is).2)) fits.inside
   place_is breaks_join c offset fits = (end_named read s steps room open_join offset (fits.start, fits.after, fits.place)).1
-  place_is closes_wrong c offset fits = fits.place ∙ sym (text_is read s steps room)
-  place_is opens_too_deep c offset fits = fits.place ∙ sym (text_is read s steps room)
-  place_is ends_specification c offset fits =
-      let own = comes_to read _ s (specification_comes fits.host read fits.start fits.inside) steps in
+  place_is ends_specification c offset fits = let own = comes_to read _ s (specification_comes fits.host read fits.start fits.inside) steps in
       let found = specification_named read s steps room fits.host fits.start offset own.0 fits.place in
-      let place = rw ((specification_says s.outer s.openers fits.host s.mode own.0.mode_is).1) at found.1 in
-      omega (arith, place)
+      let place = rw ((specification_says s.outer s.openers fits.host s.mode own.0.mode_is).1) at found.1 in omega (arith, place)
   place_is begins_nothing c offset fits = fits ∙ sym (text_is read s steps room)
+  place_is cause c offset fits = fits.place ∙ sym (text_is read s steps room)
 
 -- a character that has no room opens a bracket, at depth 200 with the field whose code it begins
 begun_room : (opens : Bool) (depth : ℕ) → not opens || nat_lt depth 200 ≡ false → depth ≤ 200 → (opens ≡ true) × (depth ≡ 200)
@@ -263,9 +250,7 @@ module _ (s : FieldScanned) (read : List ℕ) (c : ℕ) (after : List ℕ) (step
       go m waits none own = absurd (both_ways _ refl waits)
 
   not_deep : is_deep ≡ false → is_waiting s.mode ≡ true → 200 ≤ frames s → ⊥
-  not_deep other waits many =
-      let full : frames s ≡ 200 = omega (arith, few, many) in
-      both_ways _ other (and_from _ _ waits (eq-eqb (frames s) 200 full))
+  not_deep other waits many = let full : frames s ≡ 200 = omega (arith, few, many) in both_ways _ other (and_from _ _ waits (eq-eqb (frames s) 200 full))
 
   why : is_deep ≡ false → Why s c
   unfolding has_room_at
@@ -301,13 +286,10 @@ module _ (s : FieldScanned) (read : List ℕ) (c : ℕ) (after : List ℕ) (step
 
   -- a line end that is refused
   break_fits : is_deep ≡ false → is_break c ≡ true → (offset : ℕ) × BreaksString read c offset
-  break_fits shallow break =
-      ⊎_elim
-      (λ short.
-      let (offset, (start, is, place)) = subst (EndsSo s read) (short_unfinished s.outer s.openers s.mode short).0 (open_now read s steps room) in
+  break_fits shallow break = ⊎_elim
+      (λ short. let (offset, (start, is, place)) = subst (EndsSo s read) (short_unfinished s.outer s.openers s.mode short).0 (open_now read s steps room) in
       (offset, record { start = start; breaks = break; inside = inl is; place = place }))
-      (λ (host, is, short).
-      let own = short_specification s read c sound steps s.mode host is short sound in
+      (λ (host, is, short). let own = short_specification s read c sound steps s.mode host is short sound in
       (byte_len own.0, record { start = own.0; breaks = break; inside = inr own.1; place = refl })) (short_here shallow break)
 
   -- the character opens a field at depth 200, in a specification
@@ -337,8 +319,7 @@ module _ (s : FieldScanned) (read : List ℕ) (c : ℕ) (after : List ℕ) (step
 
   -- what follows a backslash
   join_fits : after_open_backslash s.mode ≡ true → (offset : ℕ) × Explains breaks_join read c offset
-  join_fits slash =
-      let (offset, (start, is, place)) = subst (EndsSo s read) (join_unfinished s.outer s.openers s.mode slash).0 (open_now read s steps room) in
+  join_fits slash = let (offset, (start, is, place)) = subst (EndsSo s read) (join_unfinished s.outer s.openers s.mode slash).0 (open_now read s steps room) in
       (offset, record { start = start; after = is; place = place })
 
   -- the quote of the string of a specification
@@ -371,26 +352,19 @@ module _ (s : FieldScanned) (read : List ℕ) (c : ℕ) (after : List ℕ) (step
 
   -- the first cause that fits is the one that the state tells
   pub cause_fits : IsCharacterFault (kind_of_cause (cause_in (frames s) s.mode c)) (read ++ c ∷ after) (cause_place s (cause_in (frames s) s.mode c))
-  cause_fits =
-      cond_both is_deep brace_too_deep _ HasFault (λ deep. fault_of brace_too_deep (brace_fits deep) tt)
-      (λ shallow.
-      let no_brace : Misfits brace_too_deep = λ offset fits.
-      let at = deep_state read s (c ∷ []) offset steps fits in
-      both_ways _ shallow (and_from _ _ at.0 (eq-eqb (frames s) 200 at.1)) in
+  cause_fits = cond_both is_deep brace_too_deep _ HasFault (λ deep. fault_of brace_too_deep (brace_fits deep) tt)
+      (λ shallow. let no_brace : Misfits brace_too_deep = λ offset fits.
+      let at = deep_state read s (c ∷ []) offset steps fits in both_ways _ shallow (and_from _ _ at.0 (eq-eqb (frames s) 200 at.1)) in
       cond_both (is_break c) breaks_string _ HasFault (λ break. fault_of breaks_string (break_fits shallow break) (no_brace, tt))
-      (λ no_break.
-      let no_string : Misfits breaks_string = λ offset fits. both_ways _ no_break fits.breaks in
+      (λ no_break. let no_string : Misfits breaks_string = λ offset fits. both_ways _ no_break fits.breaks in
       cond_both (after_open_backslash s.mode) breaks_join _ HasFault (λ slash. fault_of breaks_join (join_fits slash) (no_brace, (no_string, tt)))
       (λ no_slash.
       let no_join : Misfits breaks_join = λ offset fits. both_ways _ no_slash (comes_to read _ s (backslash_comes read fits.start fits.after) steps).0 in
       cond_both (is_closing c) closes_wrong _ HasFault (λ closing. fault_of closes_wrong (byte_len read, record { closes = closing; place = refl }) (no_brace, (no_string, (no_join, tt))))
-      (λ no_closing.
-      let no_close : Misfits closes_wrong = λ offset fits. both_ways _ no_closing fits.closes in
+      (λ no_closing. let no_close : Misfits closes_wrong = λ offset fits. both_ways _ no_closing fits.closes in
       cond_both (is_opening c) opens_too_deep _ HasFault (λ opens. fault_of opens_too_deep (opening_fits shallow no_break no_slash no_closing opens) (no_brace, (no_string, (no_join, (no_close, tt)))))
-      (λ no_opening.
-      let no_limit : Misfits opens_too_deep = λ offset fits. both_ways _ no_opening fits.opens in
+      (λ no_opening. let no_limit : Misfits opens_too_deep = λ offset fits. both_ways _ no_opening fits.opens in
       cond_both (quotes_specification s.mode c) ends_specification begins_nothing HasFault
       (λ quotes. fault_of ends_specification (end_fits quotes) (no_brace, (no_string, (no_join, (no_close, (no_limit, tt))))))
-      (λ no_quote.
-      let no_end : Misfits ends_specification = λ offset fits. both_ways _ no_quote (end_back offset fits) in
+      (λ no_quote. let no_end : Misfits ends_specification = λ offset fits. both_ways _ no_quote (end_back offset fits) in
       fault_of begins_nothing (byte_len read, refl) (no_brace, (no_string, (no_join, (no_close, (no_limit, (no_end, tt))))))))))))

@@ -9,8 +9,7 @@ use Rattle.py_lines.specs.Faults.{IsFieldDue, OpensBraceTooDeep, InOpenBracket, 
 use Rattle.py_lines.specs.OpenFields.{IsSlash, AreBegun, BeginsList, IsPlainShortPrefix, IsPlainLongPrefix, in_field, InFieldCode}
 use Rattle.py_lines.specs.LogicalLine.{byte_len}
 use Rattle.py_lines.specs.FieldStrings.{Host, Place, literal, specification, begins_open}
-use Rattle.py_lines.specs.Private.Machine.{Mode}
-use Rattle.py_lines.specs.Private.Machine.{is_final, in_short, in_long, is_after_backslash}
+use Rattle.py_lines.specs.Private.Machine.{Mode, is_final, in_short, in_long, is_after_backslash}
 use Rattle.py_lines.specs.Private.FieldMachine.{text_place, before, At, after_brace, FieldMode, plain, opened, empty, body, Level, FieldScanned, field_state, field_closed, levels_open, may_end, IsFieldFinal}
 use Rattle.py_lines.specs.Private.FieldFaults.{is_waiting, unfinished_code, unfinished_literal, unfinished_in}
 use Rattle.py_lines.proofs.Machine.OpenStrings.{slash_held}
@@ -30,24 +29,19 @@ shallow_through depth (p ∷ ps) room passes =
     shallow_through (depth_after depth p) ps few passes.2
 
 levels_few : (place : Place) (outer : List Level) (text : List ℕ) → HoldsLevels two_hundred place outer text → levels_open outer ≤ 200
-levels_few literal [] text h = omega arith
-levels_few specification [] text h = omega arith
-levels_few place (l ∷ ls) text h =
-    let room : length l.openers + levels_open ls < 200 = h.1.room in
-    omega (arith, room)
+levels_few place [] text h = omega arith
+levels_few place (l ∷ ls) text h = let room : length l.openers + levels_open ls < 200 = h.1.room in omega (arith, room)
 
 pub few_frames : (outer : List Level) (done : List Piece) (openers : List ℕ) (m : FieldMode) (held read : List ℕ) → IsFieldSound two_hundred (field_state outer done openers m held) read → length openers + levels_open outer ≤ 200
 few_frames outer done openers m held read sound =
     let few = shallow_through (levels_open outer) done (levels_few (text_place m) outer _ sound.levels) sound.list.passes in
-    let deep = opens-depth openers done (levels_open outer) sound.list.opens in
-    omega (arith, few, deep)
+    let deep = opens-depth openers done (levels_open outer) sound.list.opens in omega (arith, few, deep)
 
 -- a bracket of the innermost list is open
 bracket_is_open : (limit : Limit) (outer : List Level) (done : List Piece) (o : ℕ) (os : List ℕ) (m : FieldMode) (held read : List ℕ) → IsFieldSound limit (field_state outer done (o ∷ os) m held) read → may_end m ≡ true → (start : List ℕ) × InOpenBracket read start
 bracket_is_open limit outer done o os m held read sound may =
     let here = stands_at limit outer done (o ∷ os) m held read literal sound (code_at_end m may) in
-    let ends = list_ends limit outer done (o ∷ os) m held read sound may in
-    go ends.opens
+    let ends = list_ends limit outer done (o ∷ os) m held read sound may in go ends.opens
     (subst (λ t. BeginsList (before literal outer) t (levels_open outer)) (append-nil (spelled done ++ held) ∙ sym ends.spell) (list_begins limit outer (spelled done ++ held) [] here.levels))
     (begun_before outer pieces (o ∷ os) [] ends.fit ends.opens ends.in_field) (ap (λ t. before literal outer ++ t) ends.spell ∙ here.spell)
   where
@@ -152,22 +146,16 @@ pub brace_open : (outer : List Level) (done : List Piece) (openers : List ℕ) (
 brace_open outer done openers host named held read sound deep =
     let depth = length openers + levels_open outer in
     cond_both (nat_lt depth 200) open_inside open_brace (λ (w : Unfinished). (offset : ℕ) × IsOpenAtEnd w read offset)
-    (λ less.
-    let at = brace_is_open two_hundred outer done openers host named held read sound in
-    let room = ltb-true depth 200 less in
+    (λ less. let at = brace_is_open two_hundred outer done openers host named held read sound in let room = ltb-true depth 200 less in
     (byte_len at.0, (at.0, inl at.1, refl, λ place due. omega (arith, room, (deep place due).1))))
-    (λ full.
-    let few = few_frames outer done openers (body host literal named after_brace) held read sound in
-    let many = ltb-false depth 200 full in
-    let is : depth ≡ 200 = omega (arith, few, many) in
-    brace_is_due two_hundred outer done openers host named held read sound [] refl is)
+    (λ full. let few = few_frames outer done openers (body host literal named after_brace) held read sound in let many = ltb-false depth 200 full in
+    let is : depth ≡ 200 = omega (arith, few, many) in brace_is_due two_hundred outer done openers host named held read sound [] refl is)
 
 -- in each mode
 pub open_in : (outer : List Level) (done : List Piece) (openers : List ℕ) (m : FieldMode) (held read : List ℕ) → IsFieldSound two_hundred (field_state outer done openers m held) read → ((place : ℕ) → OpensBraceTooDeep read [] place → IsDeepBrace outer openers m) → EndsSo (field_state outer done openers m held) read (unfinished_in outer openers m)
 open_in outer done openers (plain m) held read sound deep =
     let P : Option Unfinished → Type 0 = EndsSo (field_state outer done openers (plain m) held) read in
-    let start = before literal outer ++ spelled done in
-    cond_both (in_short m) _ _ P
+    let start = before literal outer ++ spelled done in cond_both (in_short m) _ _ P
     (λ is. (byte_len start, (start, short_is_open two_hundred outer done openers m held read sound is, refl)))
     (λ short. cond_both (in_long m) _ _ P
     (λ is. (byte_len start, (start, long_is_open two_hundred outer done openers m held read sound is, refl)))
@@ -184,6 +172,7 @@ open_in outer done openers (body host specification named at) held read sound de
 open_in outer done openers (body host literal named after_brace) held read sound deep = brace_open outer done openers host named held read sound deep
 open_in outer done openers (body host literal named at) held read sound deep =
     let start = before literal outer ++ spelled done in
+    let waits_not : at ≡ after_brace → ⊥ = λ is. both_ways _ refl (ap (λ a. is_waiting (body host literal named a)) is) in
     cond_both host.is_long open_long open_short (λ (w : Unfinished). (offset : ℕ) × IsOpenAtEnd w read offset)
-    (λ long. (byte_len start, (start, literal_is_open two_hundred outer done openers host named at held read sound (λ is. absurd (cc)) IsPlainLongPrefix true long, refl)))
-    (λ short. (byte_len start, (start, literal_is_open two_hundred outer done openers host named at held read sound (λ is. absurd (cc)) IsPlainShortPrefix false short, refl)))
+    (λ long. (byte_len start, (start, literal_is_open two_hundred outer done openers host named at held read sound waits_not IsPlainLongPrefix true long, refl)))
+    (λ short. (byte_len start, (start, literal_is_open two_hundred outer done openers host named at held read sound waits_not IsPlainShortPrefix false short, refl)))

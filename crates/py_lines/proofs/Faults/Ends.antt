@@ -55,16 +55,13 @@ some_after outer inner a after opens within is = go (openers_through (Some []) o
   where
     go : (o : Option (List ℕ)) → openers_through o (a ∷ inner) ≡ Some after → (c : ℕ) × (os : List ℕ) × (after ≡ c ∷ os)
     go None is = absurd (none_some is)
-    go (Some os) is =
-        let c = first_or_zero a.text in
+    go (Some os) is = let c = first_or_zero a.text in
         let same : Some (c ∷ os) ≡ Some after = sym (balanced_openers inner within (c ∷ os)) ∙ sym (ap (λ o. openers_through o inner) (opener_pushes os a.class a.text opens)) ∙ is in
         (c, os, cc)
 
 -- so the innermost open bracket is one
 unclosed : (outer inner : List Piece) (a : Piece) → IsBalanced (outer ++ a ∷ inner) → is_opener a ≡ true → IsBalanced inner → ⊥
-unclosed outer inner a all opens within =
-    let (o, os, some) = some_after outer inner a [] opens within (balanced_openers (outer ++ a ∷ inner) all []) in
-    cc
+unclosed outer inner a all opens within = let (o, os, some) = some_after outer inner a [] opens within (balanced_openers (outer ++ a ∷ inner) all []) in cc
 
 pub one_bracket : (outer others inner more : List Piece) (a b : Piece) → outer ++ a ∷ inner ≡ others ++ b ∷ more → is_opener a ≡ true → is_opener b ≡ true → IsBalanced inner → IsBalanced more → outer ≡ others
 one_bracket [] [] inner more a b same one two first second = refl
@@ -75,8 +72,7 @@ one_bracket (x ∷ xs) [] inner more a b same one two first second =
     let is : xs ++ a ∷ inner ≡ more = cc in
     absurd (unclosed xs inner a (subst IsBalanced (sym is) second) one first)
 one_bracket (x ∷ xs) (z ∷ zs) inner more a b same one two first second =
-    let here : x ≡ z = cc in
-    let later : xs ++ a ∷ inner ≡ zs ++ b ∷ more = cc in
+    let here : x ≡ z = cc in let later : xs ++ a ∷ inner ≡ zs ++ b ∷ more = cc in
     ap (λ p. p ∷ xs) here ∙ ap (λ l. z ∷ l) (one_bracket xs zs inner more a b later one two first second)
 
 -- a `{` is one byte more
@@ -88,9 +84,7 @@ brace_more start read is = sym (byte_len-append start (123 ∷ [])) ∙ ap byte_
 pub one_place : (what : Unfinished) (s : FieldScanned) (offset place : ℕ) → IsPlaced what s offset → IsPlaced what s place → offset ≡ place
 one_place open_bracket s offset place (outer, a, inner, is, opens, within, at) (others, b, more, also, two, second, there) =
     at ∙ ap (λ l. byte_len (before literal s.outer ++ spelled l)) (one_bracket outer others inner more a b (sym is ∙ also) opens two within second) ∙ sym there
-one_place open_brace s offset place one two = omega (arith, one, two)
-one_place open_inside s offset place one two = omega (arith, one, two)
-one_place what s offset place one two = one ∙ sym two
+one_place what s offset place one two = omega (arith, one, two)
 
 -- the kinds, by the mode: a string or a backslash stands in no specification
 pub short_unfinished : (outer : List Level) (openers : List ℕ) (m : FieldMode) → in_open_short m ≡ true → (unfinished_in outer openers m ≡ Some open_short) × (text_place m ≡ literal)
@@ -139,11 +133,9 @@ opener_text p h = go p.class p.text h
 
 pub bracket_back : (characters start : List ℕ) (s : FieldScanned) → InOpenBracket characters start → field_steps_from (Some field_text_start) characters ≡ Some s → (unfinished_at s ≡ Some open_bracket) × IsPlaced open_bracket s (byte_len start)
 bracket_back characters start s is steps =
-    let pieces = is.outer ++ is.opener ∷ is.inner in
-    let list = list_runs is.outside (spelled pieces) is.depth is.list in
+    let pieces = is.outer ++ is.opener ∷ is.inner in let list = list_runs is.outside (spelled pieces) is.depth is.list in
     let run = pieces_run list.outer is.depth pieces [] list.deep is.begun (may_begin pieces) in
-    let t : FieldScanned = field_state list.outer run.done run.after run.mode run.held in
-    let text = opener_text is.opener is.opens in
+    let t : FieldScanned = field_state list.outer run.done run.after run.mode run.held in let text = opener_text is.opener is.opens in
     let head = some_head (spelled is.outer) text.0 (text.1 ++ spelled is.inner) in
     let full : spelled pieces ≡ head.0 ∷ head.1 = spelled-append is.outer (is.opener ∷ is.inner) ∙ ap (λ x. spelled is.outer ++ (x ++ spelled is.inner)) text.2 ∙ head.2 in
     let goes : Goes NoLimit field_text_start characters t = subst (λ x. Goes NoLimit field_text_start x t) is.spell (list.goes t (spelled pieces) (record { first = head.0; others = head.1; more = head.1; one_is = full; two_is = full }) run.goes) in
@@ -152,15 +144,13 @@ bracket_back characters start s is steps =
     let here : (unfinished_at t ≡ Some open_bracket) × IsPlaced open_bracket t (byte_len start) = (
       (code_unfinished list.outer run.after run.mode run.stops).0 ∙ ap (unfinished_code list.outer) some.2,
       (is.outer, is.opener, is.inner, run.pieces_are, is.opens, is.balanced, ap byte_len (sym is.before ∙ ap (λ x. x ++ spelled is.outer) (sym list.start_is))),
-    ) in
-    subst (λ (x : FieldScanned). (unfinished_at x ≡ Some open_bracket) × IsPlaced open_bracket x (byte_len start)) same here
+    ) in subst (λ (x : FieldScanned). (unfinished_at x ≡ Some open_bracket) × IsPlaced open_bracket x (byte_len start)) same here
 
 -- directly after a `{` at depth 200 the machine stands there
 pub deep_state : (characters : List ℕ) (s : FieldScanned) (after : List ℕ) (place : ℕ) → field_steps_from (Some field_text_start) characters ≡ Some s → OpensBraceTooDeep characters after place → IsDeepBrace s.outer s.openers s.mode
 deep_state characters s after place steps deep =
     let Such : FieldScanned → Type 0 = λ t. (host : Host) × (t.mode ≡ body host literal false after_brace) × (frames t ≡ 200) in
-    let at = comes_to characters Such s (subst (λ t. Comes t Such) deep.spell (brace_comes 200 deep.start after deep.due)) steps in
-    (ap is_waiting at.1, at.2)
+    let at = comes_to characters Such s (subst (λ t. Comes t Such) deep.spell (brace_comes 200 deep.start after deep.due)) steps in (ap is_waiting at.1, at.2)
 
 pub sound_to : (characters : List ℕ) (s : FieldScanned) → field_steps_from (Some field_text_start) characters ≡ Some s → have_room (Some field_text_start) characters ≡ true → IsFieldSound two_hundred s characters
 sound_to characters s steps room = sound_at two_hundred characters s (rooms_at (Some field_text_start) characters room) steps
@@ -199,34 +189,28 @@ module _ (characters : List ℕ) (s : FieldScanned) (steps : field_steps_from (S
   code_named start offset (at_brace host mode_is is) place other = go s.mode mode_is sound
     where
       go : (m : FieldMode) → m ≡ body host literal false after_brace → IsFieldSound two_hundred (field_state s.outer s.done s.openers m s.held) characters → (unfinished_in s.outer s.openers m ≡ Some open_inside) × (offset + 1 ≡ (if is_waiting m then here s else byte_len (before literal s.outer)))
-      go (body own literal named after_brace) same here =
-          let depth = length s.openers + levels_open s.outer in (
-            cond_both (nat_lt depth 200) open_inside open_brace (λ (w : Unfinished). (at : ℕ) × IsOpenAtEnd w characters at → Some w ≡ Some open_inside) (λ less due. refl) (λ full due. absurd (other due.0 due.1))
-                (brace_open s.outer s.done s.openers own named s.held characters here (λ at due. absurd (other at due))),
-            ap (λ n. n + 1) place ∙ brace_more start _ (sym is ∙ append_assoc (before literal s.outer) (spelled s.done) s.held ∙ here.spell) ∙ sym text_is,
-          )
-      go m same here = absurd (cc)
+      go (body own literal named after_brace) same here = let depth = length s.openers + levels_open s.outer in (
+        cond_both (nat_lt depth 200) open_inside open_brace (λ (w : Unfinished). (at : ℕ) × IsOpenAtEnd w characters at → Some w ≡ Some open_inside) (λ less due. refl) (λ full due. absurd (other due.0 due.1))
+            (brace_open s.outer s.done s.openers own named s.held characters here (λ at due. absurd (other at due))),
+        ap (λ n. n + 1) place ∙ brace_more start _ (sym is ∙ append_assoc (before literal s.outer) (spelled s.done) s.held ∙ here.spell) ∙ sym text_is,
+      )
+      go m same here = absurd (both_ways _ refl (ap is_waiting same))
 
   pub specification_named : (host : Host) (start : List ℕ) (offset : ℕ) → SpecificationAt host start s → offset ≡ byte_len start → IsNamed open_inside offset
-  specification_named host start offset at place =
-      let inside = specification_says s.outer s.openers host s.mode at.mode_is in
+  specification_named host start offset at place = let inside = specification_says s.outer s.openers host s.mode at.mode_is in
       let none = sound.list.no_list inside.2 in
       (inside.0, rw (inside.1) (ap (λ n. n + 1) place ∙ brace_more start _ (whole s.outer at.string_is at.field_is none.0)))
     where
       whole : (outer : List Level) → before specification outer ++ spelled s.done ≡ at.string → HasOpened specification outer at.field → s.done ≡ [] → start ++ 123 ∷ [] ≡ before literal outer
       whole [] string_is field_is none = absurd field_is
-      whole (l ∷ ls) string_is field_is none =
-          ap (λ t. t ++ 123 ∷ []) (sym at.before)
-          ∙ append_assoc at.string at.field (123 ∷ [])
+      whole (l ∷ ls) string_is field_is none = ap (λ t. t ++ 123 ∷ []) (sym at.before) ∙ append_assoc at.string at.field (123 ∷ [])
           ∙ ap (λ t. at.string ++ t) (sym field_is)
           ∙ ap (λ t. t ++ l.front) (sym string_is ∙ ap (λ (p : List Piece). (before l.place ls ++ spelled l.done) ++ spelled p) none ∙ append-nil (before l.place ls ++ spelled l.done))
           ∙ append_assoc (before l.place ls) (spelled l.done) l.front
 
   -- what is open starts where the open piece does
   starts_there : (what : Unfinished) (test : FieldMode → Bool) (start : List ℕ) (offset : ℕ) → (test s.mode ≡ true → (unfinished_at s ≡ Some what) × (text_place s.mode ≡ literal)) → Comes characters (λ t. (test t.mode ≡ true) × (before literal t.outer ++ spelled t.done ≡ start)) → offset ≡ byte_len start → (unfinished_at s ≡ Some what) × (offset ≡ piece_start s)
-  starts_there what test start offset tells comes place =
-      let own = comes_to characters _ s comes steps in
-      let found = tells own.0 in
+  starts_there what test start offset tells comes place = let own = comes_to characters _ s comes steps in let found = tells own.0 in
       (found.0, place ∙ ap byte_len (sym own.1) ∙ ap (λ p. byte_len (before p s.outer ++ spelled s.done)) (sym found.1))
 
   pub end_named : (what : Unfinished) (offset : ℕ) → IsOpenAtEnd what characters offset → IsNamed what offset
@@ -259,8 +243,7 @@ one_end characters tail kind other offset place first second =
 pub end_unread : (characters tail : List ℕ) (kind : FaultKind) (offset : ℕ) → IsEndFault kind characters tail offset → (pieces : List Piece) → ¬ (IsBalancedReading pieces characters)
 end_unread characters tail kind offset fault pieces reading =
     let run = live_goes characters fault.live in
-    let whole = reading_reached pieces characters reading in
-    let same = same_state characters whole.to run.0 whole.steps run.1 in
+    let whole = reading_reached pieces characters reading in let same = same_state characters whole.to run.0 whole.steps run.1 in
     let final : IsFieldFinal run.0 = subst IsFieldFinal same whole.final in
     let open_yet = end_named characters run.0 run.1 run.2 fault.unfinished offset fault.ends_in in
     let none : unfinished_at run.0 ≡ None = (code_unfinished run.0.outer run.0.openers run.0.mode final.ends).0 ∙ rw (final.outside, final.closed_all) refl in
@@ -274,17 +257,15 @@ open_keeps m done held st stack = keeps done (piece string held) st refl refl st
 module _ (read : List ℕ) (s : FieldScanned) (steps : field_steps_from (Some field_text_start) read ≡ Some s) (room : have_room (Some field_text_start) read ≡ true) where
   -- the byte that the definitions name is that of the state
   there : (what : Unfinished) (offset : ℕ) → IsPlaced what s offset → StandsThere s what offset
-  there open_bracket offset (outer, opener, inner, shape, opens, within, at) =
-      λ b bs stack.
+  there open_bracket offset (outer, opener, inner, shape, opens, within, at) = λ b bs stack.
       let place = innermost_place outer inner opener b bs opens within (ap brackets_of (sym shape) ∙ open_keeps s.mode s.done s.held (b ∷ bs) stack) in
       at ∙ byte_len-append (before literal s.outer) (spelled outer) ∙ ap (λ n. byte_len (before literal s.outer) + n) (sym place)
   there what offset at = at
 
   -- what is open at the end, and where
   pub unfinished_fits : (what : Unfinished) → unfinished_at s ≡ Some what → (offset : ℕ) × IsEndFault (kind_of_unfinished what) read [] offset × StandsThere s what offset
-  unfinished_fits what is =
-      let found = subst (EndsSo s read) is (open_now read s steps room) in (
-        found.0,
-        record { unfinished = what; is = refl; whole = refl; live = goes_live read s steps room; ends_in = found.1 },
-        there what found.0 (end_named read s steps room what found.0 found.1).1,
-      )
+  unfinished_fits what is = let found = subst (EndsSo s read) is (open_now read s steps room) in (
+    found.0,
+    record { unfinished = what; is = refl; whole = refl; live = goes_live read s steps room; ends_in = found.1 },
+    there what found.0 (end_named read s steps room what found.0 found.1).1,
+  )

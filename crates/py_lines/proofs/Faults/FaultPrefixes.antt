@@ -3,7 +3,7 @@ use Rattle.std.proofs.Common.{⊎_elim, ◌≡◌, ℕ, List, [], ◌∷◌, ◌
 use Rattle.std.specs.Str.{byte}
 use Rattle.py_lines.specs.Piece.{spelled}
 use Rattle.py_lines.specs.PieceGrammar.{joined}
-use Rattle.py_lines.specs.Faults.{Cause, brace_too_deep, breaks_string, breaks_join, closes_wrong, opens_too_deep, ends_specification, begins_nothing, kind_of_cause, Explains, kind_of_unfinished, IsUndecodable, Unfinished, open_brace, open_short, open_long, open_join, open_bracket, open_inside, IsOpenAtEnd, IsFaultAt, at_character, at_bytes, at_end}
+use Rattle.py_lines.specs.Faults.{Cause, brace_too_deep, breaks_string, breaks_join, ends_specification, begins_nothing, kind_of_cause, Explains, kind_of_unfinished, IsUndecodable, Unfinished, open_brace, open_bracket, open_inside, IsOpenAtEnd, IsFaultAt, at_character, at_bytes, at_end}
 use Rattle.py_lines.specs.OpenFields.{Spot, IsOpenString, in_literal, in_specification, InSpecification}
 use Rattle.py_lines.specs.LogicalLine.{byte_len}
 use Rattle.py_lines.specs.FieldStrings.{Host, literal, specification}
@@ -25,22 +25,16 @@ Begins start characters = (rest : List ℕ) × (start ++ rest ≡ characters)
 -- the text of a string up to the field whose specification is open
 field_begins : (host : Host) (spot : Spot) (front rest : List ℕ) → IsOpenString host spot front rest → spot.place ≡ specification → Begins spot.field front
 field_begins host spot front rest (in_literal _ _ _ prefix parts is spell begun raw quotes each open_yet) at =
-    let other : literal ≡ specification = sym (ap (λ (s : Spot). s.place) is) ∙ at in
-    absurd (cc)
+    let other : literal ≡ specification = sym (ap (λ (s : Spot). s.place) is) ∙ at in absurd (cc)
 field_begins host spot front rest (in_specification _ round _ _ opening inside parts is spell string may are_inside each open_yet) at =
-    let code = byte "{" ∷ spelled inside ++ (byte ":" ∷ joined parts) in
-    (code, ap (λ (s : Spot). s.field ++ code) is ∙ sym spell)
+    let code = byte "{" ∷ spelled inside ++ (byte ":" ∷ joined parts) in (code, ap (λ (s : Spot). s.field ++ code) is ∙ sym spell)
 
 specification_begins : (host : Host) (characters start : List ℕ) → InSpecification host characters start → Begins start characters
-specification_begins host characters start is =
-    let up = is.stands.open_yet in
-    let field = field_begins host is.spot up.body up.last up.string is.place in (
-      field.0 ++ up.last,
-      ap (λ t. t ++ (field.0 ++ up.last)) (sym is.before)
-          ∙ append_assoc is.string is.spot.field (field.0 ++ up.last)
-          ∙ ap (λ t. is.string ++ t) (sym (append_assoc is.spot.field field.0 up.last) ∙ ap (λ t. t ++ up.last) field.1 ∙ sym up.spell)
-          ∙ is.stands.spell,
-    )
+specification_begins host characters start is = let up = is.stands.open_yet in let field = field_begins host is.spot up.body up.last up.string is.place in (
+  field.0 ++ up.last,
+  ap (λ t. t ++ (field.0 ++ up.last)) (sym is.before) ∙ append_assoc is.string is.spot.field (field.0 ++ up.last)
+      ∙ ap (λ t. is.string ++ t) (sym (append_assoc is.spot.field field.0 up.last) ∙ ap (λ t. t ++ up.last) field.1 ∙ sym up.spell) ∙ is.stands.spell,
+)
 
 -- so each place ends a prefix of the text
 prefix_to : (before rest characters start : List ℕ) (offset : ℕ) → before ++ rest ≡ characters → Begins start before → offset ≡ byte_len start → PrefixTo characters offset
@@ -60,22 +54,19 @@ explained breaks_string before rest characters c offset whole fits =
     let string : Begins fits.start before = ⊎_elim (λ is. (is.front, is.spell)) (λ is. (is.inside.stands.front, ap (λ t. t ++ is.inside.stands.front) (sym is.before) ∙ is.inside.stands.spell)) fits.inside in
     prefix_to before rest characters fits.start offset whole string fits.place
 explained breaks_join before rest characters c offset whole fits = prefix_to before rest characters fits.start offset whole (fits.after.front, fits.after.spell) fits.place
-explained closes_wrong before rest characters c offset whole fits = prefix_to before rest characters before offset whole (itself before) fits.place
-explained opens_too_deep before rest characters c offset whole fits = prefix_to before rest characters before offset whole (itself before) fits.place
 explained ends_specification before rest characters c offset whole fits = prefix_to before rest characters fits.start offset whole (specification_begins fits.host before fits.start fits.inside) fits.place
 explained begins_nothing before rest characters c offset whole fits = prefix_to before rest characters before offset whole (itself before) fits
+explained cause before rest characters c offset whole fits = prefix_to before rest characters before offset whole (itself before) fits.place
 
 ended : (what : Unfinished) (characters : List ℕ) (offset : ℕ) → IsOpenAtEnd what characters offset → PrefixTo characters offset
 ended open_brace characters offset is = prefix_to characters [] characters is.start offset (append-nil characters) (byte "{" ∷ [], is.spell) is.place
-ended open_short characters offset (start, is, place) = prefix_to characters [] characters start offset (append-nil characters) (is.front, is.spell) place
-ended open_long characters offset (start, is, place) = prefix_to characters [] characters start offset (append-nil characters) (is.front, is.spell) place
-ended open_join characters offset (start, is, place) = prefix_to characters [] characters start offset (append-nil characters) (is.front, is.spell) place
 ended open_bracket characters offset (start, is, place) =
     let later = spelled (is.opener ∷ is.inner) in
     let spell = ap (λ t. t ++ later) (sym is.before) ∙ append_assoc is.outside (spelled is.outer) later ∙ ap (λ t. is.outside ++ t) (sym (spelled-append is.outer (is.opener ∷ is.inner))) ∙ is.spell in
     prefix_to characters [] characters start offset (append-nil characters) (later, spell) place
 ended open_inside characters offset (start, inl is, place, other) = prefix_to characters [] characters start offset (append-nil characters) (byte "{" ∷ spelled is.pieces, is.spell) place
 ended open_inside characters offset (start, inr (host, is), place, other) = prefix_to characters [] characters start offset (append-nil characters) (specification_begins host characters start is) place
+ended other characters offset is = prefix_to characters [] characters is.0 offset (append-nil characters) (is.1.front, is.1.spell) is.2
 
 pub field_fault_prefix : (kind : FaultKind) (characters tail : List ℕ) (offset : ℕ) → IsFaultAt kind characters tail offset → PrefixTo characters offset
 field_fault_prefix kind characters tail offset (at_character fault) = explained fault.cause fault.before (fault.c ∷ fault.dies.after) characters fault.c offset fault.dies.spell fault.fits

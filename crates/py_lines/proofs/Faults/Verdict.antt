@@ -36,8 +36,7 @@ one_character_fault characters kind other offset place one two =
     let fits = subst (λ x. Explains two.cause one.before x place) (sym same.1) (subst (λ b. Explains two.cause b two.c place) (sym same.0) two.fits) in
     let first = subst (λ x. NoneExplains (causes_before two.cause) one.before x) (sym same.1) (subst (λ b. NoneExplains (causes_before two.cause) b two.c) (sym same.0) two.first) in
     let is = one_first all_causes one.before one.c one.cause two.cause offset place (is_first one.cause one.before one.c one.first) (is_first two.cause one.before one.c first) one.fits fits in
-    let at = live_goes one.before one.dies.live in
-    let place_of = place_is one.before at.0 at.1 at.2 two.cause one.c in
+    let at = live_goes one.before one.dies.live in let place_of = place_is one.before at.0 at.1 at.2 two.cause one.c in
     (one.is ∙ ap kind_of_cause is ∙ sym two.is, place_of offset (subst (λ x. Explains x one.before one.c offset) is one.fits) ∙ sym (place_of place fits))
 
 -- a text that dies at a character isn't live

@@ -37,9 +37,7 @@ use Rattle.py_lines.proofs.Feeds.Known as of
 -- a CR that ends the line isn't refused its next character
 open_return : {m : Mode} {read : List ℕ} (way : IsUnderWay m read) → begins_line m ≡ true → (c : ℕ) → room_step way.field c ≡ None
     → has_returned way.field && not (is_line_feed c) ≡ false → has_returned way.field ≡ false
-open_return way start c refuses not_yet =
-    false_from_ne_true _ (λ is.
-    let r = returned_at way start is in
+open_return way start c refuses not_yet = false_from_ne_true _ (λ is. let r = returned_at way start is in
     ⊎_elim (λ feeds. feed_taken way.field c r.mode feeds refuses) (λ other. both_ways _ not_yet (and_from _ _ is (ap not other))) (cases_Bool (is_line_feed c)))
 
 -- a fault that stays is decided
@@ -88,8 +86,7 @@ module _ (text : List ℕ) (state : LineState) (lines : List LogicalLine) (read 
         where
           go : (left : List ℕ) → rest ≡ left → IsLexedToFault (of.bytes text state.place state.line lines read rest k) lines fault
           go [] none = absurd (omega (arith, some, ap length none))
-          go (d ∷ ds) is =
-              let known = of.bytes text state.place state.line lines read rest k in
+          go (d ∷ ds) is = let known = of.bytes text state.place state.line lines read rest k in
               let decodes = subst (λ t. Decodes known (spelled k.base ++ read) t) is (of.decodes text state.place state.line lines read rest k bad) in
               subst (λ l. IsLexedToFault known l fault) (sym k.cut)
               (refused_at_bytes known (spelled k.base ++ read) d ds joined_here.state k.base fault decodes joined_here.runs prefix_of at.is
@@ -98,8 +95,7 @@ module _ (text : List ℕ) (state : LineState) (lines : List LogicalLine) (read 
 
       -- no bytes complete them
       pub decided_bytes : IsHopeless rest → Decides (of.bytes text state.place state.line lines read rest k) fault × IsLexed (of.bytes text state.place state.line lines read rest k) lines (Some fault)
-      decided_bytes hopeless =
-          let bad : StartsWithNoChar rest = subst StartsWithNoChar (append-nil rest) (hopeless []) in let lexed = refused_bytes bad in
+      decided_bytes hopeless = let bad : StartsWithNoChar rest = subst StartsWithNoChar (append-nil rest) (hopeless []) in let lexed = refused_bytes bad in
           let same = decoded (of.bytes text state.place state.line lines read rest k) (spelled k.base ++ read) lexed.characters rest lexed.tail (of.decodes text state.place state.line lines read rest k bad) lexed.decodes in
           (decides lexed (inr (at.is, subst IsHopeless same.1 hopeless)), lexed)
 
@@ -112,12 +108,10 @@ module _ (text : List ℕ) (state : LineState) (lines : List LogicalLine) (read 
       → has_returned way.field && not (is_line_feed c) ≡ false → (line_fault : LineFault) → IsFieldFault way.field c line_fault
       → (fault : Fault) (w : Within read line_fault.place) → IsFaultAfter state line_fault.kind line_fault.place (encode_utf8_all w.prefix) fault
       → Decides all_known fault × IsLexed all_known lines (Some fault)
-  decided_character way refuses not_yet line_fault is_line_fault fault w at =
-      let u = way.field in
+  decided_character way refuses not_yet line_fault is_line_fault fault w at = let u = way.field in
       let fit : AreReadBefore k.base (read ++ c ∷ k.more) = subst (AreReadBefore k.base) (append_assoc read (c ∷ []) k.more) k.fit in
       let base = base_of state.place k.base (read ++ c ∷ k.more) fit k.ended k.here in
-      let j = joined state.place k.base (c ∷ k.more) k.balanced k.shallow read u fit base way.goes in
-      let characters = spelled k.base ++ (read ++ c ∷ []) in
+      let j = joined state.place k.base (c ∷ k.more) k.balanced k.shallow read u fit base way.goes in let characters = spelled k.base ++ (read ++ c ∷ []) in
       let spell : (spelled k.base ++ read) ++ c ∷ [] ≡ characters = append_assoc (spelled k.base) read (c ∷ []) in
       let decodes : Decodes all_known characters [] = of.decodes text state.place state.line lines (read ++ c ∷ []) [] k nothing_bad in
       let open_yet = open_return way (begun_sound state.place) c refuses not_yet in
@@ -149,8 +143,7 @@ module _ (text : List ℕ) (state : LineState) (lines : List LogicalLine) (held 
       → has_returned way.field && not (is_line_feed c) ≡ false → (line_fault : LineFault) → IsFieldFault way.field c line_fault
       → (fault : Fault) (w : Within read line_fault.place) → IsFaultAfter state line_fault.kind line_fault.place (encode_utf8_all w.prefix) fault
       → IsDecidedAt text state.place lines (length held) fault
-  by_character c after scalar is refuses not_yet line_fault is_line_fault fault w at =
-      let more = read ++ c ∷ [] in
+  by_character c after scalar is refuses not_yet line_fault is_line_fault fault w at = let more = read ++ c ∷ [] in
       let all : encode_utf8_all more ++ after ≡ held = spell_more read after held c (ap (λ t. encode_utf8_all read ++ t) (sym is) ∙ spell) in
       let goes_more : GoesOnWith text state.place (encode_utf8_all more ++ []) = subst (GoesOnWith text state.place) (sym (append-nil (encode_utf8_all more))) (goes_with_first text state.place (encode_utf8_all more) after (subst (GoesOnWith text state.place) (sym all) goes)) in
       let size : length (encode_utf8_all more ++ []) ≡ byte_len more = ap length (append-nil (encode_utf8_all more)) in
@@ -181,11 +174,9 @@ module _ (text : List ℕ) (state : LineState) (lines : List LogicalLine) (read 
 
   -- the text may not end there
   pub ended_unfinished : has_returned way.field ≡ false → rest ≡ [] → 0 < byte_len read → (line_fault : LineFault) → IsFieldEnd way.field (Some line_fault) → (fault : Fault) (w : Within read line_fault.place) → IsFaultAfter state line_fault.kind line_fault.place (encode_utf8_all w.prefix) fault → IsLexed text lines (Some fault)
-  ended_unfinished not_yet none some line_fault is_line_fault fault w at =
-      let j = joined_here text state lines read rest k way not_yet in
+  ended_unfinished not_yet none some line_fault is_line_fault fault w at = let j = joined_here text state lines read rest k way not_yet in
       let found = unfinished_fault state.place k.base k.balanced k.shallow (of.stands text state.place state.line lines read rest k) read way (of.read_then k.base read k.more [] (λ nothing. omega (arith, some, ap byte_len nothing)) k.fit) some line_fault is_line_fault in
       let place : fault.offset ≡ byte_len (spelled k.base) + line_fault.place = at.place ∙ ap (λ (n : ℕ). n + line_fault.place) k.here in
-      subst (λ l. IsLexedToFault text l fault) (sym k.cut)
-      (refused_at_end text (spelled k.base ++ read) j.state k.base fault (all_decoded none) j.runs
+      subst (λ l. IsLexedToFault text l fault) (sym k.cut) (refused_at_end text (spelled k.base ++ read) j.state k.base fault (all_decoded none) j.runs
       (prefix_of text state lines read rest k way not_yet) (rw (at.is, place) found)
       (line_after text state lines read rest k line_fault.kind line_fault.place fault w at))

@@ -1,12 +1,12 @@
 -- The text ends with what is held: its last line, or the fault that stands there.
-use Rattle.std.proofs.Common.{◌≡◌, ℕ, ◌+◌, ◌<◌, ⊎_elim, true, None, Some, Ok, Err, List, [], ◌∷◌, ◌++◌, length, refl, sym, ap, ◌∙◌, subst, append-nil, arith, Option, drop, length-drop, encode_utf8_all, length-append}
+use Rattle.std.proofs.Common.{◌≡◌, ℕ, ◌+◌, ◌<◌, ⊎_elim, true, None, Some, Ok, Err, List, [], ◌∷◌, ◌++◌, length, refl, sym, ap, ◌∙◌, subst, append-nil, arith, Option, drop, take, length-drop, encode_utf8_all, length-append}
 use Rattle.std.proofs.lemmas.List.{length-take-le, take-append-drop, take_all}
-use Rattle.py_lines.specs.LogicalLine.{LogicalLine, byte_len}
+use Rattle.py_lines.specs.LogicalLine.{LogicalLine, byte_len, line_ends}
 use Rattle.py_lines.specs.Lexed.{IsLexed}
-use Rattle.py_lines.specs.ScannerState.{IsScanning, fed_of, EndsScan, Finishes, ScannerState}
+use Rattle.py_lines.specs.ScannerState.{IsScanning, fed_of, EndsFaulty, EndsScan, Finishes, ScannerState}
 use Rattle.py_lines.specs.Piece.{spelled}
-use Rattle.py_lines.specs.Private.LineState.{HasNextLine}
-use Rattle.py_lines.specs.Private.Feed.{EndsText, Fault, HasRoom, HoldsLine, IsHeldOpen, Holds, HasEndedText, HasReadTokens, HoldsSo, IsSoundFeed, ReadsTokens, StandsSo, with_line, LexError, Scan, Feed, scanning_of, ready_of}
+use Rattle.py_lines.specs.Private.LineState.{HasNextFault, HasNextLine, IsFaultAfter, rescanned}
+use Rattle.py_lines.specs.Private.Feed.{EndsText, FailsAt, Fault, HasRoom, HoldsLine, IsHeldOpen, Holds, HasEndedText, HasReadTokens, HoldsSo, IsSoundFeed, ReadsTokens, StandsSo, with_line, LexError, LineFault, LineState, Scan, Feed, scanning_of, ready_of}
 use Rattle.py_lines.proofs.Feeds.Known.{first_at}
 use Rattle.py_lines.proofs.Feeds.OpenLine.{dropped, runs_out}
 use Rattle.py_lines.specs.Given.{AreFirstLines}
@@ -36,8 +36,7 @@ text_held old text lines scanning whole = sym scanning.held ∙ take_all (length
 reach_end : {text : List ℕ} {place line : ℕ} {lines : List LogicalLine} (last : LogicalLine) → AreFirstLines text place line (lines ++ last ∷ []) → IsSettled text lines → place ≡ length text
 reach_end {text} {place} {line} {lines} last f settled = ⊎_elim
     (λ good. let (more, is) = begins_settled text place line (lines ++ last ∷ []) f good.0 good lines settled in absurd (omega (arith, ap length is, length-append (lines ++ last ∷ []) more, length-append lines (last ∷ []))))
-    (λ nothing.
-    let (none, bare) = none_both f.rest f.tail nothing in
+    (λ nothing. let (none, bare) = none_both f.rest f.tail nothing in
     omega (arith, f.here, ap length f.decodes.spell, length-append (encode_utf8_all f.characters) f.tail, ap length bare, ap byte_len f.spell, byte_len-append (spelled f.pieces) f.rest, ap byte_len none)) f.ended
 
 -- the text's last line
@@ -56,18 +55,50 @@ last_line old not_ready some scan {end_len} h =
       ends = h.is.ends;
       stop = sym size;
       some = omega (arith, size, h.is.some);
-    } in
-    record {
+    } in record {
       text = record { held = refl; place = refl; line = refl; ended = refl; fault = refl };
       line = _;
       holds = (held, refl);
-      lexed = λ text lines scanning whole.
-          let first = h.next text lines scanning.first (text_held old text lines scanning whole) in
+      lexed = λ text lines scanning whole. let first = h.next text lines scanning.first (text_held old text lines scanning whole) in
           let settled = subst (λ t. IsSettled t lines) (take_all (old.state.place + length items) text (omega (arith, whole))) (settled_held text lines old not_ready scanning some) in
-          let end = reach_end _ first settled in
-          let all : length items ≡ stop = omega (arith, end, whole) in
+          let end = reach_end _ first settled in let all : length items ≡ stop = omega (arith, end, whole) in
           (all_first text _ _ _ first end, sym (h.is.text.spell ∙ take_all stop items (omega (arith, all))));
     }
+
+-- or the fault that stands there
+pub last_fault : (old new : Feed) → old.ready ≡ None → (state : LineState) → state ≡ rescanned old.state state → {wrong : LineFault} → HasNextFault old.state old.held.items wrong
+    → (error : LexError) → FailsAt (record old { state = state }) wrong.kind wrong.place error new → EndsText old (Err error) new
+last_fault old new not_ready state same {wrong} h error fails =
+    let k = fails.keeps in
+    let at : IsFaultAfter old.state wrong.kind wrong.place (take wrong.place old.held.items) k.fault = record {
+      is = k.at.is;
+      place = k.at.place ∙ ap (λ (s : LineState). s.place + wrong.place) same;
+      line = λ prefix spell. k.at.line prefix spell ∙ ap (λ (s : LineState). s.line + line_ends prefix) same;
+    } in subst (λ (e : LexError). EndsText old (Err e) new) (sym k.error_is) (record {
+      text = record {
+        held = ap (λ (f : Feed). f.held.items) fails.same;
+        place = ap (λ (s : LineState). s.place) (k.same ∙ ap (λ (s : LineState). record s { fault = Some k.fault }) same);
+        line = ap (λ (s : LineState). s.line) (k.same ∙ ap (λ (s : LineState). record s { fault = Some k.fault }) same);
+        ended = ap (λ (f : Feed). f.ended) fails.same;
+        fault = ap (λ (s : LineState). s.fault) k.same;
+      };
+      none_ready = ap (λ (f : Feed). f.ready) fails.same ∙ not_ready;
+      lexed = λ text lines scanning whole. h.lexed k.fault at text lines scanning.first (text_held old text lines scanning whole);
+    })
+
+-- the fault was known before
+pub ends_known : (s : ScannerState) {fault : Fault} → s.fault ≡ Some fault → EndsFaulty s fault s
+ends_known s is = record {
+  all = λ text lines scanning whole. absurd (let h = sym scanning.no_fault ∙ is in cc);
+  again = λ first seen. let h = sym is ∙ seen in cc;
+  place = refl;
+  line = refl;
+  held = refl;
+  fed = refl;
+  ready = refl;
+  open_yet = refl;
+  kept = is;
+}
 
 -- the text has ended
 abbrev pub ended_now : Feed → Feed
@@ -83,16 +114,14 @@ ended_stands f (Some n) r = record { no_fault = r.no_fault; holds = r.holds; aft
 
 finish_now : (old f : Feed) → old.state.fault ≡ None → (e : HasEndedText old f) → EndsScan (scanning_of old) (with_line (ended_now f) e.line)
 finish_now old f no_fault e = record {
-  scans = λ text lines scanning whole.
-      let lexed = e.lexed text lines scanning whole in
-      record {
-        first = first_at e.text.place e.text.line scanning.first;
-        lexed = lexed.0;
-        held = e.text.held ∙ text_held old text lines scanning whole ∙ ap (λ (n : ℕ). drop n text) (sym e.text.place);
-        whole = lexed.1;
-        ended = refl;
-        no_fault = e.text.fault ∙ no_fault;
-      };
+  scans = λ text lines scanning whole. let lexed = e.lexed text lines scanning whole in record {
+    first = first_at e.text.place e.text.line scanning.first;
+    lexed = lexed.0;
+    held = e.text.held ∙ text_held old text lines scanning whole ∙ ap (λ (n : ℕ). drop n text) (sym e.text.place);
+    whole = lexed.1;
+    ended = refl;
+    no_fault = e.text.fault ∙ no_fault;
+  };
   place = e.text.place;
   held = e.text.held;
   fault = no_fault;
@@ -107,27 +136,23 @@ same_room sound text = record { fits = omega (arith, sound.room.fits, text.place
 -- what an error of the call that ends the text comes to
 pub finish_errs : {old new : Feed} → IsSoundFeed old → old.state.fault ≡ None → old.ready ≡ None → (error : LexError) → EndsText old (Err error) new
     → Finishes (scanning_of old) (Err error) (scanning_of new) × IsSoundFeed new
-finish_errs {old} {new} sound no_fault not_ready (LexError.Fault fault) ends =
-    let text = ends.text in (
-      record {
-        all = ends.lexed;
-        again = λ first is. absurd (let h = sym no_fault ∙ is in cc);
-        place = text.place;
-        line = text.line;
-        held = text.held;
-        fed = omega (arith, text.place, ap length text.held);
-        ready = ap (ready_of new) ends.none_ready ∙ sym (ap (ready_of old) not_ready);
-        open_yet = text.ended;
-        kept = text.fault;
-      },
-      record { room = same_room sound text; state = subst (StandsSo new) (sym ends.none_ready) (λ no_more. absurd (let h = sym text.fault ∙ no_more in cc)) },
-    )
+finish_errs {old} {new} sound no_fault not_ready (LexError.Fault fault) ends = let text = ends.text in (
+  record {
+    all = ends.lexed;
+    again = λ first is. absurd (let h = sym no_fault ∙ is in cc);
+    place = text.place;
+    line = text.line;
+    held = text.held;
+    fed = omega (arith, text.place, ap length text.held);
+    ready = ap (ready_of new) ends.none_ready ∙ sym (ap (ready_of old) not_ready);
+    open_yet = text.ended;
+    kept = text.fault;
+  },
+  record { room = same_room sound text; state = subst (StandsSo new) (sym ends.none_ready) (λ no_more. absurd (let h = sym text.fault ∙ no_more in cc)) },
+)
 finish_errs sound no_fault not_ready LexError.Memory short = runs_out sound no_fault not_ready short
 
 module _ {old f : Feed} (sound : IsSoundFeed old) (no_fault : old.state.fault ≡ None) (e : HasEndedText old f) where
-  last_text : Holds old (old.held.items ++ []) old.state.fault f
-  last_text = subst (λ l. Holds old l old.state.fault f) (sym (append-nil old.held.items)) e.text
-
   -- once the tokens of the line that is left are read, if one is
   pub finish_read : {new : Feed} → HasReadTokens f new → EndsScan (scanning_of old) (scanning_of (ended_now new)) × IsSoundFeed (ended_now new)
   finish_read {new} read = (
@@ -139,4 +164,4 @@ module _ {old f : Feed} (sound : IsSoundFeed old) (no_fault : old.state.fault �
   pub finish_short : old.ready ≡ None → {all : ℕ} → all ≡ length f.held.items → {new : Feed} (error : LexError) → ReadsTokens f all (Err error) new
       → Finishes (scanning_of old) (Err error) (scanning_of new) × IsSoundFeed new
   finish_short not_ready size (LexError.Fault x) never = absurd never
-  finish_short not_ready size {new} LexError.Memory drops = runs_out sound no_fault not_ready (dropped old f new [] last_text (size ∙ ap length e.text.held) drops)
+  finish_short not_ready size {new} LexError.Memory drops = runs_out sound no_fault not_ready (dropped old f new [] (subst (λ l. Holds old l old.state.fault f) (sym (append-nil old.held.items)) e.text) (size ∙ ap length e.text.held) drops)

@@ -43,9 +43,7 @@ module _ (text : List ℕ) (place : ℕ) {line : ℕ} {bytes : List ℕ} {scan :
 
   -- the lines given aren't all that is settled
   pub never_before : SettleNone text place bytes lines → ⊥
-  never_before settled =
-      let some = (ended_alone s).line.some in
-      ended_before text place line lines s.read s.rest known (pieces_alone s) next
+  never_before settled = let some = (ended_alone s).line.some in ended_before text place line lines s.read s.rest known (pieces_alone s) next
       (subst (λ l. IsSettled (take (place + length l) text) lines) (sym s.spell) (settled (omega (arith, some, ap length s.spell, length-append (encode_utf8_all s.read) s.rest))))
       (by_whole s.stops.1)
     where
@@ -55,8 +53,7 @@ module _ (text : List ℕ) (place : ℕ) {line : ℕ} {bytes : List ℕ} {scan :
 
   -- where they are the line, with one byte more after CR alone, it is settled
   pub settled_fed : EndsExactly s.read s.rest → IsSettled (take (place + length bytes) text) (lines ++ line_of place line (pieces_alone s) ∷ [])
-  settled_fed exact =
-      subst (λ t. IsSettled (take (place + length t) text) (lines ++ line_of place line (pieces_alone s) ∷ [])) s.spell
+  settled_fed exact = subst (λ t. IsSettled (take (place + length t) text) (lines ++ line_of place line (pieces_alone s) ∷ [])) s.spell
       (settled_ready text place line lines s.read s.rest known (pieces_alone s) next exact)
 
   -- and they are it
@@ -76,8 +73,7 @@ undecided_first text place line lines first fault d =
       decodes = record { are = (all_scalars-parts (spelled first.pieces) first.rest (ap all_scalars first.spell ∙ first.decodes.are)).0; spell = sym (append-nil (take (place + 0) text) ∙ bytes); bad = nothing_bad };
       reading = first_reading text place line lines first;
       cut = first.cut;
-    } in
-    absurd (let h = decided_fault (take (place + 0) text) [] fault lines None d lexed in cc)
+    } in absurd (let h = decided_fault (take (place + 0) text) [] fault lines None d lexed in cc)
 
 -- no line has ended in what is held, which was scanned
 module _ (f : Feed) (s : IsScanned f None) (text : List ℕ) (lines : List LogicalLine) (first : AreFirstLines text f.state.place f.state.line lines) (goes : GoesOnWith text f.state.place f.held.items) where
@@ -86,15 +82,11 @@ module _ (f : Feed) (s : IsScanned f None) (text : List ℕ) (lines : List Logic
     known_open = is_known text f.state.place f.state.line lines s.0.read s.0.rest first s.0.scalars (subst (GoesOnWith text f.state.place) (sym s.0.spell) goes) (omega (arith, some, ap length s.0.spell))
 
     settled_scanned : IsSettled (take (f.state.place + length f.held.items) text) lines
-    settled_scanned =
-        let left = s.0.stops in let way = left.way in
-        subst (λ l. IsSettled (take (f.state.place + length l) text) lines) s.0.spell
+    settled_scanned = let left = s.0.stops in let way = left.way in subst (λ l. IsSettled (take (f.state.place + length l) text) lines) s.0.spell
         (settled_open text f.state.place f.state.line lines s.0.read s.0.rest known_open way left.none (omega (arith, some, ap length s.0.spell)) (left_none left))
 
     undecided_scanned : DecideNone (take (f.state.place + length f.held.items) text)
-    undecided_scanned fault =
-        let left = s.0.stops in let way = left.way in
-        subst (λ l. ¬ (Decides (take (f.state.place + length l) text) fault)) s.0.spell
+    undecided_scanned fault = let left = s.0.stops in let way = left.way in subst (λ l. ¬ (Decides (take (f.state.place + length l) text) fault)) s.0.spell
         (undecided text f.state.place f.state.line lines s.0.read s.0.rest known_open way left.none s.1 fault)
 
   -- the lines given are settled then, and no fault is decided
@@ -138,20 +130,18 @@ module _ {old new : Feed} {piece : List ℕ} {n : ℕ} (t : TakesSoFar old piece
 module _ {old mid new : Feed} {piece rest : List ℕ} {n : ℕ} (t : TakesSoFar old piece n mid) (is : rest ≡ drop n piece) where
   -- bytes were taken once more
   pub takes_more : {m : ℕ} → mid.ready ≡ None → HoldsMore mid mid.held.items mid.held.items rest m new → TakesSoFar old piece (n + m) new
-  takes_more {m} none more =
-      let text = t.more.text in let scanned : IsScanned mid None = subst (EndsWithLine t.before mid) none t.more.ends in
-      record {
-        before = mid.held.items;
-        none = λ whole lines s go.
-            let part = goes_with_first whole (fed_of (scanning_of old)) (take n piece) (take m (drop n piece)) (subst (GoesOnWith whole (fed_of (scanning_of old))) (take-add n m piece) go) in
-            rw (← text.place) (goes_new t s part, (scanned_open mid scanned whole lines (first_new t s part) (goes_new t s part)).0);
-        more = record {
-          within = omega (arith, t.more.within, more.within, ap length is, length-drop n piece);
-          some = λ zero. t.more.some (omega (arith, zero));
-          text = holds_on text more.text (all_held t m is) text.fault;
-          ends = more.ends;
-        };
-      }
+  takes_more {m} none more = let text = t.more.text in let scanned : IsScanned mid None = subst (EndsWithLine t.before mid) none t.more.ends in record {
+    before = mid.held.items;
+    none = λ whole lines s go.
+        let part = goes_with_first whole (fed_of (scanning_of old)) (take n piece) (take m (drop n piece)) (subst (GoesOnWith whole (fed_of (scanning_of old))) (take-add n m piece) go) in
+        rw (← text.place) (goes_new t s part, (scanned_open mid scanned whole lines (first_new t s part) (goes_new t s part)).0);
+    more = record {
+      within = omega (arith, t.more.within, more.within, ap length is, length-drop n piece);
+      some = λ zero. t.more.some (omega (arith, zero));
+      text = holds_on text more.text (all_held t m is) text.fault;
+      ends = more.ends;
+    };
+  }
 
   -- or a fault was met then
   pub fails_more : {fault : Fault} → FailsAfter mid rest fault new → FailsAfter old piece fault new
@@ -176,51 +166,44 @@ module _ (old : Feed) (sound : IsSoundFeed old) (no_fault : old.state.fault ≡ 
     line_fed None s = (
       None,
       (refl, λ open_yet. (s.0.stops.left, s.0.stops.reached)),
-      λ whole lines scanning go.
-          let (settled, undecided) = scanned_open new s whole lines (first_new t scanning go) (goes_new t scanning go) in
+      λ whole lines scanning go. let (settled, undecided) = scanned_open new s whole lines (first_new t scanning go) (goes_new t scanning go) in
           (λ some. subst (IsSettled (take (fed_of (scanning_of new)) whole)) (sym (append-nil lines)) (settled some), tt, λ none. undecided),
     )
     line_fed (Some end_len) (s, which) = (
       Some (line_held new end_len (ended_holds new end_len s)),
       (ended_holds new end_len s, refl),
-      λ whole lines scanning go.
-          let first = first_new t scanning go in let goes = goes_new t scanning go in
-          ⊎_elim
+      λ whole lines scanning go. let first = first_new t scanning go in let goes = goes_new t scanning go in ⊎_elim
           (λ exact. (λ some. settled_fed whole new.state.place lines s first goes exact, holds_exactly whole new.state.place lines s first goes exact, λ none. absurd (cc)))
           (λ had. let (held, none) = t.none whole lines scanning go in absurd (never_before whole new.state.place lines had first (goes_at whole text.place refl held) (rw text.place none)))
           which,
     )
 
     pub taken : TakesLine old piece n new
-    taken =
-        let (line, holds, stands) = line_fed new.ready t.more.ends in
-        record {
-          line = line;
-          holds = holds;
-          takes = record {
-            within = t.more.within;
-            scans = λ whole lines s go.
-                let at = stands whole lines s go in
-                record {
-                  first = first_new t s go;
-                  held = goes_new t s go;
-                  settled = at.0;
-                  whole = at.1;
-                  open_yet = text.ended ∙ s.open_yet;
-                  no_fault = text.fault ∙ no_fault;
-                };
-            undecided = λ whole lines s go. (stands whole lines s go).2;
-            some = λ zero. inl (nil_from_length piece (t.more.some zero));
-            waits = λ u seen. absurd (let none = ap (ready_of old) not_ready in cc);
-            held = text.held;
-            place = text.place;
-            line = text.line;
-            fault = no_fault;
-            open_yet = text.ended;
-            no_fault = text.fault ∙ no_fault;
-          };
-          room = room_more old new (take n piece) sound (few n t.more.within) text;
-        }
+    taken = let (line, holds, stands) = line_fed new.ready t.more.ends in record {
+      line = line;
+      holds = holds;
+      takes = record {
+        within = t.more.within;
+        scans = λ whole lines s go. let at = stands whole lines s go in record {
+          first = first_new t s go;
+          held = goes_new t s go;
+          settled = at.0;
+          whole = at.1;
+          open_yet = text.ended ∙ s.open_yet;
+          no_fault = text.fault ∙ no_fault;
+        };
+        undecided = λ whole lines s go. (stands whole lines s go).2;
+        some = λ zero. inl (nil_from_length piece (t.more.some zero));
+        waits = λ u seen. absurd (let none = ap (ready_of old) not_ready in cc);
+        held = text.held;
+        place = text.place;
+        line = text.line;
+        fault = no_fault;
+        open_yet = text.ended;
+        no_fault = text.fault ∙ no_fault;
+      };
+      room = room_more old new (take n piece) sound (few n t.more.within) text;
+    }
 
   -- or they decide a fault with what was held
   pub meets : {fault : Fault} {new : Feed} → FailsAfter old piece fault new → TakesSo old piece (Err (LexError.Fault fault)) new
@@ -280,8 +263,7 @@ naming_fails word other old new piece LexError.Memory short = short
 pub waits_so : (f : Feed) (piece : List ℕ) → IsSoundFeed f → is_some f.ready ≡ true → TakesBytes (scanning_of f) piece 0 (scanning_of f)
 waits_so f piece sound ready =
     let m = some_is f.ready ready in let line : ready_of f f.ready ≡ Some (line_of_feed f m.0) = ap (ready_of f) m.1 in
-    let fault = (subst (StandsSo f) m.1 sound.state).no_fault in
-    record {
+    let fault = (subst (StandsSo f) m.1 sound.state).no_fault in record {
       within = omega arith;
       scans = λ text lines s go. s;
       undecided = λ text lines s go none fault d. absurd (let h = sym line ∙ none in cc);
@@ -318,11 +300,9 @@ module _ {old new : Feed} {piece : List ℕ} {n : ℕ} (t : TakesLine old piece 
 
   -- where there is no memory for more
   pub takes_short : new.ready ≡ None → {now : Feed} → IsUnchanged new now → TakesLine old piece n now
-  takes_short none {now} unchanged =
-      let (short, sound) = runs_out (takes_open none).1 t.takes.no_fault none unchanged in
+  takes_short none {now} unchanged = let (short, sound) = runs_out (takes_open none).1 t.takes.no_fault none unchanged in
       let seen : ready_of now now.ready ≡ None = ap (λ (s : ScannerState). s.ready) short.same ∙ ap (ready_of new) none in
-      let ready = none_ready now now.ready seen in
-      record {
+      let ready = none_ready now now.ready seen in record {
         line = None;
         holds = subst (λ r. HoldsSo now r None) (sym ready) (refl, subst (StandsSo now) ready sound.state);
         takes = subst (TakesBytes (scanning_of old) piece n) (sym (ap (with_line now) (sym seen) ∙ short.same)) (takes_open none).0;
@@ -343,27 +323,25 @@ module _ {old new : Feed} {piece : List ℕ} {n : ℕ} (t : TakesLine old piece 
 
   -- where it was not let go, and the tokens of the line that stands in what is held are read
   pub fed_named : {now : Feed} {word other : List ℕ} → (is_some new.ready ≡ true → ¬ (LacksBoth word other (take new.state.scan.stop new.held.items))) → HasReadTokens new now → TakesNaming word other (scanning_of old) piece n (scanning_of now)
-  fed_named {now} {word} {other} stays read =
-      naming_same word other (scanning_of old) (scanning_of now) piece n (takes_read read) (λ line is.
+  fed_named {now} {word} {other} stays read = naming_same word other (scanning_of old) (scanning_of now) piece n (takes_read read) (λ line is.
       let at = text_stands new new.ready t.holds (ap (λ (s : ScannerState). s.ready) (sym (read.seen t.line t.holds)) ∙ is) in
       inr (subst (λ text. ¬ (LacksBoth word other text)) (sym at.2) (stays (ap is_some at.1))))
 
   -- where it was let go
   pub fed_released : {now : Feed} {word other : List ℕ} → old.ready ≡ None → is_some new.ready ≡ true → LacksBoth word other (take new.state.scan.stop new.held.items) → LetsGo new now
       → TakesNaming word other (scanning_of old) piece n (scanning_of now) × IsSoundFeed now
-  fed_released {now} {word} {other} was some lacks go =
-      let (end_len, ready, h, line) = line_stands new new.ready t.holds some in (
-        record {
-          mid = with_line new t.line;
-          takes = t.takes;
-          same = inr (
-            line_held new end_len h,
-            line,
-            subst (LacksBoth word other) (sym h.text.spell) lacks,
-            subst (λ l. Releases (with_line new l) (scanning_of now)) (sym line) (releases new now end_len h go),
-          );
-          kept = λ line seen. absurd (let none = ap (ready_of now) go.ready in cc);
-          waits = λ line seen. absurd (let none = ap (ready_of old) was in cc);
-        },
-        released_sound new now end_len h go t.room,
-      )
+  fed_released {now} {word} {other} was some lacks go = let (end_len, ready, h, line) = line_stands new new.ready t.holds some in (
+    record {
+      mid = with_line new t.line;
+      takes = t.takes;
+      same = inr (
+        line_held new end_len h,
+        line,
+        subst (LacksBoth word other) (sym h.text.spell) lacks,
+        subst (λ l. Releases (with_line new l) (scanning_of now)) (sym line) (releases new now end_len h go),
+      );
+      kept = λ line seen. absurd (let none = ap (ready_of now) go.ready in cc);
+      waits = λ line seen. absurd (let none = ap (ready_of old) was in cc);
+    },
+    released_sound new now end_len h go t.room,
+  )

@@ -47,15 +47,13 @@ module _ {m : Mode} {bytes : List ℕ} {scan : Scan} {end_len : ℕ} (s : ScansI
 
     -- so many of the bytes, which the line is part of
     ends_in_first : (n : ℕ) (items : List ℕ) → items ≡ take n bytes → scan.stop + bool_byte returns ≤ n → ScansIn m items scan (Stop.LineEnd end_len)
-    ends_in_first n items first within =
-        let parts : n ≡ byte_len s.read + (n - byte_len s.read) = omega (arith, stop_is, within) in
-        record {
-          read = s.read;
-          rest = take (n - byte_len s.read) s.rest;
-          scalars = s.scalars;
-          spell = sym (first ∙ ap (take n) (sym s.spell) ∙ ap (λ (k : ℕ). take k (encode_utf8_all s.read ++ s.rest)) parts ∙ take-append-add (encode_utf8_all s.read) s.rest (n - byte_len s.read));
-          stops = (s.stops.0, whole_taken s.read s.rest returns (n - byte_len s.read) is (omega (arith, stop_is, within)) s.stops.1);
-        }
+    ends_in_first n items first within = let parts : n ≡ byte_len s.read + (n - byte_len s.read) = omega (arith, stop_is, within) in record {
+      read = s.read;
+      rest = take (n - byte_len s.read) s.rest;
+      scalars = s.scalars;
+      spell = sym (first ∙ ap (take n) (sym s.spell) ∙ ap (λ (k : ℕ). take k (encode_utf8_all s.read ++ s.rest)) parts ∙ take-append-add (encode_utf8_all s.read) s.rest (n - byte_len s.read));
+      stops = (s.stops.0, whole_taken s.read s.rest returns (n - byte_len s.read) is (omega (arith, stop_is, within)) s.stops.1);
+    }
 
 -- so many bytes of a piece are held after those that were: some, if there are any, and as many as the scan stops in
 pub record HoldsStop (m : Mode) (held piece : List ℕ) (scan : Scan) (stop : Stop) (n : ℕ) : Type 0 where
@@ -84,8 +82,7 @@ module _ {m : Mode} (held piece : List ℕ) {scan : Scan} where
 module _ (f : Feed) (before : ℕ) (within : before ≤ length f.held.items) where
   stays : (kept n : ℕ) (new : Feed) → n ≡ length new.held.items - before → Holds f (take kept f.held.items) f.state.fault new → (before < kept) ⊎ (length f.held.items ≤ kept) → EndsWithLine (take before f.held.items) new new.ready
       → Meets f before (Ok n) new
-  stays kept n new count text more ends =
-      let items = f.held.items in let size = ap length text.held ∙ length-take kept items in
+  stays kept n new count text more ends = let items = f.held.items in let size = ap length text.held ∙ length-take kept items in
       let parts : min kept (length items) ≡ before + n = ⊎_elim (λ some. omega (arith, some, size, within, count)) (λ all. omega (arith, all, size, within, count)) more in
       record {
         within = omega (arith, parts, length-drop before items);
@@ -115,8 +112,7 @@ pub takes_met : (old mid new : Feed) (piece : List ℕ) (k before : ℕ) → Hol
 takes_met old mid new piece k before text within some at (Ok n) met =
     let first : take before mid.held.items ≡ old.held.items = ap (take before) text.held ∙ ap (λ (i : ℕ). take i (old.held.items ++ take k piece)) at ∙ take-append_seam old.held.items (take k piece) in
     let later : drop before mid.held.items ≡ take k piece = ap (drop before) text.held ∙ ap (λ (i : ℕ). drop i (old.held.items ++ take k piece)) at ∙ drop-append_seam old.held.items (take k piece) in
-    let h : HoldsMore mid old.held.items old.held.items (take k piece) n new = rw (first, later) at met in
-    record {
+    let h : HoldsMore mid old.held.items old.held.items (take k piece) n new = rw (first, later) at met in record {
       within = omega (arith, h.within, within, length-take-le k piece within);
       some = λ none. some (omega (arith, h.some none, length-take-le k piece within));
       text = holds_on text h.text (ap (λ l. old.held.items ++ l) (take-take n k piece (omega (arith, h.within, length-take-le k piece within)))) text.fault;

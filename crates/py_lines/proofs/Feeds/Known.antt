@@ -82,8 +82,7 @@ is_known text place line lines read rest first fine goes some =
     let taken : take (length held) left ≡ held = ap (take (length held)) (sym (from_there first)) ∙ goes in
     let split : encode_utf8_all read ++ (rest ++ drop (length held) left) ≡ left = sym (append_assoc (encode_utf8_all read) rest (drop (length held) left)) ∙ ap (λ t. t ++ drop (length held) left) (sym taken) ∙ take-append-drop (length held) left in
     let parts = all_scalars-parts (spelled base) first.rest (ap all_scalars first.spell ∙ first.decodes.are) in
-    let on = goes_on read (rest ++ drop (length held) left) first.rest first.tail fine parts.1 first.decodes.bad split in
-    record {
+    let on = goes_on read (rest ++ drop (length held) left) first.rest first.tail fine parts.1 first.decodes.bad split in record {
       base = base;
       more = on.rest;
       fit = subst (AreReadBefore base) on.split first.fit;

@@ -49,15 +49,10 @@ module _ {m : Mode} {whole : List ℕ} {scan : Scan} {read rest : List ℕ} (l :
   cut_is : (n : ℕ) (utf8 : IsUtf8 (take n l.left)) → StartsWithNoChar (drop n l.left) → (utf8.0 ≡ l.all.run) × (drop n l.left ≡ rest)
   cut_is n (cs, (scalars, taken)) bad = one_decoding cs l.all.run (drop n l.left) rest scalars l.all.scalars bad l.none (ap (λ t. t ++ drop n l.left) taken ∙ take-append-drop n l.left ∙ sym left_spell)
 
-  part_left : TellsHopeless l.left None → ¬ (IsHopeless rest)
-  part_left (n, utf8, bad, more) = subst (λ t. ¬ (IsHopeless t)) (cut_is n utf8 bad).1 more
-
   module _ (start : begins_line m ≡ true) (spell : encode_utf8_all read ++ rest ≡ whole) where
-    left_size : byte_len read ≡ scan.stop + byte_len l.all.run
-    left_size = omega (arith, rests_end l.reached.way start l.reached.rests, ap length spell, ap length l.reached.spell, ap length left_spell, length-append (encode_utf8_all read) rest, length-append (encode_utf8_all l.reached.read) l.left, length-append (encode_utf8_all l.all.run) rest)
-
     hopeless_left : (n : ℕ) → TellsHopeless l.left (Some n) → (scan.stop + n ≡ byte_len read) × IsHopeless rest
-    hopeless_left n (within, utf8, hopeless) =
+    hopeless_left n (within, utf8, hopeless) = let left_size : byte_len read ≡ scan.stop + byte_len l.all.run
+        = omega (arith, rests_end l.reached.way start l.reached.rests, ap length spell, ap length l.reached.spell, ap length left_spell, length-append (encode_utf8_all read) rest, length-append (encode_utf8_all l.reached.read) l.left, length-append (encode_utf8_all l.all.run) rest) in
         let both = cut_is n utf8 (subst StartsWithNoChar (append-nil (drop n l.left)) (hopeless [])) in
         (omega (arith, left_size, ap byte_len both.0, ap length utf8.1.1, length-take-le n l.left within), subst IsHopeless both.1 hopeless)
 
@@ -95,8 +90,7 @@ module _ (f : Feed) (rest : List ℕ) (o : IsOpen f rest) where
 
   -- the bytes after the place where the scan stands
   pub next_is : (held : List ℕ) → held ≡ f.held.items → take (length held - f.state.scan.stop) (drop f.state.scan.stop held) ≡ rest
-  next_is held same =
-      take_all (length held - f.state.scan.stop) (drop f.state.scan.stop held) (omega (arith, length-drop f.state.scan.stop held))
+  next_is held same = take_all (length held - f.state.scan.stop) (drop f.state.scan.stop held) (omega (arith, length-drop f.state.scan.stop held))
       ∙ ap (drop f.state.scan.stop) same ∙ ap (λ (n : ℕ). drop n f.held.items) open_stop
       ∙ ap (drop (byte_len o.read)) (sym o.spell) ∙ drop-append_seam (encode_utf8_all o.read) rest
 
@@ -113,7 +107,8 @@ module _ (f : Feed) (s : StopsHeld f Stop.TextEnd) (held : List ℕ) (is : held 
   bytes_left = take (length held - f.state.scan.stop) (drop f.state.scan.stop held)
 
   pub part_held : TellsHopeless bytes_left None → ¬ (IsHopeless s.rest)
-  part_held tells = part_left s.stops (subst (λ t. TellsHopeless t None) (next_is f s.stops.left s.stops.reached held is) tells)
+  part_held tells = let (n, utf8, bad, more) = subst (λ t. TellsHopeless t None) (next_is f s.stops.left s.stops.reached held is) tells in
+      subst (λ t. ¬ (IsHopeless t)) (cut_is s.stops n utf8 bad).1 more
 
   pub hopeless_held : (n : ℕ) → TellsHopeless bytes_left (Some n) → (f.state.scan.stop + n ≡ byte_len s.read) × IsHopeless s.rest
   hopeless_held n tells = hopeless_left s.stops (begun_sound f.state.place) s.spell n (subst (λ t. TellsHopeless t (Some n)) (next_is f s.stops.left s.stops.reached held is) tells)
@@ -186,14 +181,9 @@ dropped old mid new bytes {before} more size d = begun_unchanged old new mid.sta
 
 module _ (f new : Feed) (kind : FaultKind) (offset : ℕ) (error : LexError) (fails : FailsAt f kind offset error new) where
   -- a fault keeps all that is held
-  fails_is : new ≡ record f { state = record f.state { fault = Some fails.keeps.fault } }
-  fails_is = fails.same ∙ ap (λ (s : LineState). record f { state = s }) fails.keeps.same
-
   pub fails_keep : Holds f f.held.items (Some fails.keeps.fault) new
-  fails_keep = subst (Holds f f.held.items (Some fails.keeps.fault)) (sym fails_is) (record { held = refl; place = refl; line = refl; ended = refl; fault = refl })
-
-  pub fails_ready : f.ready ≡ None → new.ready ≡ None
-  fails_ready none = ap (λ (x : Feed). x.ready) fails.same ∙ none
+  fails_keep = subst (Holds f f.held.items (Some fails.keeps.fault)) (sym (fails.same ∙ ap (λ (s : LineState). record f { state = s }) fails.keeps.same))
+      (record { held = refl; place = refl; line = refl; ended = refl; fault = refl })
 
   -- it stands after these characters of what is held
   pub fault_after : (read rest : List ℕ) → encode_utf8_all read ++ rest ≡ f.held.items → (w : Within read offset) → IsFaultAfter f.state kind offset (encode_utf8_all w.prefix) fails.keeps.fault
@@ -202,13 +192,12 @@ module _ (f new : Feed) (kind : FaultKind) (offset : ℕ) (error : LexError) (fa
   -- the scan of what is held meets a fault
   fails_held : f.ready ≡ None → (before : ℕ) → WhereHeld f.state.place f.state.line f.held.items (λ text lines. IsDecidedAt text f.state.place lines (length f.held.items) fails.keeps.fault)
       → Meets f before (Err error) new
-  fails_held none before decided = subst (λ (e : LexError). Meets f before (Err e) new) (sym fails.keeps.error_is) (fails_keep, fails_ready none, decided)
+  fails_held none before decided = subst (λ (e : LexError). Meets f before (Err e) new) (sym fails.keeps.error_is) (fails_keep, ap (λ (x : Feed). x.ready) fails.same ∙ none, decided)
 
 module _ (f new : Feed) (before : ℕ) (error : LexError) (not_ready : f.ready ≡ None) where
   -- what is left begins no character, whatever follows
   pub part_fails : (offset : ℕ) (s : StopsHeld f Stop.TextEnd) → offset ≡ byte_len s.read → IsHopeless s.rest → FailsAt f FaultKind.BadUtf8 offset error new → Meets f before (Err error) new
-  part_fails offset s at hopeless fails =
-      let left = s.stops in
+  part_fails offset s at hopeless fails = let left = s.stops in
       let some : 0 < length s.rest = ⊎_elim (λ more. more) (λ none. absurd (part_none (subst IsHopeless (nil_from_length s.rest (omega (arith, none))) hopeless))) (cases_lt 0 (length s.rest)) in
       fails_held f new FaultKind.BadUtf8 offset error fails not_ready before (λ text lines first goes.
       by_bytes text f.state lines f.held.items s.read s.rest first goes s.scalars s.spell left.way (left_open left some) some hopeless fails.keeps.fault
@@ -217,8 +206,7 @@ module _ (f new : Feed) (before : ℕ) (error : LexError) (not_ready : f.ready �
 
   -- the next character is refused
   pub held_refused : (line_fault : LineFault) → StopsHeld f (Stop.Wrong line_fault) → FailsAt f line_fault.kind line_fault.place error new → Meets f before (Err error) new
-  held_refused line_fault s fails =
-      let no = s.stops in let w = refused_within f.state.place s.read no.way no.c no.none line_fault no.fault in
+  held_refused line_fault s fails = let no = s.stops in let w = refused_within f.state.place s.read no.way no.c no.none line_fault no.fault in
       fails_held f new line_fault.kind line_fault.place error fails not_ready before (λ text lines first goes.
       by_character text f.state lines f.held.items s.read s.rest first goes s.scalars s.spell no.way no.c no.after no.scalar no.spell no.none no.open_yet line_fault no.fault fails.keeps.fault w
       (fault_after f new line_fault.kind line_fault.place error fails s.read s.rest s.spell w))

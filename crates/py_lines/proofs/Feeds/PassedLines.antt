@@ -1,10 +1,12 @@
 -- Lines that a scanner passed over are the next ones of each text that goes on with them.
 use mir.Val.{bool_byte}
-use Rattle.std.proofs.Common.{◌≡◌, ℕ, ◌+◌, ◌<◌, ◌≤◌, ◌^◌, ⊎_elim, inl, inr, Bool, Option, None, List, [], ◌∷◌, ◌++◌, ◌-◌, eqb, false, length, take, drop, refl, sym, ap, ◌∙◌, subst, append_assoc, append-nil, arith, length-append, encode_utf8_all, flat_map, min}
+use Rattle.std.proofs.Common.{◌≡◌, ℕ, ◌+◌, ◌<◌, ◌≤◌, ◌^◌, ⊎_elim, inl, inr, Bool, true, Option, None, List, [], ◌∷◌, ◌++◌, ◌-◌, eqb, false, length, take, drop, refl, sym, ap, ◌∙◌, subst, append_assoc, append-nil, arith, length-append, encode_utf8_all, flat_map, min}
 use Rattle.std.specs.Global.{Vec}
 use Rattle.std.proofs.lemmas.Bool.{cases_lt}
-use Rattle.std.specs.List.{ends_with}
-use Rattle.std.proofs.Math.Seq.{drop-append_seam, take-add}
+use Rattle.std.proofs.lemmas.Bool.Decides.{Decides-eqb}
+use Rattle.std.proofs.lemmas.Slice.Eq.{starts_is}
+use Rattle.std.specs.List.{ends_with, starts_with}
+use Rattle.std.proofs.Math.Seq.{drop-append_seam, take-add, take-append_seam}
 use Rattle.std.proofs.lemmas.List.{length-drop, length-take-le, length-take}
 use Rattle.std.proofs.lemmas.Str.{encodes-append, length-le-encodes}
 use Rattle.py_lines.specs.Character.{is_return}
@@ -64,9 +66,14 @@ module _ (bytes : List ℕ) (len : ℕ) (found : BeginWithLines bytes len) (retu
   end_within = omega (arith, more_held.0, length-drop len bytes)
 
   pub holds_after : HoldsAfterLines bytes len (take (bool_byte returns) (drop len bytes))
-  holds_after =
-      let k = bool_byte returns in let size : length (take k (drop len bytes)) ≡ k = length-take-le k (drop len bytes) more_held.0 in
+  holds_after = let k = bool_byte returns in let size : length (take k (drop len bytes)) ≡ k = length-take-le k (drop len bytes) more_held.0 in
       record { exact = more_held.1; within = omega (arith, size, end_within); next = ap (λ (n : ℕ). take (len + n) bytes) size ∙ take-add len k bytes }
+
+-- bytes that begin with those that are held
+pub began_with : (bytes held like : List ℕ) (begins : Bool) → like ≡ held → begins ≡ starts_with eqb bytes like → begins ≡ true → take (length held) bytes ≡ held
+began_with bytes held like begins same is does =
+    let spell = (starts_is Decides-eqb bytes like begins is).0 does in
+    subst (λ t. take (length t) bytes ≡ t) same (ap (take (length like)) spell ∙ take-append_seam like (drop (length like) bytes))
 
 -- no line is passed over
 pub none_found : (s : ScannerState) (bytes : List ℕ) (before : ℕ) → PassesPieceLines s bytes before 0 s
@@ -89,9 +96,7 @@ module _ (f : Feed) (held : Vec ℕ) (state : LineState) (scan : Scan) (stands :
   begun = record f { state = state; held = held }
 
   pub begun_none : (bytes : List ℕ) (before : ℕ) → IsSoundFeed f → PassesPieceLines (scanning_of f) bytes before 0 (scanning_of begun) × IsSoundFeed begun
-  begun_none bytes before sound =
-      let none = none_ready f f.ready stands.ready in
-      let short = runs_out sound stands.no_fault none
+  begun_none bytes before sound = let none = none_ready f f.ready stands.ready in let short = runs_out sound stands.no_fault none
       (begun_unchanged f begun (record f.state { scan = scan }) none (record { held = kept; place = refl; line = refl; ended = refl; fault = refl }) anew) in
       let same = short.0.same in (
         subst (λ (s : ScannerState). PassesPieceLines (scanning_of f) bytes before 0 s) (sym same) (none_found (scanning_of f) bytes before),
@@ -125,25 +130,21 @@ module _ (f : Feed) (bytes : List ℕ) (before stop len : ℕ) (stands : StandsA
     returned = is ∙ ends_with_return (take len (take stop bytes))
 
     same : len ≡ 0 → held.items ≡ f.held.items
-    same zero =
-        let none : returns ≡ false = returned ∙ ap (λ (n : ℕ). ends is_return (take n (take stop bytes))) zero in
+    same zero = let none : returns ≡ false = returned ∙ ap (λ (n : ℕ). ends is_return (take n (take stop bytes))) zero in
         let all : min (length f.held.items) len ≡ 0 = omega (arith, zero) in let size : len + bool_byte returns - len ≡ 0 = omega (arith, ap bool_byte none) in
         held_is ∙ rw (all, size) (append-nil f.held.items)
 
     holds : 0 < len → HoldsAfterLines (take stop bytes) len held.items
-    holds some =
-        let more = take (bool_byte returns) (drop len (take stop bytes)) in
+    holds some = let more = take (bool_byte returns) (drop len (take stop bytes)) in
         let all : min (length f.held.items) len ≡ length f.held.items = omega (arith, some, stands.held) in let size : len + bool_byte returns - len ≡ bool_byte returns = omega arith in
         subst (HoldsAfterLines (take stop bytes) len) (sym (held_is ∙ rw (all, size) (drop-append_seam f.held.items more))) (holds_after (take stop bytes) len found returns returned)
 
     holds_here : 0 < len → HoldsAfterLines bytes len held.items
-    holds_here some =
-        let h = holds some in let room = h.within in
-        record {
-          exact = subst (λ t. EndsExactly t held.items) (take_slice bytes len stop found.within) h.exact;
-          within = omega (arith, room, stop_is, length-take stop bytes);
-          next = sym (take_slice bytes (len + length held.items) stop h.within) ∙ h.next ∙ ap (λ t. t ++ held.items) (take_slice bytes len stop found.within);
-        }
+    holds_here some = let h = holds some in let room = h.within in record {
+      exact = subst (λ t. EndsExactly t held.items) (take_slice bytes len stop found.within) h.exact;
+      within = omega (arith, room, stop_is, length-take stop bytes);
+      next = sym (take_slice bytes (len + length held.items) stop h.within) ∙ h.next ∙ ap (λ t. t ++ held.items) (take_slice bytes len stop found.within);
+    }
 
     exact : 0 < len → EndsExactly found.read held.items
     exact some = rw (ap (ends is_return) (sym read_is) ∙ ends-encoded found.read) at (holds_here some).exact
@@ -178,22 +179,20 @@ module _ (f : Feed) (bytes : List ℕ) (before stop len : ℕ) (stands : StandsA
       texts = lines_spell found.texts f.state.place f.state.line found.read (drop len (take stop bytes)) found.whole ∙ read_is
 
       passes_lines : PassesPieceLines (scanning_of f) bytes before len (scanning_of after)
-      passes_lines =
-          let seen : ready_of after f.ready ≡ ready_of f f.ready = ready ∙ sym stands.ready in
-          record {
-            lines = lines;
-            texts = texts;
-            ends = omega (arith, up_to, stop_is);
-            stands = λ more. stands;
-            began = λ more. began;
-            held = holds_here;
-            scans = scans;
-            place = refl;
-            others = λ i. record { place = after.state.place; line = after.state.line; held = held.items; ready = seen i; ended = f.ended; fault = f.state.fault };
-            same = λ none.
-                let here : after.state.place ≡ f.state.place = omega (arith, none) in let number : after.state.line ≡ f.state.line = omega (arith, none, few) in
-                (λ i. record { place = here i; line = number i; held = same none i; ready = seen i; ended = f.ended; fault = f.state.fault });
-          }
+      passes_lines = let seen : ready_of after f.ready ≡ ready_of f f.ready = ready ∙ sym stands.ready in record {
+        lines = lines;
+        texts = texts;
+        ends = omega (arith, up_to, stop_is);
+        stands = λ more. stands;
+        began = λ more. began;
+        held = holds_here;
+        scans = scans;
+        place = refl;
+        others = λ i. record { place = after.state.place; line = after.state.line; held = held.items; ready = seen i; ended = f.ended; fault = f.state.fault };
+        same = λ none.
+            let here : after.state.place ≡ f.state.place = omega (arith, none) in let number : after.state.line ≡ f.state.line = omega (arith, none, few) in
+            (λ i. record { place = here i; line = number i; held = same none i; ready = seen i; ended = f.ended; fault = f.state.fault });
+      }
 
     pub passed : {ends : ℕ} → ends ≡ line_ends found.read → {scan : Scan} {state : LineState} → BeginsAnew (record f.state { place = f.state.place + len; line = f.state.line + ends; scan = scan }) state → f.state.place + length bytes ≤ 2 ^ 62 → IsSoundFeed f
         → PassesPieceLines (scanning_of f) bytes before len (scanning_of (record f { state = state; held = held })) × IsSoundFeed (record f { state = state; held = held })

@@ -54,8 +54,8 @@ module _ (f : Feed) (end_len : ℕ) (h : HoldsLine f end_len) where
   pub held_within : f.state.scan.stop ≤ length f.held.items
   held_within = omega (arith, h.stop, ap length h.spell, length-append (encode_utf8_all h.read) h.rest)
 
-  pub held_line_text : IsLineText (take f.state.scan.stop f.held.items)
-  held_line_text = (h.pieces, h.text)
+  pub held_line_text : IsLineText (take f.state.scan.stop f.held.items) end_len
+  held_line_text = (h.pieces, (h.text, h.ends))
 
 -- no line stands in what is held: there are no tokens to be read
 pub none_read : {f : Feed} → HasRoom f 0 → f.ready ≡ None → (line : Option LogicalLine) × HoldsSo f f.ready line → HasReadTokens f f
@@ -65,29 +65,25 @@ none_read {f} room none (held, holds) = record {
 }
 
 -- the tokens of the line that does were read
-module _ (f : Feed) (state : LineState) (line : ℕ) (tokens : HoldsTokens (take f.state.scan.stop f.held.items) f.state.line state.tokens) (after : IsLineAfter f.state.line (take f.state.scan.stop f.held.items) line) where
+module _ (f : Feed) (state : LineState) (end_len line : ℕ) (tokens : HoldsTokens (take f.state.scan.stop f.held.items) end_len f.state.line state.tokens)
+    (after : IsLineAfter f.state.line (take f.state.scan.stop f.held.items) end_len line) where
   abbrev pub with_read : Feed
   with_read = record f { state = with_tokens f.state state; next_line = line }
 
-  line_read : (end_len : ℕ) (h : HoldsLine f end_len) → line_of_feed with_read end_len ≡ line_held f end_len h
-  line_read end_len h =
-      let are = tokens h.pieces h.text in
+  line_read : (h : HoldsLine f end_len) → line_of_feed with_read end_len ≡ line_held f end_len h
+  line_read h = let are = tokens h.pieces (h.text, h.ends) in
       λ i. record { kind = are.kind i; text = sym h.text.spell i; tokens = are.tokens i; offset = f.state.place; line = f.state.line; indent = are.indent i; end_len = h.ends i }
 
-  seen_read : (end_len : ℕ) (seen : Option LogicalLine) → HoldsSo f (Some end_len) seen → ready_of with_read (Some end_len) ≡ seen
-  seen_read end_len seen (h, is) = ap Some (line_read end_len h) ∙ sym is
+  line_after : HoldsLine f end_len → IsLineAfterHeld with_read line
+  line_after h read spell = after h.pieces (h.text, h.ends) ∙ ap (λ (t : List ℕ). f.state.line + line_ends t) (encodes_same (spelled h.pieces) read (h.text.spell ∙ sym spell))
 
-  line_after : (end_len : ℕ) → HoldsLine f end_len → IsLineAfterHeld with_read line
-  line_after end_len h read spell = after h.pieces h.text ∙ ap (λ (t : List ℕ). f.state.line + line_ends t) (encodes_same (spelled h.pieces) read (h.text.spell ∙ sym spell))
-
-  pub some_read : {end_len : ℕ} → f.state.fault ≡ None → HasRoom f 0 → f.ready ≡ Some end_len → HoldsLine f end_len → HasReadTokens f with_read
-  some_read {end_len} no_fault room ready h = record {
-    seen = λ seen held. ap (with_line f) (ap (ready_of with_read) ready ∙ seen_read end_len seen (subst (λ r. HoldsSo f r seen) ready held));
-    sound = record { room = room; state = subst (StandsSo with_read) (sym ready) (record { no_fault = no_fault; holds = h; after = line_after end_len h; line_is = line_read end_len h }) };
+  pub some_read : f.state.fault ≡ None → HasRoom f 0 → f.ready ≡ Some end_len → HoldsLine f end_len → HasReadTokens f with_read
+  some_read no_fault room ready h = record {
+    seen = λ seen held. ap (with_line f) (ap (ready_of with_read) ready ∙ (let (own, is) = subst (λ r. HoldsSo f r seen) ready held in ap Some (line_read own) ∙ sym is));
+    sound = record { room = room; state = subst (StandsSo with_read) (sym ready) (record { no_fault = no_fault; holds = h; after = line_after h; line_is = line_read h }) };
   }
 
-pub ready_seen : (f : Feed) (end_len : ℕ) → f.ready ≡ Some end_len → (r : IsReady f end_len)
-    → scanning_of f ≡ with_line f (Some (line_held f end_len r.holds))
+pub ready_seen : (f : Feed) (end_len : ℕ) → f.ready ≡ Some end_len → (r : IsReady f end_len) → scanning_of f ≡ with_line f (Some (line_held f end_len r.holds))
 ready_seen f end_len is r = ap (with_line f) (ap (ready_of f) is ∙ ap Some r.line_is)
 
 pub none_ready : (f : Feed) (ready : Option ℕ) → ready_of f ready ≡ None → ready ≡ None

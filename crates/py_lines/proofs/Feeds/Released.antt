@@ -23,8 +23,7 @@ use Rattle.py_lines.proofs.Feeds.ReadyLines.{ready_seen, stopped_text}
 module _ {text : List ℕ} {place line : ℕ} {lines : List LogicalLine} (first : AreFirstLines text place line lines) (read : List ℕ) (l : LogicalLine) (same : l.text ≡ encode_utf8_all read) where
   -- are the first lines of the text up to where it ends
   reached : {here number : ℕ} → AreFirstLines text here number (lines ++ l ∷ []) → AreFirstLines text (place + byte_len read) (line + line_ends read) (lines ++ l ∷ [])
-  reached next =
-      let spells : spelled next.pieces ≡ spelled first.pieces ++ read = encodes_same (spelled next.pieces) (spelled first.pieces ++ read)
+  reached next = let spells : spelled next.pieces ≡ spelled first.pieces ++ read = encodes_same (spelled next.pieces) (spelled first.pieces ++ read)
       (sym (texts-lines next.pieces) ∙ ap texts (sym next.cut) ∙ texts-append lines (l ∷ []) ∙ ap (λ t. texts lines ++ t) (append-nil l.text ∙ same) ∙ ap (λ t. t ++ encode_utf8_all read) (ap texts first.cut ∙ texts-lines first.pieces)
       ∙ sym (encodes-append (spelled first.pieces) read)) in
       let characters = (decoded text first.characters next.characters first.tail next.tail first.decodes next.decodes).0 in
@@ -115,18 +114,15 @@ module _ (old new : Feed) (n : ℕ) (r : HoldsLine old n) (go : LetsGo old new) 
         settled_new,
       )
 
-  ends_on : (text : List ℕ) (lines : List LogicalLine) → HasEnded (with_line old (Some unit)) text lines
-      → HasEnded (scanning_of new) text (lines ++ unit ∷ [])
-  ends_on text lines ended =
-      let all : IsLexedWhole text (lines ++ unit ∷ []) = ended.lexed in
-      record {
-        first = first_here text (lines ++ unit ∷ []) (last_released ended.first r.read unit text_is all);
-        lexed = subst (λ l. IsLexed text l None) (sym (none_more (lines ++ unit ∷ []))) all;
-        held = go.held ∙ ap (drop old.state.scan.stop) ended.held ∙ drop-drop old.state.scan.stop old.state.place text ∙ ap (λ (m : ℕ). drop m text) (sym go.place);
-        whole = subst (HoldsLast new.held.items) (sym none_ready) tt;
-        ended = go.ended ∙ ended.ended;
-        no_fault = go.fault ∙ ended.no_fault;
-      }
+  ends_on : (text : List ℕ) (lines : List LogicalLine) → HasEnded (with_line old (Some unit)) text lines → HasEnded (scanning_of new) text (lines ++ unit ∷ [])
+  ends_on text lines ended = let all : IsLexedWhole text (lines ++ unit ∷ []) = ended.lexed in record {
+    first = first_here text (lines ++ unit ∷ []) (last_released ended.first r.read unit text_is all);
+    lexed = subst (λ l. IsLexed text l None) (sym (none_more (lines ++ unit ∷ []))) all;
+    held = go.held ∙ ap (drop old.state.scan.stop) ended.held ∙ drop-drop old.state.scan.stop old.state.place text ∙ ap (λ (m : ℕ). drop m text) (sym go.place);
+    whole = subst (HoldsLast new.held.items) (sym none_ready) tt;
+    ended = go.ended ∙ ended.ended;
+    no_fault = go.fault ∙ ended.no_fault;
+  }
 
   pub releases : Releases (with_line old (Some unit)) (scanning_of new)
   releases = record {
@@ -145,10 +141,7 @@ module _ (old new : Feed) (n : ℕ) (r : HoldsLine old n) (go : LetsGo old new) 
   -- the state after it
   pub released_sound : HasRoom old 0 → IsSoundFeed new
   released_sound room = record {
-    room = record {
-      fits = omega (arith, fed_is, room.fits);
-      few_lines = omega (arith, go.place, line_is, r.stop, line_ends-bytes r.read, room.few_lines);
-    };
+    room = record { fits = omega (arith, fed_is, room.fits); few_lines = omega (arith, go.place, line_is, r.stop, line_ends-bytes r.read, room.few_lines) };
     state = subst (StandsSo new) (sym go.ready) (λ no_fault. (new.held.items, go.opens));
   }
 
@@ -158,6 +151,5 @@ release_seen old new seen is sound some go =
     let at = ready_from old sound (subst (λ (s : ScannerState). IsSome s.ready) (sym is) some) in let h = at.2.holds in
     let seen_is : with_line old (Some (line_held old at.0 h)) ≡ seen = sym (ready_seen old at.0 at.1 at.2) ∙ is in (
       subst (λ (s : ScannerState). Releases s (scanning_of new)) seen_is (releases old new at.0 h go),
-      released_sound old new at.0 h go
-          sound.room,
+      released_sound old new at.0 h go sound.room,
     )

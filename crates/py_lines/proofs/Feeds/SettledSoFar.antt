@@ -1,5 +1,5 @@
 -- What the known bytes settle: the lines given, where the machine has found no line end after them, or one line more.
-use Rattle.std.proofs.Common.{◌≡◌, Bool, true, ℕ, ◌<◌, ◌≤◌, ◌⊎◌, false, List, [], ◌∷◌, ◌++◌, length, refl, sym, ap, ◌∙◌, subst, ⊎_elim, inl, inr, append-nil, arith, length-append, encode_utf8_all}
+use Rattle.std.proofs.Common.{◌≡◌, Bool, true, ℕ, ◌<◌, ◌⊎◌, false, List, [], ◌∷◌, ◌++◌, length, refl, sym, ap, ◌∙◌, subst, ⊎_elim, inl, inr, append-nil, arith, length-append, encode_utf8_all}
 use Rattle.std.specs.Str.{StartsWithNoChar}
 use Rattle.std.proofs.lemmas.Bool.{cases_lt, and_from, false_from_ne_true}
 use Rattle.std.proofs.lemmas.List.{nil_from_length}
@@ -41,36 +41,25 @@ ends_none way start rest last = by (has_returned way.field) refl
   where
     by : (b : Bool) → has_returned way.field ≡ b → EndsNoneYet (outer_pieces way.field) rest
     by false open_yet = EndsNoneYet.none (open_line way start open_yet)
-    by true is =
-        let t = way.field in let r = returned_at way start is in let alone = outer_alone t r.outside in
-        EndsNoneYet.by_return t.done t.held (alone.3 ∙ ap (λ m. field_closed m t.done t.held) r.mode)
-        (subst (EndsNoLine 0) alone.0 (way_one_line way start))
-        r.held (last is)
+    by true is = let t = way.field in let r = returned_at way start is in let alone = outer_alone t r.outside in
+        EndsNoneYet.by_return t.done t.held (alone.3 ∙ ap (λ m. field_closed m t.done t.held) r.mode) (subst (EndsNoLine 0) alone.0 (way_one_line way start)) r.held (last is)
 
 module _ (text : List ℕ) (place line : ℕ) (lines : List LogicalLine) (read rest : List ℕ) (k : IsKnown text place line lines read rest) where
   -- no line has ended since
   pub settled_open : (way : IsUnderWay (first_mode place) read) → StartsWithNoChar rest → 0 < length (encode_utf8_all read ++ rest)
       → (has_returned way.field ≡ true → rest ≡ []) → IsSettled (of.bytes text place line lines read rest k) lines
-  settled_open way bad some last =
-      let j = of.joins text place line lines read rest k way.field way.goes in
-      let good : EndsForGood k.base (read ++ rest) = (
-        k.ended,
-        λ none.
-            let parts = none_both read rest none in
-            absurd (omega (arith, some, length-append (encode_utf8_all read) rest, ap (λ t. length (encode_utf8_all t)) parts.0, ap length parts.1)),
-      ) in
-      record {
-        characters = spelled k.base ++ read;
-        tail = rest;
-        pieces = k.base;
-        decodes = of.decodes text place line lines read rest k bad;
-        prefix = settled_at (spelled k.base ++ read) rest j.state k.base (outer_pieces way.field) read j.runs j.pieces (of.reading text place line lines read rest k) good (ends_none way (begun_sound place) rest last) refl;
-        cut = k.cut;
-      }
-
--- a byte of a longer character begins none alone
-wide_alone : (b : ℕ) → 128 ≤ b → StartsWithNoChar (b ∷ [])
-wide_alone b wide = no_char (b ∷ []) (λ n within g. omega arith)
+  settled_open way bad some last = let j = of.joins text place line lines read rest k way.field way.goes in let good : EndsForGood k.base (read ++ rest) = (
+    k.ended,
+    λ none. let parts = none_both read rest none in
+        absurd (omega (arith, some, length-append (encode_utf8_all read) rest, ap (λ t. length (encode_utf8_all t)) parts.0, ap length parts.1)),
+  ) in record {
+    characters = spelled k.base ++ read;
+    tail = rest;
+    pieces = k.base;
+    decodes = of.decodes text place line lines read rest k bad;
+    prefix = settled_at (spelled k.base ++ read) rest j.state k.base (outer_pieces way.field) read j.runs j.pieces (of.reading text place line lines read rest k) good (ends_none way (begun_sound place) rest last) refl;
+    cut = k.cut;
+  }
 
 -- a line after the lines given, which may stand before what follows
 pub record IsNextLine (place : ℕ) (read more : List ℕ) (u : List Piece) : Type 0 where
@@ -83,8 +72,7 @@ pub record IsNextLine (place : ℕ) (read more : List ℕ) (u : List Piece) : Ty
   pub line : IsReadLine (first_mode place) read u
 
 pub next_line : {m : Mode} {place : ℕ} {scan : Scan} {read : List ℕ} {len : ℕ} (at : IsAtLineEnd m scan read [] len)
-    → IsReadLine (first_mode place) read (at.body ++ at.last ∷ []) → (more : List ℕ) → IsApart read more
-    → IsNextLine place read more (at.body ++ at.last ∷ [])
+    → IsReadLine (first_mode place) read (at.body ++ at.last ∷ []) → (more : List ℕ) → IsApart read more → IsNextLine place read more (at.body ++ at.last ∷ [])
 next_line at line more apart = record { body = at.body; last = at.last; is = refl; class = at.are.class; level = at.are.level; fit = fits_on at more apart; line = line }
 
 module _ (text : List ℕ) (place line : ℕ) (lines : List LogicalLine) (read rest : List ℕ) (k : IsKnown text place line lines read rest) (u : List Piece) (next : IsNextLine place read k.more u) where
@@ -110,12 +98,11 @@ module _ (text : List ℕ) (place line : ℕ) (lines : List LogicalLine) (read r
   pub settled_ready : EndsExactly read rest → IsSettled (of.bytes text place line lines read rest k) (lines ++ line_of place line u ∷ [])
   settled_ready (inl (no_cr, nothing)) = by_tail (subst StartsWithNoChar (sym nothing) nothing_bad) (λ none. no_cr)
   settled_ready (inr (returned, (b, is, other))) = ⊎_elim narrow
-      (λ wide. by_tail (subst StartsWithNoChar (sym is) (wide_alone b wide)) (λ none. absurd (omega (arith, ap length (sym is ∙ none)))))
+      (λ wide. by_tail (subst StartsWithNoChar (sym is) (no_char (b ∷ []) (λ n within g. omega arith))) (λ none. absurd (omega (arith, ap length (sym is ∙ none)))))
       (cases_lt b 128)
     where
       narrow : b < 128 → IsSettled (of.bytes text place line lines read rest k) (lines ++ line_of place line u ∷ [])
-      narrow low =
-          let scalars = all_scalars-append (spelled k.base ++ read) (b ∷ []) k.scalars (and_from _ _ (low_scalar b (omega arith)) refl) in
+      narrow low = let scalars = all_scalars-append (spelled k.base ++ read) (b ∷ []) k.scalars (and_from _ _ (low_scalar b (omega arith)) refl) in
           let bytes : encode_utf8_all ((spelled k.base ++ read) ++ b ∷ []) ++ [] ≡ of.bytes text place line lines read rest k
           = append-nil _ ∙ encodes-append (spelled k.base ++ read) (b ∷ []) ∙ ap (λ t. encode_utf8_all (spelled k.base ++ read) ++ t) (append-nil _ ∙ encode_ascii b low ∙ sym is) ∙ sym k.known in
           by_rest ((spelled k.base ++ read) ++ b ∷ []) [] (b ∷ []) (record { are = scalars; spell = bytes; bad = nothing_bad })
@@ -129,10 +116,8 @@ module _ (text : List ℕ) (place line : ℕ) (lines : List LogicalLine) (read r
       let spell : spelled (k.base ++ u) ++ on.rest ≡ s.characters = ap (λ t. t ++ on.rest) all_spelled ∙ sym on.split in
       let ended : EndsForGood (k.base ++ u) (on.rest ++ s.tail) = (
         ends_line,
-        λ none.
-            let parts = none_both on.rest s.tail none in last_ends ∙ good (sym on.left ∙ ap (λ t. encode_utf8_all t ++ s.tail) parts.0 ∙ parts.1),
-      ) in
-      let bound = s.prefix.longest (k.base ++ u) on.rest spell all_reading ended in
+        λ none. let parts = none_both on.rest s.tail none in last_ends ∙ good (sym on.left ∙ ap (λ t. encode_utf8_all t ++ s.tail) parts.0 ∙ parts.1),
+      ) in let bound = s.prefix.longest (k.base ++ u) on.rest spell all_reading ended in
       let same : spelled s.pieces ≡ spelled k.base = encodes_same (spelled s.pieces) (spelled k.base) (sym (texts-lines s.pieces) ∙ ap texts (sym s.cut ∙ k.cut) ∙ texts-lines k.base) in
       let none : read ≡ [] = nil_from_length read (omega (arith, bound, ap length same, ap length all_spelled, length-append (spelled k.base) read)) in
       omega (arith, next.line.some, ap byte_len none)

@@ -52,8 +52,7 @@ module _ (Room : ℕ → Type 0) (F : ℕ → Host → List ℕ → Type 0) (beg
   one_found G from string text after rest unmarked is before room own opens none stops = same_openers from text _ after rest opens (either (own refl))
     where
       either : (with_fields (F (frames from))).IsString text → FieldFinds Room from text (piece string text ∷ []) from.openers rest
-      either (inl (inl (short, no_field))) =
-          string_found Room from text short.prefix short.quote _ rest short.spell short.begun no_field short.opens
+      either (inl (inl (short, no_field))) = string_found Room from text short.prefix short.quote _ rest short.spell short.begun no_field short.opens
           (short_ends text short.prefix short.quote short.items rest short.spell short.begun short.opens short.each (precede_without G string text rest before)) stops
       either (inl (inr (long, no_field))) =
           string_found Room from text long.prefix long.quote _ rest long.spell long.begun no_field long.opens (long_ends long.quote long.items rest long.opens long.each long.first) stops
@@ -122,8 +121,7 @@ module _ (Room : ℕ → Type 0) (outer : List Level) (done : List Piece) (opene
 
   -- the `{` and the first character of the code
   opens : (place : Place) (mode : FieldMode) (held : List ℕ) (c : ℕ) (cs : List ℕ) (t : FieldScanned) → field_move mode held 123 ≡ opening_move host place → Room depth → (place ≡ literal → (c == 123) ≡ false) → Goes Room (in_field place held) (c ∷ cs) t → Goes Room (field_state outer done openers mode held) (123 ∷ c ∷ cs) t
-  opens specification mode held c cs t move room single goes =
-      let s : FieldScanned = field_state outer done openers mode held in
+  opens specification mode held c cs t move room single goes = let s : FieldScanned = field_state outer done openers mode held in
       (in_field specification held, ap (field_moved s 123) move, subst (HasRoomFor Room (frames s) 123) (sym move) room, goes)
   opens literal mode held c cs t move room single (next, step, has_room, others) =
       let braced : FieldScanned = in_string literal after_brace (held ++ 123 ∷ []) in
@@ -151,16 +149,14 @@ module _ (Room : ℕ → Type 0) (outer : List Level) (done : List Piece) (opene
         let found = all_found Room F begin run G (in_field place held) inside [] (e ∷ []) is.fit is.unmarked (subst (λ n. ArePassed Room F n inside) (sym (deeper place held)) passed)
         (balanced_openers inside is.balanced []) (λ some. is.colon) (stops-fresh (spelled inside ++ e ∷ [])) in
         let level : Level = level_at place held in let s : FieldScanned = field_state (level ∷ outer) found.done [] found.mode found.held in
-        let last : Goes Room s (e ∷ []) (t (field_pieces s)) =
-        goes-begins Room s (t (field_pieces s)) (t (field_pieces s)) e [] found.stops
+        let last : Goes Room s (e ∷ []) (t (field_pieces s)) = goes-begins Room s (t (field_pieces s)) (t (field_pieces s)) e [] found.stops
         (ap (field_started (level ∷ outer) (field_pieces s) [] e) starts_as ∙ ends (field_pieces s)) (λ is_one. absurd (both_ways _ no_bracket is_one)) refl in
         goes-to Room (in_field place held) (t (field_pieces s)) (t inside) (spelled inside ++ e ∷ [])
         (goes-append Room (in_field place held) s (t (field_pieces s)) (spelled inside) (e ∷ []) found.goes last) (ap t found.pieces_are)
 
     pub specification_goes : (place : Place) (held : List ℕ) (inside : List Piece) (parts : List (List ℕ)) (rest : List ℕ) → is_quote host.quote ≡ true → AreInside (with_fields G) inside (58 ∷ []) → ArePassed Room F (depth + 1) inside → AreParts (F (depth + 1)) host specification false parts rest → has_triple host.quote parts ≡ false → SpecificationGoes place held inside parts rest
     specification_goes place held inside parts rest quotes is passed each open_yet =
-        let inner : List Level = level_at place held ∷ outer in let front : List ℕ = held ++ 123 ∷ [] in
-        let d = length {A = ℕ} [] + levels_open inner in
+        let inner : List Level = level_at place held ∷ outer in let front : List ℕ = held ++ 123 ∷ [] in let d = length {A = ℕ} [] + levels_open inner in
         let begun : List Piece → FieldScanned = λ ps. field_state inner [] [] (body host specification false between) (front ++ (spelled ps ++ 58 ∷ [])) in
         let parts_run = parts_go Room inner [] [] (F d) (begin d) (run inner [] []) host specification false between (front ++ (spelled inside ++ 58 ∷ [])) parts rest [] quotes
         (subst (λ n. AreParts (F n) host specification false parts rest) (sym (deeper place held)) each) (goes_on host specification false (joined parts ++ rest))

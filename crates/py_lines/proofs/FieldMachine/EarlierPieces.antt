@@ -5,7 +5,7 @@ use Rattle.py_lines.specs.Piece.{string, operator, line_end, Piece, spelled}
 use Rattle.py_lines.specs.FieldStrings.{Place, literal, specification}
 use Rattle.py_lines.specs.LogicalLine.{byte_len}
 use Rattle.py_lines.specs.Private.Machine.{Start, start_of}
-use Rattle.py_lines.specs.Private.FieldMachine.{between, FieldMode, plain, body, FieldMove, closes, breaks, begins_code, ends_field, Level, FieldScanned, field_state, field_fresh, field_class_of, field_closed, field_move, openers_with, after_operator, field_moved, field_started, field_operator, field_step, code_operator, opened_level, levels_open, frames, has_room, has_room_at, room_step, roomy, text_place, before}
+use Rattle.py_lines.specs.Private.FieldMachine.{between, FieldMode, plain, body, FieldMove, closes, breaks, begins_code, Level, FieldScanned, field_state, field_fresh, field_class_of, field_closed, field_move, openers_with, after_operator, field_moved, field_started, field_operator, field_step, code_operator, opened_level, levels_open, frames, has_room, has_room_at, room_step, roomy, text_place, before}
 use Rattle.py_lines.specs.Private.FieldFaults.{here, piece_start}
 use Rattle.py_lines.specs.Private.Scan.{Goes, ends_line, is_line_ending, is_return_at}
 use Rattle.py_lines.proofs.Pieces.PieceLists.{piece, spelled-append}
@@ -67,14 +67,12 @@ module _ (base : List Piece) where
   moved_after outer done os m held c breaks =
       ap (λ l. field_started (levels_after outer) l os c (start_of c)) (closed_after outer m done held) ∙ started_after outer (field_closed m done held) os c (start_of c)
   moved_after outer done os m held c (begins_code host) = started_after (opened_level (field_state outer done os m held) host literal held ∷ outer) [] [] c (start_of c)
-  moved_after [] done os m held c ends_field = refl
-  moved_after (l ∷ ls) done os m held c ends_field = refl
-  moved_after outer done os m held c v = refl
+  moved_after [] done os m held c v = refl
+  moved_after (l ∷ ls) done os m held c v = refl
 
   -- there is room for the same
   pub room_step_after : (t : FieldScanned) (c : ℕ) → room_step (state_after t) c ≡ state_after_if (room_step t c)
-  room_step_after t c =
-      ap (λ n. roomy (has_room_at n c (field_move t.mode t.held c)) (field_step (state_after t) c)) (frames_same t)
+  room_step_after t c = ap (λ n. roomy (has_room_at n c (field_move t.mode t.held c)) (field_step (state_after t) c)) (frames_same t)
       ∙ ap (roomy (has_room t c)) (moved_after t.outer t.done t.openers t.mode t.held c (field_move t.mode t.held c)) ∙ either (has_room t c)
     where
       either : (b : Bool) → roomy b (state_after_if (field_step t c)) ≡ state_after_if (roomy b (field_step t c))
@@ -110,8 +108,7 @@ module _ (base : List Piece) where
   here_after t = ap byte_len (text_after (text_place t.mode) t.outer t.done t.held) ∙ byte_len-append (spelled base) _
 
   pub start_after : (t : FieldScanned) → piece_start (state_after t) ≡ byte_len (spelled base) + piece_start t
-  start_after t =
-      ap (λ x. byte_len (before (text_place t.mode) (levels_after t.outer) ++ x)) (sym (append-nil (spelled (list_after t.outer t.done))))
+  start_after t = ap (λ x. byte_len (before (text_place t.mode) (levels_after t.outer) ++ x)) (sym (append-nil (spelled (list_after t.outer t.done))))
       ∙ ap byte_len (text_after (text_place t.mode) t.outer t.done [])
       ∙ byte_len-append (spelled base) (before (text_place t.mode) t.outer ++ (spelled t.done ++ []))
       ∙ ap (λ x. byte_len (spelled base) + byte_len (before (text_place t.mode) t.outer ++ x)) (append-nil (spelled t.done))
@@ -131,8 +128,6 @@ module _ (base : List Piece) where
   open_alike (l ∷ ls) m = open_alike ls (body l.host l.place false between)
 
   pub outer_pieces_after : (t : FieldScanned) → outer_pieces (state_after t) ≡ base ++ outer_pieces t
-  outer_pieces_after t =
-      ap (λ m. field_closed m (outer_done (state_after t)) (outer_held (state_after t))) (open_alike t.outer t.mode)
+  outer_pieces_after t = ap (λ m. field_closed m (outer_done (state_after t)) (outer_held (state_after t))) (open_alike t.outer t.mode)
       ∙ ap (λ x. field_closed (outer_mode t) (outer_done (state_after t)) x) (text_alike (text_place t.mode) t.outer t.done t.held)
-      ∙ ap (λ l. field_closed (outer_mode t) l (outer_held t)) (list_alike t.outer t.done)
-      ∙ closed_after [] (outer_mode t) (outer_done t) (outer_held t)
+      ∙ ap (λ l. field_closed (outer_mode t) l (outer_held t)) (list_alike t.outer t.done) ∙ closed_after [] (outer_mode t) (outer_done t) (outer_held t)

@@ -51,19 +51,16 @@ pieces_run outer depth pieces rest deep begun may = go outer deep
     many = depth_of pieces [] open_after.0 0 open_after.1 ∙ add-zero (length open_after.0)
 
     go : (ls : List Level) → levels_open ls ≡ depth → PiecesRun ls pieces rest
-    go [] is =
-        let found = fields_reached pieces open_after.0 rest begun.fit open_after.1 may in
+    go [] is = let found = fields_reached pieces open_after.0 rest begun.fit open_after.1 may in
         record { done = found.done; after = open_after.0; mode = found.mode; held = found.held; goes = found.goes; pieces_are = found.pieces_are; stops = found.stops; opens = open_after.1; deep = many }
-    go (l ∷ ls) is =
-        let inside = begun.inside (omega (arith, is)) in
+    go (l ∷ ls) is = let inside = begun.inside (omega (arith, is)) in
         let found = fields_found (field_fresh (l ∷ ls) [] []) pieces open_after.0 rest begun.fit inside.0 open_after.1 (λ some. inside.1) (stops-fresh (spelled pieces ++ rest)) in
         record { done = found.done; after = open_after.0; mode = found.mode; held = found.held; goes = found.goes; pieces_are = found.pieces_are; stops = found.stops; opens = open_after.1; deep = many }
 
 -- directly after the `{` of a field, where the text ends
 abbrev pub IsBraced : List Level → FieldScanned → Type 0
 IsBraced [] t = t ≡ field_text_start
-IsBraced (l ∷ ls) t =
-    ((l.place ≡ literal) × (t ≡ field_state ls l.done l.openers (body l.host literal false after_brace) l.front))
+IsBraced (l ∷ ls) t = ((l.place ≡ literal) × (t ≡ field_state ls l.done l.openers (body l.host literal false after_brace) l.front))
     ⊎ ((l.place ≡ specification) × (t ≡ field_fresh (l ∷ ls) [] []))
 
 -- two texts that begin with the same character
@@ -134,13 +131,8 @@ braces outer done openers host specification mode held move =
     (t, (t, ap (field_moved s 123) move, subst (HasRoomFor NoLimit (frames s) 123) (sym move) tt, refl), inr (refl, refl))
 
 pub list_runs : (outside rest : List ℕ) (depth : ℕ) → BeginsList outside rest depth → ListRun outside rest depth
-list_runs outside rest depth (at_start _ _ _ none zero) = record {
-  outer = [];
-  deep = sym zero;
-  start_is = sym none;
-  goes = λ t text alike_so goes. rw none goes;
-  begins_at = (field_text_start, rw none refl, refl);
-}
+list_runs outside rest depth (at_start _ _ _ none zero) =
+    record { outer = []; deep = sym zero; start_is = sym none; goes = λ t text alike_so goes. rw none goes; begins_at = (field_text_start, rw none refl, refl) }
 list_runs all rest depth (in_field _ _ _ outside base pieces front host spot spell list begun string may deep) =
     let later : List ℕ = front ++ 123 ∷ rest in
     let pieces_at = after_pieces outside base pieces later (list_runs outside (spelled pieces ++ later) base list) begun (string_begins pieces later (open_unmarked host spot front (123 ∷ rest) (123 ∷ rest) string)) in

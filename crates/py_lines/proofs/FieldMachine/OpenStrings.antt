@@ -18,8 +18,7 @@ use Rattle.py_lines.proofs.FieldMachine.StringRuns.{opened_moves, IsInLiteral, i
 use Rattle.py_lines.proofs.FieldMachine.CodeRuns.{opens_text, specification_goes}
 use Rattle.py_lines.proofs.FieldMachine.Completeness.{fields_run, passed_any}
 
--- The mode of a string that is open up to a spot, before the rest: in its body; or after its first quote, if it is short and
--- holds nothing yet.
+-- The mode of a string that is open up to a spot, before the rest: in its body; or after its first quote, if it is short and holds nothing yet.
 pub data IsInString (host : Host) (place : Place) (named : Bool) (mode : FieldMode) (rest : List ℕ) : Type 0 where
   in_part : (at : At) → mode ≡ body host place named at → MayGoOn host place named at rest → IsInString host place named mode rest
   at_first : mode ≡ opened host → place ≡ literal → named ≡ false → host.is_long ≡ false → IsInString host place named mode rest
@@ -55,8 +54,7 @@ string_moves host place named mode held c rest (at_first is place_is unnamed sho
 pub brace_opens : (host : Host) (place : Place) (mode : FieldMode) (held rest : List ℕ) → IsInString host place false mode (123 ∷ rest) → is_quote host.quote ≡ true → field_move mode held 123 ≡ opening_move host place
 unfolding is_quote
 brace_opens host place mode held rest stands quotes =
-    let move = string_moves host place false mode held 123 rest stands (not_quote 123 host.quote quotes refl) in
-    move.1 ∙ open_moves host place move.0 quotes
+    let move = string_moves host place false mode held 123 rest stands (not_quote 123 host.quote quotes refl) in move.1 ∙ open_moves host place move.0 quotes
 
 -- in a specification, the field whose specification it is opened after this text of the string
 abbrev pub HasOpened : Place → List Level → List ℕ → Type 0
@@ -104,8 +102,7 @@ string_runs from host spot front rest (in_specification _ round _ _ opening insi
     let quotes = open_quotes host round opening later string in
     let outer : List Level = record { done = inner.done; openers = inner.openers; host = host; place = round.place; front = opening ++ 123 ∷ [] } ∷ inner.outer in
     let run = specification_goes NoLimit inner.outer inner.done inner.openers host (λ d. Fields) (λ d. fields_begin) fields_run Fields round.place opening inside parts rest quotes are_inside
-    (passed_any Fields _ inside (58 ∷ []) are_inside.fit) each open_yet in
-    let mode : FieldMode = body host specification (named_through false parts) run.to in
+    (passed_any Fields _ inside (58 ∷ []) are_inside.fit) each open_yet in let mode : FieldMode = body host specification (named_through false parts) run.to in
     let last : FieldScanned = field_state outer [] [] mode (opening ++ (123 ∷ code)) in let full = some_head (spelled inside) 58 (joined parts) in
     let stands = subst (λ n. IsInString host round.place n inner.mode later) may.unnamed inner.stands in
     let single : round.place ≡ literal → begins_open code ≡ false = λ at. begins_same (λ c. c == 123) (spelled inside) 58 (joined parts) [] ∙ may.single at in

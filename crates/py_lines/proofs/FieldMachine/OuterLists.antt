@@ -3,10 +3,10 @@
 use Rattle.std.proofs.Common.{◌≡◌, ℕ, false, Option, None, Some, List, [], ◌∷◌, ◌++◌, refl, sym, ap, ◌∙◌, subst, append_assoc, append-nil, arith}
 use Rattle.py_lines.specs.Piece.{string, operator, line_end, Piece, spelled}
 use Rattle.py_lines.specs.FieldStrings.{Place, literal, specification}
-use Rattle.py_lines.specs.Private.Machine.{Start, start_of}
+use Rattle.py_lines.specs.Private.Machine.{Start, start_of, closed}
 use Rattle.py_lines.specs.Private.FieldMachine.{between, FieldMode, plain, body, FieldMove, closes, breaks, begins_code, Level, FieldScanned, field_state, field_fresh, field_class_of, field_closed, field_pieces, field_move, field_moved, field_started, field_operator, field_step, field_steps_from, after_operator, openers_with, code_operator, opened_level, text_place, before}
 use Rattle.py_lines.proofs.Pieces.PieceLists.{piece}
-use Rattle.py_lines.proofs.Machine.EarlierPieces.{closed_grows}
+use Rattle.py_lines.proofs.Machine.EarlierPieces.{closed-after}
 use Rattle.py_lines.proofs.Machine.PieceSteps.{some_is}
 use Rattle.py_lines.proofs.FieldSoundness.Holds.{Limit, IsFieldSound}
 use Rattle.py_lines.proofs.FieldSoundness.LiveTexts.{steps_before}
@@ -52,8 +52,7 @@ outer_alone t none = go t.outer none
 -- together they spell what was read
 text_parts : (place : Place) (outer : List Level) (done : List Piece) (held : List ℕ) → before place outer ++ (spelled done ++ held) ≡ spelled (outer_list outer done) ++ outer_text place outer done held
 text_parts place [] done held = refl
-text_parts literal (l ∷ ls) done held =
-    append_assoc (before l.place ls) (spelled l.done ++ l.front) (spelled done ++ held)
+text_parts literal (l ∷ ls) done held = append_assoc (before l.place ls) (spelled l.done ++ l.front) (spelled done ++ held)
     ∙ ap (λ x. before l.place ls ++ x) (append_assoc (spelled l.done) l.front (spelled done ++ held))
     ∙ text_parts l.place ls l.done (l.front ++ (spelled done ++ held))
 text_parts specification (l ∷ ls) done held = append_assoc (before l.place ls) (spelled l.done) (spelled done ++ held) ∙ text_parts l.place ls l.done (spelled done ++ held)
@@ -66,8 +65,7 @@ pub data OuterStep (t : FieldScanned) (c : ℕ) (u : FieldScanned) : Type 0 wher
   outer_stays : outer_done u ≡ outer_done t → OuterStep t c u
   outer_closes : t.outer ≡ [] → field_move t.mode t.held c ≡ closes
       → u ≡ field_fresh [] (t.done ++ record { class = field_class_of t.mode; text = t.held ++ c ∷ [] } ∷ []) t.openers → OuterStep t c u
-  outer_breaks : t.outer ≡ [] → field_move t.mode t.held c ≡ breaks → field_started [] (field_pieces t) t.openers c (start_of c) ≡ Some u
-      → OuterStep t c u
+  outer_breaks : t.outer ≡ [] → field_move t.mode t.held c ≡ breaks → field_started [] (field_pieces t) t.openers c (start_of c) ≡ Some u → OuterStep t c u
 
 -- a character in a field leaves the outermost list as it is
 abbrev KeepsList : List Piece → Option FieldScanned → Type 0
@@ -99,14 +97,12 @@ moved_keeps (l ∷ ls) done os m held c breaks inside = started_keeps l ls (fiel
 moved_keeps (l ∷ ls) done os m held c (begins_code host) inside = started_keeps (opened_level (field_state (l ∷ ls) done os m held) host literal held) (l ∷ ls) [] [] c (start_of c)
 moved_keeps outer done os m held c v inside = grind arith
 
-stays_by : (t u : FieldScanned) (c : ℕ) → field_step t c ≡ Some u → IsInField t.outer (field_move t.mode t.held c) → outer_done u ≡ outer_done t
-stays_by t u c step inside = subst (KeepsList (outer_done t)) step (moved_keeps t.outer t.done t.openers t.mode t.held c (field_move t.mode t.held c) inside)
-
 pub outer_steps : (t : FieldScanned) (c : ℕ) (u : FieldScanned) → field_step t c ≡ Some u → OuterStep t c u
 outer_steps t c u step = go t.outer (field_move t.mode t.held c) refl refl
   where
     stays : (outer : List Level) (v : FieldMove) → t.outer ≡ outer → field_move t.mode t.held c ≡ v → IsInField outer v → OuterStep t c u
-    stays outer v is move inside = outer_stays (stays_by t u c step (rw (is, move) inside))
+    stays outer v is move inside =
+        outer_stays (subst (KeepsList (outer_done t)) step (moved_keeps t.outer t.done t.openers t.mode t.held c (field_move t.mode t.held c) (rw (is, move) inside)))
 
     go : (outer : List Level) (v : FieldMove) → t.outer ≡ outer → field_move t.mode t.held c ≡ v → OuterStep t c u
     go [] closes is move = outer_closes is move (rw is at (sym (some_is _ u (sym (ap (field_moved t c) move) ∙ step))))
@@ -133,7 +129,7 @@ started_outer done openers c x u is = subst (StartedIf done) is (go x)
 
 -- the finished pieces stay, and others may come after them
 pub closed_on : (m : FieldMode) (done : List Piece) (held : List ℕ) → (ps : List Piece) × (field_closed m done held ≡ done ++ ps)
-closed_on (plain m) done held = closed_grows m done held
+closed_on (plain m) done held = (closed m [] held, ap (λ l. closed m l held) (sym (append-nil done)) ∙ closed-after done [] m held)
 closed_on m done held = (piece string held ∷ [], refl)
 
 pub outer_grows : (t : FieldScanned) (c : ℕ) (u : FieldScanned) → field_step t c ≡ Some u → (ps : List Piece) × (outer_done u ≡ outer_done t ++ ps)
@@ -141,11 +137,9 @@ outer_grows t c u step = go (outer_steps t c u step)
   where
     go : OuterStep t c u → (ps : List Piece) × (outer_done u ≡ outer_done t ++ ps)
     go (outer_stays same) = ([], same ∙ sym (append-nil (outer_done t)))
-    go (outer_closes none move is) =
-        let last : Piece = piece (field_class_of t.mode) (t.held ++ c ∷ []) in
+    go (outer_closes none move is) = let last : Piece = piece (field_class_of t.mode) (t.held ++ c ∷ []) in
         (last ∷ [], ap outer_done is ∙ ap (λ l. l ++ last ∷ []) (sym (outer_alone t none).0))
-    go (outer_breaks none move is) =
-        let (outside, (ps, more)) = started_outer (field_pieces t) t.openers c (start_of c) u is in
+    go (outer_breaks none move is) = let (outside, (ps, more)) = started_outer (field_pieces t) t.openers c (start_of c) u is in
         let (qs, closed_so) = closed_on t.mode t.done t.held in
         (qs ++ ps, (outer_alone u outside).0 ∙ more ∙ ap (λ l. l ++ ps) closed_so ∙ append_assoc t.done qs ps ∙ ap (λ l. l ++ (qs ++ ps)) (sym (outer_alone t none).0))
 

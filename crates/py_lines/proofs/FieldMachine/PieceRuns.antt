@@ -12,8 +12,9 @@ use Rattle.py_lines.specs.Private.FieldMachine.{FieldMode, plain, grows, Level, 
 use Rattle.py_lines.proofs.Pieces.PieceLists.{piece}
 use Rattle.py_lines.proofs.Text.CharacterTests.{prefix_word}
 pub use Rattle.py_lines.proofs.Machine.Starts.{opening_operator}
-use Rattle.py_lines.proofs.Machine.Starts.{start-word, start-operator, start-feed, start-quote}
-use Rattle.py_lines.proofs.Machine.PieceSteps.{StopsBefore, EndsWith, ends_before, ends_at, grown-word, IsQuiet, IsRead, at_once, opened, IsPlainClass, is_read, feed-is-one}
+use Rattle.py_lines.proofs.Machine.Starts.{start-word, start-operator, start-quote}
+use Rattle.py_lines.proofs.Machine.LiveTexts.{feed-starts}
+use Rattle.py_lines.proofs.Machine.PieceSteps.{StopsBefore, EndsWith, ends_before, ends_at, grown-word, IsQuiet, IsRead, at_once, opened, IsPlainClass, is_read}
 use Rattle.py_lines.proofs.Machine.Spellings.{prefix_spelling}
 use Rattle.py_lines.proofs.Machine.StringSteps.{opens_at}
 use Rattle.py_lines.proofs.Fields.Prefixes.{word_quotes}
@@ -21,8 +22,7 @@ use Rattle.py_lines.proofs.Fields.Elsewhere.{precede_without, either_prefix}
 use Rattle.py_lines.proofs.FieldMachine.Runs.{Goes, StopsAt, goes-append, goes-grown, goes-to, goes-grows, goes-closes, goes-begins, stops-fresh}
 use Rattle.py_lines.proofs.FieldMachine.PlainSteps.{no_host, plain_moves, grown-alike, grown-quiet, front_quiet}
 
--- the machine goes from a state through a text, finds these pieces after those it had, with these brackets open after them, and
--- may stop before the rest
+-- the machine goes from a state through a text, finds these pieces after those it had, with these brackets open after them, and may stop before the rest
 pub record FieldFinds (Room : ℕ → Type 0) (from : FieldScanned) (text : List ℕ) (pieces : List Piece) (after rest : List ℕ) : Type 0 where
   pub done : List Piece
   pub mode : FieldMode
@@ -105,7 +105,7 @@ module _ (Room : ℕ → Type 0) where
           subst (λ p. FieldFinds Room from p.text (p ∷ []) from.openers rest) (ap (λ k. piece k (10 ∷ [])) (sym so) ∙ ap (piece class) (sym feed))
           (fresh_found from line_end (10 ∷ []) from.openers rest
           (goes-begins Room from _ _ 10 [] (subst (λ t. StopsAt from.mode from.held (t ++ rest)) feed stops)
-          (ap (field_started from.outer (field_pieces from) from.openers 10) (start-feed 10 feed-is-one)) (λ opens. absurd (cc)) refl))
+          (ap (field_started from.outer (field_pieces from) from.openers 10) feed-starts) (λ opens. absurd (cc)) refl))
       go (opened c cs m spell starts_as quiet ends) =
           ends_found from class text (c ∷ []) cs rest m spell (goes-opens from c (cs ++ rest) m (subst (λ t. StopsAt from.mode from.held (t ++ rest)) spell stops) starts_as) quiet ends (ends_no_prefix F class text rest before)
 
@@ -135,7 +135,6 @@ module _ (Room : ℕ → Type 0) where
 
   -- an operator in its list
   pub operator_found : (from : FieldScanned) (c : ℕ) (after rest : List ℕ) → is_operator c ≡ true → openers_with from.openers c ≡ Some after → IsNoColon from.outer from.openers c → (is_opening c ≡ true → Room (frames from)) → StopsAt from.mode from.held (c ∷ rest) → FieldFinds Room from (c ∷ []) (piece operator (c ∷ []) ∷ []) after rest
-  operator_found from c after rest passes opens none room stops =
-      fresh_found from operator (c ∷ []) after rest
+  operator_found from c after rest passes opens none room stops = fresh_found from operator (c ∷ []) after rest
       (goes-begins Room from (field_fresh from.outer (field_pieces from ++ piece operator (c ∷ []) ∷ []) after) _ c [] stops
       (ap (field_started from.outer (field_pieces from) from.openers c) (start-operator c passes) ∙ operator_stays from.outer (field_pieces from) from.openers after c opens none) room refl)

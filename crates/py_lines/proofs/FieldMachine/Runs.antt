@@ -27,8 +27,7 @@ HasRoomFor Room depth c other = Unit {0}
 -- the machine goes from one state through a text to another, and what its characters open may open there
 abbrev pub Goes : (ℕ → Type 0) → FieldScanned → List ℕ → FieldScanned → Type 0
 Goes Room s [] t = s ≡ t
-Goes Room s (c ∷ cs) t =
-    (next : FieldScanned) × (field_step s c ≡ Some next) × HasRoomFor Room (frames s) c (field_move s.mode s.held c) × Goes Room next cs t
+Goes Room s (c ∷ cs) t = (next : FieldScanned) × (field_step s c ≡ Some next) × HasRoomFor Room (frames s) c (field_move s.mode s.held c) × Goes Room next cs t
 
 -- the open piece may end before this text
 abbrev pub StopsAt : FieldMode → List ℕ → List ℕ → Type 0
@@ -62,12 +61,8 @@ room_of s t (c ∷ cs) (next, step, room, others) =
 
 -- one more character in the open piece
 pub goes-grows : (Room : ℕ → Type 0) (s t : FieldScanned) (m : FieldMode) (c : ℕ) (cs : List ℕ) → field_move s.mode s.held c ≡ grows m → Goes Room (field_state s.outer s.done s.openers m (s.held ++ c ∷ [])) cs t → Goes Room s (c ∷ cs) t
-goes-grows Room s t m c cs move others = (
-  field_state s.outer s.done s.openers m (s.held ++ c ∷ []),
-  ap (field_moved s c) move,
-  subst (HasRoomFor Room (frames s) c) (sym move) tt,
-  others,
-)
+goes-grows Room s t m c cs move others =
+    (field_state s.outer s.done s.openers m (s.held ++ c ∷ []), ap (field_moved s c) move, subst (HasRoomFor Room (frames s) c) (sym move) tt, others)
 
 -- the open piece grows by each character of a text, whatever its text before
 abbrev pub GrowsTo : FieldMode → List ℕ → FieldMode → Type 0

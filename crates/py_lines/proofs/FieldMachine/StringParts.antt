@@ -96,10 +96,6 @@ pub quote_no_end : (q : ℕ) → is_quote q ≡ true → eqb q 125 ≡ false
 unfolding is_quote
 quote_no_end q quotes = none_of (λ d. eqb d 125) (39 ∷ 34 ∷ []) q refl quotes
 
--- a quote ends no name
-quote_unnamed : (named : Bool) (q : ℕ) → is_quote q ≡ true → named_after named (q ∷ []) ≡ named
-quote_unnamed named q quotes = ap (λ b. named && not b) (quote_no_end q quotes) ∙ and-true named
-
 pub field_unnamed : (rest : List ℕ) → named_after false (123 ∷ rest) ≡ false
 unfolding is_backslash
 field_unnamed (c ∷ d ∷ []) = refl
@@ -129,15 +125,13 @@ module _ (host : Host) (place : Place) (named : Bool) (at : At) (rest : List ℕ
   bare_passes c no_slash stands itself = go (eqb c host.quote) refl
     where
       own_quote : may_stand host host.quote ≡ true → Passes host place named at rest tail (host.quote ∷ [])
-      own_quote may here open_yet =
-          let seen = quote_seen host.quote at tail open_yet in
-          subst (λ n. PartGrows host place named n at (host.quote ∷ []) rest tail) (sym (quote_unnamed named host.quote quotes))
+      own_quote may here open_yet = let seen = quote_seen host.quote at tail open_yet in
+          subst (λ n. PartGrows host place named n at (host.quote ∷ []) rest tail) (sym (ap (λ b. named && not b) (quote_no_end host.quote quotes) ∙ and-true named))
           (one_grows named (with_quote (settled at)) host.quote here (quote_grows host place named (settled at) (grind (arith, eq-eqb host.quote host.quote refl)) seen.0) (goes_on-quotes host place named (settled at) rest) seen.1)
 
       go : (b : Bool) → eqb c host.quote ≡ b → Passes host place named at rest tail (c ∷ [])
       go true same = subst (λ x. may_stand host x ≡ true → Passes host place named at rest tail (x ∷ [])) (sym (eqb-true c host.quote same)) own_quote stands
-      go false other = λ here open_yet.
-          one_grows _ between c here (itself_grows host place named (settled at) c other no_slash (grind arith) itself)
+      go false other = λ here open_yet. one_grows _ between c here (itself_grows host place named (settled at) c other no_slash (grind arith) itself)
           (goes_on host place _ rest) (later_triple host.quote (quotes_seen host.quote at) (c ∷ []) tail open_yet)
 
   -- a backslash, and what the string's text grows by after it
@@ -170,24 +164,20 @@ module _ (host : Host) (place : Place) (named : Bool) (at : At) (rest : List ℕ
   -- a backslash, CR and LF
   end_passes : (s r f : ℕ) → is_backslash s ≡ true → is_return r ≡ true → is_line_feed f ≡ true → may_be_escaped host place r ≡ true → Passes host place named at rest tail (s ∷ r ∷ f ∷ [])
   unfolding field_move body_move escape_move is_return
-  end_passes s r f slashes returns feeds may =
-      passes_to (s ∷ r ∷ f ∷ []) between refl tt (λ here.
-      slash_then (r ∷ f ∷ []) s _ slashes here (
-        body host place named after_return,
-        λ held. grind (arith, return-not-brace r returns),
-        (body host place named between, λ held. rw feeds, grind (arith, nat_tests)),
-      ))
+  end_passes s r f slashes returns feeds may = passes_to (s ∷ r ∷ f ∷ []) between refl tt (λ here. slash_then (r ∷ f ∷ []) s _ slashes here (
+    body host place named after_return,
+    λ held. grind (arith, return-not-brace r returns),
+    (body host place named between, λ held. rw feeds, grind (arith, nat_tests)),
+  ))
 
   -- `\N{`
   name_passes : (s c : ℕ) → is_backslash s ≡ true → names host c ≡ true → Passes host place named at rest tail (s ∷ c ∷ 123 ∷ [])
   unfolding field_move body_move escape_move is_break is_brace is_return
-  name_passes s c slashes is_name =
-      passes_to (s ∷ c ∷ 123 ∷ []) between refl tt (λ here.
-      slash_then (c ∷ 123 ∷ []) s _ slashes here (
-        body host place named after_name,
-        λ held. grind (arith, names_is host c is_name),
-        (body host place true between, λ held. refl, grind (arith, names_is host c is_name)),
-      ))
+  name_passes s c slashes is_name = passes_to (s ∷ c ∷ 123 ∷ []) between refl tt (λ here. slash_then (c ∷ 123 ∷ []) s _ slashes here (
+    body host place named after_name,
+    λ held. grind (arith, names_is host c is_name),
+    (body host place true between, λ held. refl, grind (arith, names_is host c is_name)),
+  ))
 
 -- `{{`
 double_passes : (host : Host) (at : At) (rest : List ℕ) (tail : List (List ℕ)) → is_quote host.quote ≡ true → Passes host literal false at rest tail (123 ∷ 123 ∷ [])
@@ -206,8 +196,7 @@ module _ (Room : ℕ → Type 0) (outer : List Level) (done : List Piece) (opene
   abbrev pub FieldsGo : (Host → List ℕ → Type 0) → Type 0
   FieldsGo F =
       (host : Host) (place : Place) (at : At) (held text : List ℕ) → F host text → is_quote host.quote ≡ true → (place ≡ literal → begins_double text ≡ false)
-      → MayGoOn host place false at text
-      → Goes Room (within (body host place false at) held) text (within (body host place false between) (held ++ text))
+      → MayGoOn host place false at text → Goes Room (within (body host place false at) held) text (within (body host place false between) (held ++ text))
 
   -- it goes through a part, and other parts or the string's end may follow
   pub record PartGoes (host : Host) (place : Place) (named after : Bool) (at : At) (held part rest : List ℕ) (tail : List (List ℕ)) : Type 0 where
@@ -218,22 +207,20 @@ module _ (Room : ℕ → Type 0) (outer : List Level) (done : List Piece) (opene
 
   -- a field
   field_goes : (F : Host → List ℕ → Type 0) → BeginOpen F → FieldsGo F → (host : Host) (place : Place) (at : At) (held part rest : List ℕ) (tail : List (List ℕ)) → is_quote host.quote ≡ true → F host part → (place ≡ literal → begins_double part ≡ false) → MayGoOn host place false at (part ++ rest) → has_triple host.quote (quotes_seen host.quote at ++ part ∷ tail) ≡ false → PartGoes host place false (named_after false part) at held part rest tail
-  field_goes F begin go host place at held part rest tail quotes is single here open_yet =
-      let head = begin host part is in record {
-        to = between;
-        goes = goes-to Room _ _ _ part (go host place at held part is quotes single (rw head.2 (rw head.2 at here)))
-            (ap (λ n. within (body host place n between) (held ++ part)) (sym (subst (λ t. named_after false t ≡ false) (sym head.2) (field_unnamed (head.0 ∷ head.1)))));
-        on = goes_on host place _ rest;
-        open_yet = later_triple host.quote (quotes_seen host.quote at) part tail open_yet;
-      }
+  field_goes F begin go host place at held part rest tail quotes is single here open_yet = let head = begin host part is in record {
+    to = between;
+    goes = goes-to Room _ _ _ part (go host place at held part is quotes single (rw head.2 (rw head.2 at here)))
+        (ap (λ n. within (body host place n between) (held ++ part)) (sym (subst (λ t. named_after false t ≡ false) (sym head.2) (field_unnamed (head.0 ∷ head.1)))));
+    on = goes_on host place _ rest;
+    open_yet = later_triple host.quote (quotes_seen host.quote at) part tail open_yet;
+  }
 
   -- a part
   part_goes : (F : Host → List ℕ → Type 0) → BeginOpen F → FieldsGo F → (host : Host) (place : Place) (named : Bool) (at : At) (held part rest : List ℕ) (tail : List (List ℕ)) → is_quote host.quote ≡ true → MayGoOn host place named at (part ++ rest) → has_triple host.quote (quotes_seen host.quote at ++ part ∷ tail) ≡ false → IsPart F host place named part rest → PartGoes host place named (named_after named part) at held part rest tail
   part_goes F begin go host place named at held part rest tail quotes here open_yet is_part = by is_part
     where
       grown : (text : List ℕ) → part ≡ text → Passes host place named at rest tail text → PartGoes host place named (named_after named part) at held part rest tail
-      grown text is passes =
-          let own = subst (Passes host place named at rest tail) (sym is) passes here open_yet in
+      grown text is passes = let own = subst (Passes host place named at rest tail) (sym is) passes here open_yet in
           record { to = own.to; goes = goes-grown Room outer done openers _ _ held part own.grown; on = own.on; open_yet = own.open_yet }
 
       by : IsPart F host place named part rest → PartGoes host place named (named_after named part) at held part rest tail
@@ -242,8 +229,7 @@ module _ (Room : ℕ → Type 0) (outer : List Level) (done : List Piece) (opene
       by (escape s c is slashes brace may none ended) = grown (s ∷ c ∷ []) is (escape_passes host place named at rest tail quotes s c slashes brace may none ended)
       by (escaped_end s r f is slashes returns feeds may) = grown (s ∷ r ∷ f ∷ []) is (end_passes host place named at rest tail quotes s r f slashes returns feeds may)
       by (name s c b is slashes is_name braces) = grown (s ∷ c ∷ 123 ∷ []) (is ∙ ap (λ x. s ∷ c ∷ x ∷ []) braces) (name_passes host place named at rest tail quotes s c slashes is_name)
-      by (double b c is one two at_literal unnamed) =
-          let P : Place → Bool → Type 0 = λ p n. Passes host p n at rest tail (123 ∷ 123 ∷ []) in
+      by (double b c is one two at_literal unnamed) = let P : Place → Bool → Type 0 = λ p n. Passes host p n at rest tail (123 ∷ 123 ∷ []) in
           grown (123 ∷ 123 ∷ []) (is ∙ ap (λ x. x ∷ c ∷ []) one ∙ ap (λ x. 123 ∷ x ∷ []) two) (subst (λ p. P p named) (sym at_literal) (subst (P literal) (sym unnamed) (double_passes host at rest tail quotes)))
       by (field is single unnamed) =
           let P : Bool → Type 0 = λ n. MayGoOn host place n at (part ++ rest) → PartGoes host place n (named_after n part) at held part rest tail in
@@ -254,8 +240,7 @@ module _ (Room : ℕ → Type 0) (outer : List Level) (done : List Piece) (opene
   parts_go F begin go host place named at held [] rest tail quotes each here yet = record { to = at; goes = ap (within (body host place named at)) (sym (append-nil held)); on = here; open_yet = yet }
   parts_go F begin go host place named at held (p ∷ ps) rest tail quotes each here yet =
       let first = part_goes F begin go host place named at held p (joined ps ++ rest) (ps ++ tail) quotes (subst (MayGoOn host place named at) (append_assoc p (joined ps) rest) here) yet each.0 in
-      let others = parts_go F begin go host place (named_after named p) first.to (held ++ p) ps rest tail quotes each.1 first.on first.open_yet in
-      record {
+      let others = parts_go F begin go host place (named_after named p) first.to (held ++ p) ps rest tail quotes each.1 first.on first.open_yet in record {
         to = others.to;
         goes = goes-to Room _ _ _ (p ++ joined ps) (goes-append Room _ _ _ p (joined ps) first.goes others.goes) (ap (within (body host place _ others.to)) (append_assoc held p (joined ps)));
         on = others.on;

@@ -73,8 +73,7 @@ module _ (Room : ℕ → Type 0) (from : FieldScanned) where
   pub prefix_goes : (prefix : List ℕ) (q : ℕ) (after : List ℕ) → is_field_prefix prefix ≡ true → is_quote q ≡ true → StopsAt from.mode from.held (prefix ++ q ∷ after) → Goes Room from (prefix ++ q ∷ []) (inside (opened (host_of prefix q)) (prefix ++ q ∷ []))
   unfolding field_move
   prefix_goes [] q after is quotes stops = absurd (both_ways _ refl is)
-  prefix_goes (a ∷ bs) q after is quotes stops =
-      let letters = field_letters (a ∷ bs) is in let same : letters.first ≡ a = cc letters.is in
+  prefix_goes (a ∷ bs) q after is quotes stops = let letters = field_letters (a ∷ bs) is in let same : letters.first ≡ a = cc letters.is in
       let word_at : FieldScanned = inside (plain (Mode.Word (spelling_on (first_spelling a) bs))) (a ∷ bs) in
       let string_at : FieldScanned = inside (opened (host_of (a ∷ bs) q)) ((a ∷ bs) ++ q ∷ []) in
       goes-append Room from word_at string_at (a ∷ bs) (q ∷ [])
@@ -123,8 +122,7 @@ module _ (Room : ℕ → Type 0) (from : FieldScanned) where
         let body_at : FieldScanned = inside (body host literal false between) held in let last : FieldScanned = inside mode (held ++ joined parts) in
         let quotes_go : Goes Room opened_at (q ∷ q ∷ []) body_at =
         goes-grown Room from.outer (field_pieces from) from.openers (opened (host_of prefix q)) (body host literal false between) begun (q ∷ q ∷ [])
-        (empty (host_of prefix q), second_quote (host_of prefix q), (body host literal false between, λ h. rw (eq-eqb q q refl), refl)) in
-        record {
+        (empty (host_of prefix q), second_quote (host_of prefix q), (body host literal false between, λ h. rw (eq-eqb q q refl), refl)) in record {
           mode = mode;
           goes = begun_goes prefix q after (q ∷ q ∷ joined parts) mode is quotes stops
               (goes-to Room opened_at last _ (q ∷ q ∷ joined parts) (goes-append Room opened_at body_at last (q ∷ q ∷ []) (joined parts) quotes_go run.goes) (ap (inside mode) (append_assoc begun (q ∷ q ∷ []) (joined parts))));
@@ -149,8 +147,7 @@ module _ (Room : ℕ → Type 0) (from : FieldScanned) where
 
     -- the last three quotes of a long string
     long_closes : (host : Host) (named : Bool) (at : At) (held : List ℕ) → host.is_long ≡ true → MayGoOn host literal named at (host.quote ∷ []) → settled at ≡ between → Goes Room (inside (body host literal named at) held) (host.quote ∷ host.quote ∷ host.quote ∷ []) (closed_at ((held ++ host.quote ∷ host.quote ∷ []) ++ host.quote ∷ []))
-    long_closes host named at held long on none =
-        let q = host.quote in let two : FieldMode = body host literal named after_two in
+    long_closes host named at held long on none = let q = host.quote in let two : FieldMode = body host literal named after_two in
         let first : (h : List ℕ) → field_move (body host literal named at) h q ≡ grows (body host literal named after_one) =
         λ h. body_moves host literal named at h q [] on ∙ ap (λ x. between_move host literal named x q) none ∙ quote_grows host literal named between long refl in
         let second : (h : List ℕ) → field_move (body host literal named after_one) h q ≡ grows two =

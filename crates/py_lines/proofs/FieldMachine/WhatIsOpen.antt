@@ -65,8 +65,7 @@ InLiteral is_long mode = (if is_long then in_open_long mode else in_open_short m
 plain_comes : (IsOpen : List ℕ → Type 0) (characters start : List ℕ) (at : StandsOpen IsOpen characters start) (is_long : Bool) (prefix : List ℕ) (q : ℕ) (inner : List ℕ) → at.front ≡ prefix ++ q ∷ inner → IsPrefix prefix → is_field_prefix prefix ≡ false → is_quote q ≡ true → GrownTo (λ m. InLiteral is_long (plain m)) (Mode.Opened q) inner → Comes characters (λ s. InLiteral is_long s.mode × StartsAfter literal start s)
 plain_comes IsOpen characters start at is_long prefix q inner spell is no_field quotes (m, such, grown) =
     let front = front_at IsOpen characters start at (subst (λ t. begins is_mark t ≡ false) (sym spell) (prefix-unmarked prefix q inner is quotes)) in
-    let from = front.from in
-    let state : Mode → List ℕ → FieldScanned = λ n held. field_state from.outer (field_pieces from) from.openers (plain n) held in
+    let from = front.from in let state : Mode → List ℕ → FieldScanned = λ n held. field_state from.outer (field_pieces from) from.openers (plain n) held in
     let to : FieldScanned = state m ((prefix ++ q ∷ []) ++ inner) in
     let run = goes-append NoLimit from (state (Mode.Opened q) (prefix ++ q ∷ [])) to (prefix ++ q ∷ []) inner
     (plain_opens NoLimit from prefix q inner is no_field quotes (subst (StopsAt from.mode from.held) spell front.stops))
@@ -85,29 +84,25 @@ literal_mode host named is_long mode (at_first is place_is unnamed short) long =
 host_comes : (IsOpen : List ℕ → Type 0) (characters start : List ℕ) (at : StandsOpen IsOpen characters start) (host : Host) (spot : Spot) → IsOpenUpTo host spot at.front → Comes characters (λ s. IsInString host spot.place spot.named s.mode [] × StartsAfter spot.place start s × HasOpened spot.place s.outer spot.field)
 host_comes IsOpen characters start at host spot is =
     let front = front_at IsOpen characters start at (subst (λ t. begins is_mark t ≡ false) (sym is.spell) (open_unmarked host spot is.body is.last is.last is.string)) in
-    let run = up_to_runs front.from host spot at.front is front.stops in
-    let to : FieldScanned = field_state run.outer run.done run.openers run.mode at.front in
+    let run = up_to_runs front.from host spot at.front is front.stops in let to : FieldScanned = field_state run.outer run.done run.openers run.mode at.front in
     let full = open_begins host spot is.body is.last is.last is.string in
     record { to = to; goes = front.goes to full.0 full.1 (is.spell ∙ full.2) run.goes; such = (run.stands, run.start_is ∙ front.start_is, run.field_is) }
 
 literal_comes : (IsOpen : List ℕ → Type 0) (characters start : List ℕ) (at : StandsOpen IsOpen characters start) (is_long : Bool) → IsOpenLiteral is_long at.front → Comes characters (λ s. InLiteral is_long s.mode × StartsAfter literal start s)
-literal_comes IsOpen characters start at is_long (host, spot, is, at_literal, long) =
-    let own = host_comes IsOpen characters start at host spot is in record {
-      to = own.to;
-      goes = own.goes;
-      such = (literal_mode host spot.named is_long own.to.mode (subst (λ p. IsInString host p spot.named own.to.mode []) at_literal own.such.0) long, subst (λ p. StartsAfter p start own.to) at_literal own.such.1);
-    }
+literal_comes IsOpen characters start at is_long (host, spot, is, at_literal, long) = let own = host_comes IsOpen characters start at host spot is in record {
+  to = own.to;
+  goes = own.goes;
+  such = (literal_mode host spot.named is_long own.to.mode (subst (λ p. IsInString host p spot.named own.to.mode []) at_literal own.such.0) long, subst (λ p. StartsAfter p start own.to) at_literal own.such.1);
+}
 
 -- a string that is open: one without fields, or the literal part of one with fields
 pub short_open_comes : (characters start : List ℕ) → InOpenShort characters start → Comes characters (λ s. (in_open_short s.mode ≡ true) × StartsAfter literal start s)
-short_open_comes characters start at =
-    ⊎_elim
+short_open_comes characters start at = ⊎_elim
     (λ plain. let short = plain.0 in plain_comes _ characters start at false short.prefix short.quote _ short.spell short.begun plain.1 short.opens (short_end short.quote short.items short.last short.opens short.holds short.escapes))
     (λ is. literal_comes _ characters start at false is) at.open_yet
 
 pub long_open_comes : (characters start : List ℕ) → InOpenLong characters start → Comes characters (λ s. (in_open_long s.mode ≡ true) × StartsAfter literal start s)
-long_open_comes characters start at =
-    ⊎_elim
+long_open_comes characters start at = ⊎_elim
     (λ plain. let long = plain.0 in plain_comes _ characters start at true long.prefix long.quote _ long.spell long.begun plain.1 long.opens (long_end long.quote long.items long.last long.opens long.holds.0 long.holds.1 long.escapes))
     (λ is. literal_comes _ characters start at true is) at.open_yet
 
@@ -135,22 +130,21 @@ specification_mode host named mode (in_part at is apart) = subst (InSpecificatio
 specification_mode host named mode (at_first is place_is unnamed short) = absurd (cc)
 
 pub specification_comes : (host : Host) (characters start : List ℕ) (at : InSpecification host characters start) → Comes characters (λ s. (own : SpecificationAt host start s) × (own.string ≡ at.string))
-specification_comes host characters start at =
-    let own = host_comes _ characters at.string at.stands host at.spot at.stands.open_yet in record {
-      to = own.to;
-      goes = own.goes;
-      such = (
-        record {
-          string = at.string;
-          field = at.spot.field;
-          mode_is = specification_mode host at.spot.named own.to.mode (subst (λ p. IsInString host p at.spot.named own.to.mode []) at.place own.such.0);
-          string_is = subst (λ p. StartsAfter p at.string own.to) at.place own.such.1;
-          field_is = subst (λ p. HasOpened p own.to.outer at.spot.field) at.place own.such.2;
-          before = at.before;
-        },
-        refl,
-      );
-    }
+specification_comes host characters start at = let own = host_comes _ characters at.string at.stands host at.spot at.stands.open_yet in record {
+  to = own.to;
+  goes = own.goes;
+  such = (
+    record {
+      string = at.string;
+      field = at.spot.field;
+      mode_is = specification_mode host at.spot.named own.to.mode (subst (λ p. IsInString host p at.spot.named own.to.mode []) at.place own.such.0);
+      string_is = subst (λ p. StartsAfter p at.string own.to) at.place own.such.1;
+      field_is = subst (λ p. HasOpened p own.to.outer at.spot.field) at.place own.such.2;
+      before = at.before;
+    },
+    refl,
+  );
+}
 
 -- code of a field goes to the end: outside brackets, and its `{` comes after `start`
 pub data CodeAt (start : List ℕ) (s : FieldScanned) : Type 0 where
@@ -169,8 +163,7 @@ code_comes characters start is = go (spelled is.pieces) refl
     at : (outer : List Level) (t : FieldScanned) → levels_open outer ≡ is.depth → before literal outer ≡ outside → IsBraced outer t → CodeAt start t
     at [] t deep start_is braced = absurd (omega (arith, is.deep, deep))
     at (l ∷ ls) t deep start_is (inr braced) = subst (CodeAt start) (sym braced.1) (in_code (subst (λ n. 0 < n) (sym deep) is.deep) refl refl start_is)
-    at (l ∷ ls) t deep start_is (inl braced) =
-        subst (CodeAt start) (sym braced.1)
+    at (l ∷ ls) t deep start_is (inl braced) = subst (CodeAt start) (sym braced.1)
         (at_brace l.host refl (append_assoc (before literal ls) (spelled l.done) l.front ∙ ap (λ p. before p ls ++ (spelled l.done ++ l.front)) (sym braced.0) ∙ start_is))
 
     go : (text : List ℕ) → spelled is.pieces ≡ text → Comes characters (CodeAt start)
@@ -179,8 +172,7 @@ code_comes characters start is = go (spelled is.pieces) refl
       goes = subst (λ x. Goes NoLimit field_text_start x list.begins_at.0) (ap (λ t. start ++ 123 ∷ t) (sym none) ∙ is.spell) list.begins_at.1;
       such = at list.outer list.begins_at.0 list.deep list.start_is list.begins_at.2;
     }
-    go (c ∷ cs) full =
-        let run = pieces_run list.outer is.depth is.pieces [] list.deep is.begun (may_begin is.pieces) in
+    go (c ∷ cs) full = let run = pieces_run list.outer is.depth is.pieces [] list.deep is.begun (may_begin is.pieces) in
         let to : FieldScanned = field_state list.outer run.done run.after run.mode run.held in
         let both : Some run.after ≡ Some [] = sym run.opens ∙ balanced_openers is.pieces is.balanced [] in record {
           to = to;

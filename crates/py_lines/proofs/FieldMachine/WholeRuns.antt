@@ -45,10 +45,8 @@ reading_at cs t runs final = final_is_reading cs t runs.0 runs.1 final
 
 -- two runs, one after the other; and a run in two parts
 pub runs_both : (s : FieldScanned) (a b : List ℕ) (t u : FieldScanned) → RunsFrom s a t → RunsFrom t b u → RunsFrom s (a ++ b) u
-runs_both s a b t u first second = (
-  steps-append (Some s) a b ∙ ap (λ o. field_steps_from o b) first.0 ∙ second.0,
-  room-append (Some s) a b t first.0 first.1 second.1,
-)
+runs_both s a b t u first second =
+    (steps-append (Some s) a b ∙ ap (λ o. field_steps_from o b) first.0 ∙ second.0, room-append (Some s) a b t first.0 first.1 second.1)
 
 pub runs_parts : (s : FieldScanned) (a b : List ℕ) (u : FieldScanned) → RunsFrom s (a ++ b) u → (t : FieldScanned) × RunsFrom s a t × RunsFrom t b u
 runs_parts s a b u runs =

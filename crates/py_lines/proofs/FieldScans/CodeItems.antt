@@ -27,7 +27,8 @@ use Rattle.py_lines.specs.Private.Scan.{ComesTo, Follows, GoesOver, HasQuote, Ho
 use Rattle.py_lines.proofs.Machine.LiveTexts.{closing-operator}
 use Rattle.py_lines.proofs.Machine.Soundness.{StartHolds, start_holds}
 use Rattle.py_lines.proofs.Machine.Starts.{opens_no, start-operator, start-quote}
-use Rattle.py_lines.proofs.Text.CharacterTests.{each_of, none_of, operator_ascii, quote-not-word}
+use Rattle.py_lines.proofs.Text.CharacterTests.{each_of, operator_ascii, quote-not-word, the_one}
+use Rattle.py_lines.proofs.FieldScans.PlainCode.{operator_is}
 use Rattle.py_lines.proofs.Text.FirstCharacters.{first_size}
 use Rattle.py_lines.proofs.FieldScans.LineEnds.{at, breaks_before, code_before, code_breaks, line_ends_so, pending_code, pending_none, parts, return_breaks, return_waits, waits_low, Walks, breaks_mode, over_low, walks_on, walks_one}
 use Rattle.py_lines.proofs.LineScan.AsciiRuns.{break_low, quote_ascii}
@@ -37,6 +38,7 @@ use Rattle.py_lines.proofs.FieldScans.Operators.{code_cause, fault_in_code}
 use Rattle.py_lines.proofs.FieldScans.Taking.{follows_open, rests_exact, IsTaken, Opening, Shut, break_starts, StandsAt, follows_at, goes_on, no_line_end, no_step, one_comes, over_one, stands_at, stands_begun, stands_grown, stands_shut, wrong_at, StepsOn, rests_ended}
 use Rattle.py_lines.specs.declared.frames.Frame.{Frame}
 use Rattle.py_lines.specs.declared.host.StringWithFields.{StringWithFields}
+use Rattle.py_lines.specs.declared.host.Region.{Region}
 use Rattle.py_lines.specs.declared.host.Region.TheVariants as regions
 use Rattle.py_lines.specs.declared.mode.Spelling.TheVariants as spellings
 use Rattle.py_lines.specs.Private.FieldFaults.{cause_in}
@@ -47,10 +49,6 @@ use Rattle.py_lines.proofs.FieldScans.TextItems.{IsTextMode, same_alike, text_is
 -- a quote begins a string, and an operator no quote
 no_quote : (c : ℕ) (m : Mode) → start_of c ≡ starts.Open m → ((q : ℕ) → m ≡ modes.Opened q → ⊥) → is_quote c ≡ false
 no_quote c m is other = false_from_ne_true _ (λ quote. let same : starts.Open (modes.Opened c) ≡ starts.Open m = sym (start-quote c quote) ∙ is in other c (cc))
-
-operator-not-quote : (c : ℕ) → is_operator c ≡ true → is_quote c ≡ false
-unfolding is_operator is_quote
-operator-not-quote c h = none_of is_quote (codes "+-*/%@&|^~<>=!()[]{},:.;") c refl h
 
 -- what begins nothing
 module _ (c : ℕ) (nothing : start_of c ≡ starts.Nothing) where
@@ -96,7 +94,7 @@ module _ (old : Scan) (t : FieldScanned) (bytes : List ℕ) (c : ℕ) (follow : 
   -- it is an operator
   pub operator_comes : is_operator c ≡ true → (p : Progress) (new : Scan) → TakesOperator old c p new → ComesTo t bytes old p new
   operator_comes is p new takes =
-      one_comes t c bytes old new p first (len_utf8_ascii c (operator_ascii c is)) follow (takes t follow (breaks_before old t c follow after (operator-not-quote c is)))
+      one_comes t c bytes old new p first (len_utf8_ascii c (operator_ascii c is)) follow (takes t follow (breaks_before old t c follow after (operator_is c is).1))
 
   -- it begins a line end
   pub line_end_comes : (len : ℕ) → BeginsOuterEnd bytes len → ComesTo t bytes old (line_end_progress (length old.frames == 0) len) (passed old len)
@@ -110,15 +108,20 @@ module _ (old : Scan) (t : FieldScanned) (bytes : List ℕ) (c : ℕ) (follow : 
 
   -- it begins nothing
   pub nothing_wrong : start_of c ≡ starts.Nothing → ComesTo t bytes old (wrong_here old kinds.BadChar) old
-  nothing_wrong nothing =
-      let ends = breaks_before old t c follow after (nothing_quote c nothing) in (
-        wrong_at t c bytes (record { kind = kinds.BadChar; place = old.stop }) first open_yet
-            (no_step t c breaks ends (ap (field_started t.outer (field_closed t.mode t.done t.held) t.openers c) nothing))
-            (fault_in_code old t c kinds.BadChar follow here.place (nothing_break c nothing) (nothing_cause c nothing)),
-        refl,
-      )
+  nothing_wrong nothing = let ends = breaks_before old t c follow after (nothing_quote c nothing) in (
+    wrong_at t c bytes (record { kind = kinds.BadChar; place = old.stop }) first open_yet
+        (no_step t c breaks ends (ap (field_started t.outer (field_closed t.mode t.done t.held) t.openers c) nothing))
+        (fault_in_code old t c kinds.BadChar follow here.place (nothing_break c nothing) (nothing_cause c nothing)),
+    refl,
+  )
 
 -- what the callees ask for
+
+-- no text of a string is open
+pub code_mode : (m : OpenMode) → ((q : ℕ) → m ≡ opens.Short q → ⊥) → ((q : ℕ) → m ≡ opens.Long q → ⊥)
+    → ((host : StringWithFields) (region : Region) (named : Bool) → m ≡ opens.Fields host region named → ⊥) → is_text m ≡ false
+code_mode m short long fields = grind arith
+
 pub some_first : {bytes : List ℕ} {c : ℕ} → BeginsWith bytes c → 0 < length bytes
 some_first {bytes} {c} first = omega (arith, first_size first, len_utf8_bounds c)
 
@@ -128,7 +131,7 @@ begins_so passes m bytes c first after low is = (ap (begins passes) (sym (first_
 
 pub slash_low : (c : ℕ) → is_backslash c ≡ true → c < 128
 unfolding is_backslash
-slash_low c is = each_of (λ x. x < 128) (92 ∷ []) c (omega arith, tt) is
+slash_low c is = omega (arith, the_one 92 c is)
 
 -- the mark at the text's start
 pub mark_taken : (old : Scan) (t : FieldScanned) (bytes : List ℕ) (c : ℕ) → Follows old t → BeginsWith bytes c → old.mode ≡ opens.Start → is_mark c ≡ true → (len : ℕ) → len ≡ len_utf8 c → GoesOver t bytes len (passed old len)
@@ -136,8 +139,7 @@ unfolding field_move move_of
 mark_taken old t bytes c follow first start mark len size = let mode : plain modes.Start ≡ t.mode = sym (ap mode_from start) ∙ follow.mode in
     let at = stands_at old t follow (sym (ap text_place mode)) in
     let move : field_move t.mode t.held c ≡ closes = ap (λ (m : FieldMode). field_move m t.held c) (sym mode) ∙ rw mark refl in
-    let shut = stands_shut t old.frames old.start old.stop at c follow.holds move in
-    rw size
+    let shut = stands_shut t old.frames old.start old.stop at c follow.holds move in rw size
     (over_one t (Shut t old.frames old.start old.stop at c) c bytes (passed old (len_utf8 c)) first (follows_open old t follow)
     (shut.0, goes_on t c closes move (no_line_end t.mode closes c (λ e is. let clash = mode ∙ is in cc) (λ e. absurd (cc))))
     (rests_exact (passed old (len_utf8 c)) (Shut t old.frames old.start old.stop at c) (drop (len_utf8 c) bytes) shut.1))
@@ -162,9 +164,7 @@ piece_grows old t bytes c follow first mode found told is len size =
     let k = said t.mode t.held c (grows (mode_from mode)) follow.holds move in
     let grown = stands_grown t old.frames old.start old.stop (stands_at old t follow place) c (mode_from mode) move (k.place ∙ place) in
     let u : FieldScanned = field_state t.outer t.done t.openers (mode_from mode) (t.held ++ c ∷ []) in
-    let new : Scan = record old { mode = mode; stop = old.stop + len_utf8 c } in
-    rw size
-    (over_one t u c bytes new first (follows_open old t follow) grown.0
+    let new : Scan = record old { mode = mode; stop = old.stop + len_utf8 c } in rw size (over_one t u c bytes new first (follows_open old t follow) grown.0
     (rests_exact new u (drop (len_utf8 c) bytes) (follows_at u old.frames old.start (old.stop + len_utf8 c) mode grown.1 refl k.holds so.quote)))
 
 -- no character is there
@@ -195,7 +195,6 @@ mode_by b long s q =
     if b then opens.Fields (record { quote = q; is_long = long; is_raw = is_raw_spelling s }) regions.Literal false else (if long then opens.Long q else opens.Short q)
 
 mode_is : (b long : Bool) (s : Spelling) (q : ℕ) → is_quote q ≡ true → (mode_from (mode_by b long s q) ≡ in_text_of b long s q) × HasQuote (mode_by b long s q)
-mode_is false false s q quote = grind arith
 mode_is b long s q quote = grind arith
 
 -- a second quote, and a third
@@ -218,11 +217,9 @@ one_text true s q = (record { class = refl; closed = λ done held. refl; no_retu
 one_text false s q = (record { class = refl; closed = λ done held. refl; no_return = refl; no_line = λ v c. refl; not_free = λ e. cc; not_shut = refl }, text_is _ tt, refl, λ depth c. refl)
 
 two_facts : (b : Bool) (s : Spelling) (q : ℕ) (held : List ℕ) → (is_ending (two_quotes b s q) ≡ true) × HoldsCode (two_quotes b s q) held × (is_return_at (two_quotes b s q) ≡ false) × (text_place (two_quotes b s q) ≡ literal)
-two_facts true s q held = (refl, tt, refl, refl)
-two_facts false s q held = (refl, tt, refl, refl)
+two_facts b s q held = grind arith
 
 text_facts : (b long : Bool) (s : Spelling) (q : ℕ) (held : List ℕ) → HoldsCode (in_text_of b long s q) held × (text_place (in_text_of b long s q) ≡ literal)
-text_facts false false s q held = (tt, refl)
 text_facts b long s q held = grind arith
 
 -- quotes alone don't tell
@@ -262,8 +259,7 @@ module _ (old : Scan) (t : FieldScanned) (q : ℕ) (quote : is_quote q ≡ true)
   InText = Quoted t begun.done (in_text_of B false s q) begun.text
 
   pub two : StepsOn S q Two × StandsAt Two old.frames start (old.stop + 2)
-  two =
-      let grown = stands_grown S old.frames start (old.stop + 1) begun.at q (two_quotes B s q) (quote_goes B s q begun.text).0 (two_facts B s q []).3 in
+  two = let grown = stands_grown S old.frames start (old.stop + 1) begun.at q (two_quotes B s q) (quote_goes B s q begun.text).0 (two_facts B s q []).3 in
       (grown.0, stands_on Two old.frames start (old.stop + 1) (old.stop + 2) q quote (omega arith) grown.1)
 
   three : StepsOn Two q Three × StandsAt Three old.frames start (old.stop + 3)
@@ -297,9 +293,7 @@ module _ (old : Scan) (t : FieldScanned) (q : ℕ) (quote : is_quote q ≡ true)
   opens_text : (b : ℕ) (rest : List ℕ) → b == q ≡ false → GoesOver t (q ∷ b ∷ rest) 1 (Opens 1)
   opens_text b rest other = let facts = text_facts B false s q begun.text in let mode = mode_is B false s q quote in
       let at : StandsAt InText old.frames start (old.stop + 1) = record { place = facts.1; frames = begun.at.frames; begins = begun.at.begins; ends = begun.at.ends } in
-      let texts = one_text B s q in
-      over_low t S (q ∷ []) (b ∷ rest) one_walks (Opens 1) (omega arith)
-      (search (
+      let texts = one_text B s q in over_low t S (q ∷ []) (b ∷ rest) one_walks (Opens 1) (omega arith) (search (
         follows_at InText old.frames start (old.stop + 1) (string_mode s q false) at mode.0 facts.0 mode.1,
         same_alike t.outer begun.done t.openers (one_quote B s q) (in_text_of B false s q) begun.text b texts.0 texts.1 (texts.2 ∙ sym facts.1)
             (λ c first. (other_goes B s q begun.text c (first_other b c q first low other)).1) (λ c depth first. texts.3 depth c),
@@ -313,8 +307,7 @@ module _ (old : Scan) (t : FieldScanned) (q : ℕ) (quote : is_quote q ≡ true)
 
   -- three: the text of a long string is open
   opens_long : (rest : List ℕ) → GoesOver t (q ∷ q ∷ q ∷ rest) 3 (Opens 3)
-  opens_long rest = let mode = mode_is B true s q quote in
-      over_low t Three (q ∷ q ∷ q ∷ []) rest three_walks (Opens 3) (omega arith)
+  opens_long rest = let mode = mode_is B true s q quote in over_low t Three (q ∷ q ∷ q ∷ []) rest three_walks (Opens 3) (omega arith)
       (rests_exact (Opens 3) Three rest (follows_at Three old.frames start (old.stop + 3) (string_mode s q true) three.1 mode.0 (text_facts B true s q _).0 mode.1))
 
   -- how many they are tells which, and nothing where they may be more

@@ -12,7 +12,7 @@ use Rattle.py_lines.specs.declared.frames.Frame.{Frame}
 use Rattle.py_lines.specs.declared.frames.Frame.TheVariants as frame
 use Rattle.py_lines.specs.declared.scan.LineFault.{LineFault}
 use Rattle.py_lines.specs.declared.scan.Scan.{Scan}
-use Rattle.py_lines.specs.Private.FieldMachine.{Level, FieldScanned, frames, before, At, FieldMode, FieldMove, plain, body, between, after_brace, after_name, after_one, after_return, after_slash, after_two, grows, refused, between_move, body_move, escape_move, field_move, field_state, is_after_brace, room_step, text_place}
+use Rattle.py_lines.specs.Private.FieldMachine.{Level, FieldScanned, frames, before, At, FieldMode, FieldMove, plain, body, between, after_name, after_one, after_return, after_slash, after_two, grows, refused, between_move, body_move, escape_move, field_move, field_state, is_after_brace, room_step, text_place}
 use Rattle.py_lines.specs.Private.FieldFaults.{is_waiting, here, field_start, unfinished_code, unfinished_at, piece_start, unfinished_in}
 use Rattle.py_lines.specs.Private.Scan.{bracket_openers, lone_of, Follows, FramesFollow, EndsOpen, IsFieldEnd, Goes, IsPending, is_part_of_text, is_return_at, EndsReturned, GoesOverAll, HasPending, HasQuote, ends_before, has_returned, host_in, is_begun_after, is_lone_brace, is_part_of_code, is_pending, is_text, mode_from, passed, region_in, string_start}
 use Rattle.py_lines.specs.Private.Frames.{IsInnermostFrame, place_of}
@@ -44,11 +44,10 @@ use Rattle.py_lines.proofs.FieldScans.CodeItems.{one_quote, string_begun, two, t
 
 -- the field that is open
 field_in : (t : FieldScanned) (fs : List Frame) (field : OpenField) (others : List Frame) → FramesFollow t.outer t.done t.openers fs → fs ≡ frame.Field field ∷ others → (field.place ≡ field_start t) × (unfinished_code t.outer t.openers ≡ Some open_inside)
-field_in t fs field others f top =
-    let i = innermost_field t.outer t.done t.openers fs others field f top in (
-      i.at.place ∙ ap (λ (ls : List Level). byte_len (before literal ls) - 1) (sym i.outer_is),
-      ap (λ (ls : List Level). unfinished_code ls t.openers) i.outer_is ∙ ap (unfinished_code (i.level ∷ i.outside)) i.none,
-    )
+field_in t fs field others f top = let i = innermost_field t.outer t.done t.openers fs others field f top in (
+  i.at.place ∙ ap (λ (ls : List Level). byte_len (before literal ls) - 1) (sym i.outer_is),
+  ap (λ (ls : List Level). unfinished_code ls t.openers) i.outer_is ∙ ap (unfinished_code (i.level ∷ i.outside)) i.none,
+)
 
 -- the place of the field whose specification is open
 pub specification_place : (scan : Scan) (t : FieldScanned) (place : ℕ) → Follows scan t → text_place t.mode ≡ specification
@@ -162,8 +161,7 @@ unfolding field_move move_of long_move is_backslash is_quote
 long_part q run quote part = let other : 92 == q ≡ false = not_quote 92 q quote refl in let same : q == q ≡ true = eq-eqb q q refl in
     let long = long_open (modes.Long q) refl refl refl in
     by_part (StaysOpen open_long literal (plain (modes.Long q))) true q long (rw other (tt, long_open (modes.LongEscape q) refl refl refl))
-    (rw other (tt, (tt, long))) (rw other (tt, (tt, long)))
-    (λ is. (
+    (rw other (tt, (tt, long))) (rw other (tt, (tt, long))) (λ is. (
       rw same (tt, long_open (modes.LongOne q) refl refl refl),
       rw same (tt, rw same (tt, long_open (modes.LongTwo q) refl refl refl)),
     )) run part
@@ -174,21 +172,16 @@ what_in h literal = string_what h.is_long
 what_in h specification = open_inside
 
 body_open : (h : Host) (place : Place) (named : Bool) (at : At) → is_after_brace at ≡ false → OpenText (what_in h place) place (body h place named at)
-body_open h literal named after_brace other = absurd (both_ways _ other refl)
-body_open h literal named at other = record { is = λ outer openers. refl; stands = refl; calm = refl; no_return = refl }
-body_open h specification named after_brace other = absurd (both_ways _ other refl)
-body_open h specification named at other = record { is = λ outer openers. refl; stands = refl; calm = refl; no_return = refl }
+body_open h place named at other = grind arith
 
 -- CR and `N` after a backslash
 escaped_return : (h : Host) (place : Place) (named : Bool) → IfGrows (OpenText (what_in h place) place) (field_move (body h place named after_slash) [] 13)
 unfolding field_move body_move escape_move is_brace is_return is_break
-escaped_return h literal named = body_open h literal named after_return refl
-escaped_return h specification named = grind (arith, body_open h specification named after_return refl)
+escaped_return h place named = grind (arith, body_open h place named after_return refl)
 
 escaped_name : (h : Host) (place : Place) (named : Bool) → IfGrows (OpenText (what_in h place) place) (field_move (body h place named after_slash) [] 78)
 unfolding field_move body_move escape_move is_brace is_return is_break
-escaped_name h literal named = grind (arith, body_open h literal named after_name refl, body_open h literal named between refl)
-escaped_name h specification named = grind (arith, body_open h specification named after_name refl, body_open h specification named between refl)
+escaped_name h place named = grind (arith, body_open h place named after_name refl, body_open h place named between refl)
 
 pub body_part : (h : Host) (place : Place) (named : Bool) (run : List ℕ) → is_quote h.quote ≡ true → is_part_of_text h.is_long h.quote run ≡ true
     → StaysOpen (what_in h place) place (body h place named between) run
@@ -203,8 +196,7 @@ body_part h place named run quote part = let other : 92 == h.quote ≡ false = n
     let P : List ℕ → FieldMode → Type 0 = λ cs n. StaysOpen (what_in h place) place n cs in (
       (tt, subst (IfGrows (P [])) (sym one) (body_open h place named after_one refl)),
       (tt, subst (IfGrows (P (h.quote ∷ []))) (sym one) (tt, subst (IfGrows (P [])) (sym two) (body_open h place named after_two refl))),
-    ))
-    run part
+    )) run part
 
 -- where the machine comes to is one
 goes_next : (t s u : FieldScanned) (c : ℕ) (cs : List ℕ) → StepsOn t c s → Goes t (c ∷ cs) u → Goes s cs u
@@ -220,22 +212,17 @@ EndsMode m = ((outer : List Level) (openers : List ℕ) → unfinished_in outer 
     × (is_waiting m ≡ false) × (is_return_at m ≡ false)
 
 code_mode_ends : (m : OpenMode) → is_text m ≡ false → EndsMode (mode_from m)
-code_mode_ends (opens.Word s) code = (λ outer openers. refl, refl, refl)
 code_mode_ends m code = grind arith
 
 two_quotes_end : (b : Bool) (s : Spelling) (q : ℕ) → EndsMode (two_quotes b s q)
-two_quotes_end true s q = (λ outer openers. refl, refl, refl)
-two_quotes_end false s q = (λ outer openers. refl, refl, refl)
+two_quotes_end b s q = grind arith
 
 one_quote_open : (b : Bool) (s : Spelling) (q : ℕ) → ((outer : List Level) (openers : List ℕ) → unfinished_in outer openers (one_quote b s q) ≡ Some open_short) × (is_return_at (one_quote b s q) ≡ false)
-one_quote_open true s q = (λ outer openers. refl, refl)
-one_quote_open false s q = (λ outer openers. refl, refl)
+one_quote_open b s q = grind arith
 
 -- the byte that is left, if it is the only one
 pub lone_is : (bytes : List ℕ) → lone_of bytes ≡ (if length bytes == 1 then slice_index bytes 0 else 0)
-lone_is [] = refl
-lone_is (c ∷ []) = refl
-lone_is (c ∷ d ∷ cs) = grind arith
+lone_is bytes = grind arith
 
 only_lone : (run : List ℕ) → 0 < lone_of run → run ≡ lone_of run ∷ []
 only_lone [] some = absurd (omega (arith, some))
@@ -282,34 +269,25 @@ module _ (old : Scan) (t u : FieldScanned) (follow : Follows old t) (code : is_t
   pub code_over : (run : List ℕ) → is_pending old.mode run ≡ true → Goes t run u → CodeOver t u old.frames run
   unfolding is_backslash
   code_over run pending goes = by_code (λ cs. is_begun_after old.mode cs ≡ true → Goes t cs u → CodeOver t u old.frames cs)
-      (λ begun same. over [] t same (subst EndsMode follow.mode (code_mode_ends old.mode code)) follow.frames)
-      (λ begun on.
-      let r = returns old t follow code in let there = goes_next t _ u 13 [] r.0 on in
-      record {
-        ends = λ no_quote no_slash. subst (λ (x : FieldScanned). EndsCode x old.frames) there
-            (record { code = refl; calm = refl; frames = r.1.frames });
+      (λ begun same. over [] t same (subst EndsMode follow.mode (code_mode_ends old.mode code)) follow.frames) (λ begun on.
+      let r = returns old t follow code in let there = goes_next t _ u 13 [] r.0 on in record {
+        ends = λ no_quote no_slash. subst (λ (x : FieldScanned). EndsCode x old.frames) there (record { code = refl; calm = refl; frames = r.1.frames });
         open_yet = λ other. ap has_returned (sym there) ∙ false_from_ne_true (frames t == 0) (λ none. other none refl);
-      })
-      (λ begun on. record {
+      }) (λ begun on. record {
         ends = λ no_quote no_slash. absurd (both_ways _ no_slash refl);
         open_yet = λ other. ap has_returned (sym (goes_next t _ u 92 [] (slashes old t follow begun).0 on));
-      })
-      (λ begun on.
-      let h = half old t follow begun in
-      over (92 ∷ 13 ∷ []) _ (goes_next _ _ u 13 [] h.0 (goes_next t _ u 92 (13 ∷ []) (slashes old t follow begun).0 on))
-      (λ outer openers. refl, refl, refl) h.1.frames)
-      (λ q quote. (
+      }) (λ begun on.
+      let h = half old t follow begun in over (92 ∷ 13 ∷ []) _ (goes_next _ _ u 13 [] h.0 (goes_next t _ u 92 (13 ∷ []) (slashes old t follow begun).0 on))
+      (λ outer openers. refl, refl, refl) h.1.frames) (λ q quote. (
         λ begun on. let string = string_begun old t q follow quote begun in
             record {
               ends = λ no_quote no_slash. absurd (both_ways _ no_quote quote);
-              open_yet = λ other. ap has_returned (sym (goes_next t _ u q [] string.step on))
-                  ∙ ap (λ b. b && (frames t == 0)) (one_quote_open _ _ q).1;
+              open_yet = λ other. ap has_returned (sym (goes_next t _ u q [] string.step on)) ∙ ap (λ b. b && (frames t == 0)) (one_quote_open _ _ q).1;
             },
         λ begun on.
             let string = string_begun old t q follow quote begun in let w = two old t q quote (follows_open old t follow) _ _ string in
             over (q ∷ q ∷ []) _ (goes_next _ _ u q [] w.0 (goes_next t _ u q (q ∷ []) string.step on)) (two_quotes_end _ _ q) w.1.frames,
-      ))
-      run (code_parts old.mode run code pending).0 (code_parts old.mode run code pending).1 goes
+      )) run (code_parts old.mode run code pending).0 (code_parts old.mode run code pending).1 goes
 
 -- the text of a string is open, which this byte doesn't end or open a field in
 abbrev pub IsStringOf : Bool → ℕ → OpenMode → Type 0
@@ -353,12 +331,10 @@ module _ (old : Scan) (run : List ℕ) (pending : IsPending old.mode run) where
   pub specification_left : (host : StringWithFields) (named : Bool) → old.mode ≡ opens.Fields host regions.Specification named
       → (f : LineFault) → ((top : Frame) (others : List Frame) → old.frames ≡ top ∷ others → f.place ≡ place_of top) → f.kind ≡ fault_kind.OpenField
       → EndsOpen old run (Some f)
-  specification_left host named mode f last kind t u follow goes =
-      let there = sym follow.mode ∙ ap mode_from mode in
+  specification_left host named mode f last kind t u follow goes = let there = sym follow.mode ∙ ap mode_from mode in
       let keeps = body_part (host_in host) specification named run (rw mode at follow.quote) (rw mode at (pending follow.quote)) in
       let e = text_end open_inside specification t u run (rw there keeps) goes in let S : FieldScanned = field_state t.outer t.done t.openers e.mode e.held in
-      let place = specification_place old t f.place follow (ap text_place there) last in
-      subst (λ (s : FieldScanned). IsFieldEnd s (Some f)) (sym e.is)
+      let place = specification_place old t f.place follow (ap text_place there) last in subst (λ (s : FieldScanned). IsFieldEnd s (Some f)) (sym e.is)
       (open_inside, e.told.is t.outer t.openers, kind, place ∙ ap (λ (b : Bool). if b then here S - 1 else field_start t) (sym e.told.calm))
 
   -- a `{` would open a field, if there is room
@@ -383,8 +359,7 @@ module _ (old : Scan) (run : List ℕ) (pending : IsPending old.mode run) where
   -- in code
   module _ (code : is_text old.mode ≡ false) where
     after : (t u : FieldScanned) → HasQuote old.mode → Goes t run u → (b : ℕ) → lone_of run ≡ b → 0 < b → (ends_before old.mode b ≡ true) × Goes t (b ∷ []) u
-    after t u quote goes b is some =
-        let one : run ≡ b ∷ [] = only_lone run (omega (arith, is, some)) ∙ ap (λ (x : ℕ). x ∷ []) is in
+    after t u quote goes b is some = let one : run ≡ b ∷ [] = only_lone run (omega (arith, is, some)) ∙ ap (λ (x : ℕ). x ∷ []) is in
         ((rw one at (code_parts old.mode run code (pending quote))).1, rw one at goes)
 
     -- a backslash is open
@@ -430,8 +405,7 @@ pending_open old t u run follow pending goes other = by (is_text old.mode) refl
 
     by : (b : Bool) → is_text old.mode ≡ b → has_returned u ≡ false
     by true text = text_part (has_returned u ≡ false) old.mode run follow.quote text pending
-        (λ host is lone. open_at _ (goes_same t _ u (123 ∷ []) (goes_literal old t follow host is)
-        (subst (λ (x : List ℕ). Goes t x u) lone goes)) refl)
+        (λ host is lone. open_at _ (goes_same t _ u (123 ∷ []) (goes_literal old t follow host is) (subst (λ (x : List ℕ). Goes t x u) lone goes)) refl)
         (λ what place kept.
         let e = text_end what place t u run (subst (λ (m : FieldMode). StaysOpen what place m run) follow.mode kept) goes in
         open_at _ (sym e.is) e.told.no_return)
@@ -439,8 +413,7 @@ pending_open old t u run follow pending goes other = by (is_text old.mode) refl
 
 -- what doesn't tell yet are characters of ASCII
 part_low : (long : Bool) (q : ℕ) (run : List ℕ) → is_quote q ≡ true → is_part_of_text long q run ≡ true → AreLow run
-part_low long q run quote part =
-    let low = quote_ascii q quote in by_part AreLow long q refl refl refl refl (λ is. (one_low q low, two_low q low)) run part
+part_low long q run quote part = let low = quote_ascii q quote in by_part AreLow long q refl refl refl refl (λ is. (one_low q low, two_low q low)) run part
 
 pending_low : (m : OpenMode) (run : List ℕ) → HasQuote m → is_pending m run ≡ true → AreLow run
 pending_low (opens.Short q) run quote part = part_low false q run quote part

@@ -43,17 +43,27 @@ pub record Opened (fs : List Frame) (n : ℕ) (f : Frame) (old : List Frame) (fi
   pub is : first_frames (slice_set fs n f) (n + 1) ≡ f ∷ old
 
 pub opened : (fs : List Frame) (n : ℕ) (f : Frame) (old : List Frame) (fields : ℕ)
-    → (length fs ≡ 200) × (n ≤ 200) × (fields ≡ fields_of (first_frames fs n)) → first_frames fs n ≡ old → (length old ≡ 200 → ⊥)
-    → Opened fs n f old fields
+    → (length fs ≡ 200) × (n ≤ 200) × (fields ≡ fields_of (first_frames fs n)) → first_frames fs n ≡ old → (length old ≡ 200 → ⊥) → Opened fs n f old fields
 opened fs n f old fields (size, few, counted) is room =
     let len : length old ≡ n = ap length (sym is) ∙ first_frames_length fs n size few in
-    let less : n < 200 = omega (arith, few, len, room) in
-    let same : fields ≡ fields_of old = counted ∙ ap fields_of is in
-    record {
-      room = less;
-      short = omega (arith, less, len);
-      size = length-set fs n f ∙ size;
-      counted = same;
-      few = omega (arith, same, fields_few old);
-      is = ap reverse (take_more_set fs n f (omega (arith, less, size))) ∙ reverse-append (take n fs) (f ∷ []) ∙ ap (λ fs. f ∷ fs) is;
-    }
+    let less : n < 200 = omega (arith, few, len, room) in let same : fields ≡ fields_of old = counted ∙ ap fields_of is in
+    let short : length old < 200 = omega (arith, less, len) in let fewer : fields ≤ length old = omega (arith, same, fields_few old) in
+    let first = ap reverse (take_more_set fs n f (omega (arith, less, size))) ∙ reverse-append (take n fs) (f ∷ []) ∙ ap (λ fs. f ∷ fs) is in
+    search (less, short, length-set fs n f ∙ size, same, fewer, first)
+
+-- the innermost is taken away
+pub record Taken (fs : List Frame) (n : ℕ) (f : Frame) (old : List Frame) (fields : ℕ) : Type 0 where
+  pub some : 1 ≤ n
+  pub last : get_or fs (n - 1) (frame.Bracket 0 0) ≡ f
+  pub room : n - 1 ≤ 200
+  pub is : old ≡ f ∷ first_frames fs (n - 1)
+  pub counted : fields ≡ fields_of (f ∷ first_frames fs (n - 1))
+
+pub taken : (fs : List Frame) (n : ℕ) (f : Frame) (old : List Frame) (fields : ℕ)
+    → (length fs ≡ 200) × (n ≤ 200) × (fields ≡ fields_of (first_frames fs n)) → first_frames fs n ≡ old
+    → (others : List Frame) × (old ≡ f ∷ others) → Taken fs n f old fields
+taken fs n f old fields (size, few, counted) is (others, has) =
+    let len = ap length (sym has) ∙ ap length (sym is) ∙ first_frames_length fs n size few in
+    let last = first_frames_last fs n size few (λ none. absurd (omega (arith, len, none))) in let same : get_or fs (n - 1) (frame.Bracket 0 0) ≡ f = cc in
+    let all = sym is ∙ last ∙ ap (λ g. g ∷ first_frames fs (n - 1)) same in
+    let some : 1 ≤ n = omega (arith, len) in let room : n - 1 ≤ 200 = omega (arith, few) in search (some, same, room, all, counted ∙ ap fields_of (is ∙ all))

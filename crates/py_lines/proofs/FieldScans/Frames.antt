@@ -1,5 +1,5 @@
 -- The frames that the scan of a line keeps are the brackets and fields that are open in the machine.
-use Rattle.std.proofs.Common.{◌≡◌, ℕ, ◌+◌, ◌<◌, true, false, ◌==◌, Some, List, [], ◌∷◌, ◌++◌, length, refl, ap, ◌∙◌, subst, arith, length-append}
+use Rattle.std.proofs.Common.{◌≡◌, ℕ, ◌+◌, ◌<◌, true, false, ◌==◌, Some, List, [], ◌∷◌, ◌++◌, length, refl, sym, ap, ◌∙◌, subst, arith, length-append, zero-add}
 use Rattle.std.proofs.lemmas.List.{length-map}
 use Rattle.py_lines.specs.Piece.{Class, operator, Piece, spelled}
 use Rattle.py_lines.specs.LogicalLine.{byte_len}
@@ -30,15 +30,31 @@ pub frames_alike : (outer : List Level) (done more : List Piece) (openers : List
 frames_alike [] done more openers fs alike (bs, stack, openers_are, frames_are) = (bs, alike bs stack, openers_are, frames_are)
 frames_alike (l ∷ ls) done more openers fs alike (bs, field, others, stack, openers_are, frames_are, at) = (bs, field, others, alike bs stack, openers_are, frames_are, at)
 
+-- a list that begins in two ways, and frames that are one
+same_top : {A : Type 0} {x y : A} {xs ys all : List A} → all ≡ x ∷ xs → all ≡ y ∷ ys → (x ≡ y) × (xs ≡ ys)
+same_top first second = (cc, cc)
+
+none_top : {A : Type 0} {x : A} {xs all : List A} → all ≡ [] → all ≡ x ∷ xs → ⊥
+none_top first second = cc
+
+same_bracket : (o p a b : ℕ) → frame.Bracket o a ≡ frame.Bracket p b → (o ≡ p) × (a ≡ b)
+same_bracket o p a b is = (cc, cc)
+
+same_field : (f g : OpenField) → frame.Field f ≡ frame.Field g → f ≡ g
+same_field f g is = cc
+
+no_field : {f : OpenField} {o a : ℕ} → frame.Field f ≡ frame.Bracket o a → ⊥
+no_field is = cc
+
 -- the innermost frame is a bracket of the innermost list
 pub innermost_bracket : (outer : List Level) (done : List Piece) (openers : List ℕ) (fs others : List Frame) (opener at : ℕ) → FramesFollow outer done openers fs → fs ≡ frame.Bracket opener at ∷ others → (b : Bracket) × (bs : List Bracket) × (brackets_of done ≡ Some (b ∷ bs)) × (at ≡ byte_len (before literal outer) + b.place) × (openers ≡ opener ∷ bracket_openers bs)
-innermost_bracket [] done openers fs others opener at ([], stack, openers_are, frames_are) top = absurd (cc (top, frames_are))
+innermost_bracket [] done openers fs others opener at ([], stack, openers_are, frames_are) top = absurd (none_top frames_are top)
 innermost_bracket [] done openers fs others opener at ((b ∷ bs), stack, openers_are, frames_are) top =
-    let spot : at ≡ b.place = cc (top, frames_are) in (b, bs, stack, omega (arith, spot), cc (top, frames_are, openers_are))
-innermost_bracket (l ∷ ls) done openers fs others opener at ([], field, rest, stack, openers_are, frames_are, is) top = absurd (cc (top, frames_are))
+    let (same, spot) = same_bracket _ _ _ _ (same_top frames_are top).0 in
+    (b, bs, stack, sym spot ∙ sym (zero-add b.place), openers_are ∙ ap (λ o. o ∷ bracket_openers bs) same)
+innermost_bracket (l ∷ ls) done openers fs others opener at ([], field, rest, stack, openers_are, frames_are, is) top = absurd (no_field (same_top frames_are top).0)
 innermost_bracket (l ∷ ls) done openers fs others opener at ((b ∷ bs), field, rest, stack, openers_are, frames_are, is) top =
-    let spot : at ≡ byte_len (before literal (l ∷ ls)) + b.place = cc (top, frames_are) in
-    (b, bs, stack, omega (arith, spot), cc (top, frames_are, openers_are))
+    let (same, spot) = same_bracket _ _ _ _ (same_top frames_are top).0 in (b, bs, stack, sym spot, openers_are ∙ ap (λ o. o ∷ bracket_openers bs) same)
 
 -- or it is the field in which that list stands, where no bracket is open
 pub record InnermostField (outer : List Level) (openers : List ℕ) (field : OpenField) (others : List Frame) : Type 0 where
@@ -49,18 +65,13 @@ pub record InnermostField (outer : List Level) (openers : List ℕ) (field : Ope
   pub at : FieldFollows level outside field (FramesFollow outside level.done level.openers others)
 
 pub innermost_field : (outer : List Level) (done : List Piece) (openers : List ℕ) (fs others : List Frame) (field : OpenField) → FramesFollow outer done openers fs → fs ≡ frame.Field field ∷ others → InnermostField outer openers field others
-innermost_field [] done openers fs others field ([], stack, openers_are, frames_are) top = absurd (cc (top, frames_are))
-innermost_field [] done openers fs others field ((b ∷ bs), stack, openers_are, frames_are) top = absurd (cc (top, frames_are))
-innermost_field (l ∷ ls) done openers fs others field ((b ∷ bs), own, rest, stack, openers_are, frames_are, at) top = absurd (cc (top, frames_are))
+innermost_field [] done openers fs others field ([], stack, openers_are, frames_are) top = absurd (none_top frames_are top)
+innermost_field [] done openers fs others field ((b ∷ bs), stack, openers_are, frames_are) top = absurd (no_field (same_top top frames_are).0)
+innermost_field (l ∷ ls) done openers fs others field ((b ∷ bs), own, rest, stack, openers_are, frames_are, at) top = absurd (no_field (same_top top frames_are).0)
 innermost_field (l ∷ ls) done openers fs others field ([], own, rest, stack, openers_are, frames_are, at) top =
-    let same : own ≡ field = cc (top, frames_are) in let round : rest ≡ others = cc (top, frames_are) in
-    record {
-      level = l;
-      outside = ls;
-      outer_is = refl;
-      none = openers_are;
-      at = subst (λ (f : OpenField). FieldFollows l ls f (FramesFollow ls l.done l.openers others)) same (subst (λ (fs : List Frame). FieldFollows l ls own (FramesFollow ls l.done l.openers fs)) round at);
-    }
+    let (first, round) = same_top frames_are top in
+    let same = same_field own field first in let whole : l ∷ ls ≡ l ∷ ls = refl in
+    search (whole, openers_are, subst (λ (f : OpenField). FieldFollows l ls f (FramesFollow ls l.done l.openers others)) same (subst (λ (fs : List Frame). FieldFollows l ls own (FramesFollow ls l.done l.openers fs)) round at))
 
 -- it is a field, where a specification is open
 pub specified_field : (outer : List Level) (done : List Piece) (openers : List ℕ) (fs : List Frame) → NoListAt specification outer done openers
@@ -94,12 +105,12 @@ bracket_opened (l ∷ ls) done openers fs c place (bs, field, others, stack, ope
     ((record { opener = c; place = byte_len (spelled done) }) ∷ bs, field, others, opened_stack done openers bs c stack openers_are opens room, ap (λ (os : List ℕ). c ∷ os) openers_are, cc (first, frames_are), is)
 
 pub bracket_closed : (outer : List Level) (done : List Piece) (openers os : List ℕ) (fs others : List Frame) (opener at c : ℕ) → FramesFollow outer done openers fs → fs ≡ frame.Bracket opener at ∷ others → openers ≡ opener ∷ os → is_closing c ≡ true → c == closing_of opener ≡ true → FramesFollow outer (done ++ piece operator (c ∷ []) ∷ []) os others
-bracket_closed [] done openers os fs others opener at c ([], stack, openers_are, frames_are) top are closing fits = absurd (cc (are, openers_are))
+bracket_closed [] done openers os fs others opener at c ([], stack, openers_are, frames_are) top are closing fits = absurd (none_top openers_are are)
 bracket_closed [] done openers os fs others opener at c ((b ∷ bs), stack, openers_are, frames_are) top are closing fits =
-    (bs, closed_stack done b bs opener c stack (cc (are, openers_are)) closing fits, cc (are, openers_are), cc (top, frames_are))
-bracket_closed (l ∷ ls) done openers os fs others opener at c ([], field, rest, stack, openers_are, frames_are, is) top are closing fits = absurd (cc (are, openers_are))
+    let (same, left) = same_top are openers_are in (bs, closed_stack done b bs opener c stack (sym same) closing fits, left, sym (same_top frames_are top).1)
+bracket_closed (l ∷ ls) done openers os fs others opener at c ([], field, rest, stack, openers_are, frames_are, is) top are closing fits = absurd (none_top openers_are are)
 bracket_closed (l ∷ ls) done openers os fs others opener at c ((b ∷ bs), field, rest, stack, openers_are, frames_are, is) top are closing fits =
-    (bs, field, rest, closed_stack done b bs opener c stack (cc (are, openers_are)) closing fits, cc (are, openers_are), cc (top, frames_are), is)
+    let (same, left) = same_top are openers_are in (bs, field, rest, closed_stack done b bs opener c stack (sym same) closing fits, left, sym (same_top frames_are top).1, is)
 
 -- a piece that is no bracket
 pub neutral_alike : (done : List Piece) (class : Class) (text : List ℕ) → is_opener (piece class text) ≡ false → is_closer (piece class text) ≡ false → AreOpenAlike done (done ++ piece class text ∷ [])

@@ -116,12 +116,7 @@ module _ (t u : FieldScanned) (run rest : List ℕ) (walks : Walks t run u) wher
 
   -- or all of them, which don't tell
   pub waits_low : (old : Scan) → StartsWithNoChar rest → is_pending old.mode run ≡ true → (has_returned u ≡ true → rest ≡ []) → ComesTo t (run ++ rest) old progress.Waits old
-  waits_low old none pending alone = (
-    record { run = run; rest = rest; spell = spells; scalars = low_scalars run walks.low; none = none; to = u; goes = walks.goes; one = walks.one },
-    alone,
-    record { run = run; rest = rest; spell = spells; none = none; is = pending },
-    refl,
-  )
+  waits_low old none pending alone = (search (spells, low_scalars run walks.low, none, walks), alone, search (spells, none, pending), refl)
 
 -- the scan follows further on
 follows_on : (fs : List Frame) (a b : ℕ) (t : FieldScanned) → a ≡ b → Follows (free_at fs a) t → Follows (free_at fs b) t
@@ -322,8 +317,7 @@ module _ (old : Scan) (t : FieldScanned) (follow : Follows old t) (before_it : e
 
   return_joins : (b : ℕ) (after : List ℕ) → (b ≡ 10 → ⊥) → Joins (13 ∷ b ∷ after) 1
   return_joins b after other = let same : old.stop + 1 + 1 ≡ old.stop + 2 = omega arith in
-      over_low t Half (92 ∷ 13 ∷ []) (b ∷ after) half_walks (passed old 2) (omega arith)
-      (subst (λ (n : ℕ). Rests (free_at old.frames n) Half (b ∷ after)) same
+      over_low t Half (92 ∷ 13 ∷ []) (b ∷ after) half_walks (passed old 2) (omega arith) (subst (λ (n : ℕ). Rests (free_at old.frames n) Half (b ∷ after)) same
       (rests_ended Half old.frames old.stop (old.stop + 1 + 1) b after half.1 refl tt refl (λ c first. (before_other _ c (other_feed b c other first)).1)))
 
   pub joins : (more : List ℕ) (len : ℕ) → BeginsOuterEnd more len → Joins more len
@@ -378,8 +372,7 @@ module _ (old : Scan) (t : FieldScanned) (bytes : List ℕ) (follow : Follows ol
   half_join_waits c none first is = subst (λ (x : List ℕ). ComesTo t x old progress.Waits old) (sym (is_slash ∙ ap (λ (x : List ℕ). 92 ∷ x) (alone c none first (ap is_break is ∙ return_breaks.0)))) (half_waits old t follow before_slash)
 
   pub join_wrong : (c : ℕ) → HasOuterEnd (After bytes) None → BeginsWith (After bytes) c → (c ≡ 13 → ⊥) → ComesTo t bytes old (wrong_here old kinds.BadJoin) old
-  join_wrong c none first other = put_slash (wrong_here old kinds.BadJoin) old
-      (slash_wrong old t follow before_slash (After bytes) c first
+  join_wrong c none first other = put_slash (wrong_here old kinds.BadJoin) old (slash_wrong old t follow before_slash (After bytes) c first
       (false_from_ne_true _ (λ break.
       let same = sym (first_is (After bytes) c (break_low c break) first) in
       other (ap (λ (x : List ℕ). slice_index x 0) (sym same ∙ alone c none first break)))))

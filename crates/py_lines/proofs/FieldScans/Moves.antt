@@ -8,7 +8,7 @@ use Rattle.py_lines.specs.Piece.{string, Piece, spelled}
 use Rattle.py_lines.specs.FieldStrings.{Host, Place, literal, specification}
 use Rattle.py_lines.specs.Private.Machine.{Mode, Move, Spelling, Move as moves, Holds, begins_string, closed, class_of, is_field_spelling, is_raw_spelling, long_move, move_of, short_move, spelling_with}
 use Rattle.py_lines.specs.Private.Mode as modes
-use Rattle.py_lines.specs.Private.FieldMachine.{At, after_one, Level, between, after_slash, after_return, after_name, after_brace, FieldMode, plain, opened, empty, body, FieldMove, grows, closes, breaks, begins_code, opens_field, ends_field, refused, host_of, long_host, begins_host, plain_move, between_move, escape_move, body_move, is_after_brace, field_move, is_after_two, with_quote, closing_move, opening_move, ending_move, field_closed, field_class_of, text_place}
+use Rattle.py_lines.specs.Private.FieldMachine.{At, Level, between, after_slash, after_return, after_name, after_brace, FieldMode, plain, opened, empty, body, FieldMove, grows, closes, breaks, begins_code, opens_field, ends_field, refused, host_of, long_host, begins_host, plain_move, between_move, escape_move, body_move, is_after_brace, field_move, is_after_two, with_quote, closing_move, opening_move, ending_move, field_closed, field_class_of, text_place}
 use Rattle.py_lines.specs.Private.Scan.{HoldsCode, HasNoList, NoListAt, is_ending}
 use Rattle.py_lines.proofs.Pieces.PieceLists.{piece, spelled-push}
 use Rattle.py_lines.proofs.Machine.LiveTexts as live
@@ -41,10 +41,8 @@ BodyMoved host place named at c refused = Unit {0}
 between_moved : (host : Host) (place : Place) (named : Bool) (a at : At) (c : ℕ) → BodyMoved host place named a c (between_move host place named at c)
 unfolding between_move
 between_moved host place named a at c = cond_both (c == host.quote) _ _ P
-    (λ same. cond_both (host.is_long && not (is_after_two at)) _ _ P (λ h. (named, with_quote at, refl, λ is. after_quote at))
-    (λ h. closing place same))
-    (λ other. cond_both (is_backslash c) _ _ P (λ h. (named, after_slash, refl, λ is. refl))
-    (λ h. cond_both (is_break c && not host.is_long) _ _ P (λ h. tt)
+    (λ same. cond_both (host.is_long && not (is_after_two at)) _ _ P (λ h. (named, with_quote at, refl, λ is. after_quote at)) (λ h. closing place same))
+    (λ other. cond_both (is_backslash c) _ _ P (λ h. (named, after_slash, refl, λ is. refl)) (λ h. cond_both (is_break c && not host.is_long) _ _ P (λ h. tt)
     (λ h. cond_both ((c == byte "{") && not named) _ _ P (opening place)
     (λ h. cond_both (c == byte "}") _ _ P (ending place named) (λ h. (named, between, refl, λ is. refl))))))
   where
@@ -52,21 +50,16 @@ between_moved host place named a at c = cond_both (c == host.quote) _ _ P
     P = BodyMoved host place named a c
 
     after_quote : (b : At) → is_after_brace (with_quote b) ≡ false
-    after_quote after_one = refl
-    after_quote b = refl
+    after_quote b = grind arith
 
     closing : (p : Place) → c == host.quote ≡ true → BodyMoved host p named a c (closing_move p)
-    closing literal same = (refl, same)
-    closing specification same = tt
+    closing p same = grind arith
 
     opening : (p : Place) → (c == byte "{") && not named ≡ true → BodyMoved host p named a c (opening_move host p)
-    opening literal is = grind arith
-    opening specification is = grind arith
+    opening p is = grind arith
 
     ending : (p : Place) (b : Bool) → c == byte "}" ≡ true → BodyMoved host p b a c (ending_move host p b)
-    ending literal b is = (false, between, refl, λ same. refl)
-    ending specification true is = grind arith
-    ending specification false is = (refl, refl, is)
+    ending p b is = grind arith
 
 pub body_moved : (host : Host) (place : Place) (named : Bool) (at : At) (held : List ℕ) (c : ℕ) → BodyMoved host place named at c (field_move (body host place named at) held c)
 unfolding field_move body_move escape_move

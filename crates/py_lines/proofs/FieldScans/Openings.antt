@@ -43,8 +43,7 @@ use Rattle.py_lines.proofs.FieldScans.TextItems.{low_scalars, more_bytes, text_o
 -- the quote of a string with fields is one
 host_quote : (m : OpenMode) (host : Host) (place : Place) (named : Bool) (at : At) → HasQuote m → mode_from m ≡ body host place named at
     → is_quote host.quote ≡ true
-host_quote (opens.Fields h region n) host place named at quote same =
-    let own : host_in h ≡ host = cc in ap (λ (x : Host). is_quote x.quote) (sym own) ∙ quote
+host_quote (opens.Fields h region n) host place named at quote same = let own : host_in h ≡ host = cc in ap (λ (x : Host). is_quote x.quote) (sym own) ∙ quote
 host_quote m host place named at quote same = absurd (cc same)
 
 -- a `{` that doesn't stand for itself
@@ -99,8 +98,7 @@ module _ (t : FieldScanned) (host : Host) (room : nat_lt (frames t) 200 ≡ true
   code_here : here There ≡ here In
   code_here = ap byte_len (sym (append-nil (before literal In.outer)))
 
-  code_fault : (b c : ℕ) → IsFirstByte b c → c == 123 ≡ false → room_step There c ≡ None → (f : LineFault)
-      → IsFieldFault In c f → IsFieldFault There c f
+  code_fault : (b c : ℕ) → IsFirstByte b c → c == 123 ≡ false → room_step There c ≡ None → (f : LineFault) → IsFieldFault In c f → IsFieldFault There c f
   unfolding field_move move_of
   code_fault b c first other none f is =
       let broken : is_break c ≡ false = no_break b In refl refl refl (λ d at. refl) c first (sym (code_step c other) ∙ none) in
@@ -116,16 +114,14 @@ module _ (t : FieldScanned) (host : Host) (room : nat_lt (frames t) 200 ≡ true
   code_stands : (bytes : List ℕ) (c : ℕ) → BeginsWith bytes c → c == 123 ≡ false → StandsAs bytes There In
   code_stands [] c next other = absurd (omega (arith, ap length next.spell, length-append (encode_utf8 c) (drop (len_utf8 c) []), length-encode c, len_utf8_bounds c))
   code_stands (b ∷ rest) c next other = let at : IsFirstByte b c = first_byte c b (drop (len_utf8 c) (b ∷ rest)) rest next.scalar next.spell in
-      code_alike b (λ d first. first_other b d 123 first (omega arith)
-      (λ is. both_ways _ other (eq-eqb c 123 (first_low b c (omega (arith, is)) at ∙ is))))
+      code_alike b (λ d first. first_other b d 123 first (omega arith) (λ is. both_ways _ other (eq-eqb c 123 (first_low b c (omega (arith, is)) at ∙ is))))
 
 -- the sign with which bytes begin
 first_sign : (d : ℕ) (bytes : List ℕ) → d < 128 → begins (λ c. c == d) bytes ≡ true → BeginsWith bytes d
 first_sign d [] low is = absurd (both_ways _ refl is)
-first_sign d (b ∷ rest) low is = record {
-  scalar = low_scalar d (omega (arith, low));
-  spell = ap (λ x. x ++ drop (len_utf8 d) (b ∷ rest)) (encode_ascii d low) ∙ ap (λ n. d ∷ drop n (b ∷ rest)) (len_utf8_ascii d low) ∙ ap (λ x. x ∷ rest) (sym (eqb-true b d is));
-}
+first_sign d (b ∷ rest) low is =
+    let spell = ap (λ x. x ++ drop (len_utf8 d) (b ∷ rest)) (encode_ascii d low) ∙ ap (λ n. d ∷ drop n (b ∷ rest)) (len_utf8_ascii d low) ∙ ap (λ x. x ∷ rest) (sym (eqb-true b d is)) in
+    search (low_scalar d (omega (arith, low)), spell)
 
 -- a field is opened in a text of such a place
 module _ (old : Scan) (t : FieldScanned) (follow : Follows old t) (host : StringWithFields) (region : Region) (is : mode_from old.mode ≡ body (host_in host) (region_in region) false between) where
@@ -187,8 +183,7 @@ module _ (old : Scan) (t : FieldScanned) (follow : Follows old t) (host : String
 
   deep_literal : (bytes : List ℕ) (c : ℕ) → begins (λ c. c == 123) bytes ≡ true → BeginsWith (drop 1 bytes) c → c == 123 ≡ false → frames t ≡ 200 → IsWrongIn t bytes (record { kind = fault_kind.TooDeep; place = old.stop })
   deep_literal bytes c braced next other full = let at : FieldScanned = after_it t (host_in host) in
-      let because : cause_in (frames at) at.mode c ≡ brace_too_deep = rw (eq-eqb (frames t) 200 full) in
-      let braces = no_brace (host_in host) at.held c other in
+      let because : cause_in (frames at) at.mode c ≡ brace_too_deep = rw (eq-eqb (frames t) 200 full) in let braces = no_brace (host_in host) at.held c other in
       let spell : encode_utf8_all (123 ∷ []) ++ (encode_utf8 c ++ drop (len_utf8 c) (drop 1 bytes)) ≡ bytes =
       ap (λ x. encode_utf8_all (123 ∷ []) ++ x) next.spell ∙ ap (λ x. x ++ drop 1 bytes) (append-nil (encode_utf8 123)) ∙ (first_sign 123 bytes (omega arith) braced).spell in
       let one : IsOneItem t (123 ∷ c ∷ []) = (at, opened_literal.0, ap is_break_move braces, tt) in
@@ -237,8 +232,8 @@ opens_in old t follow host region bytes new x = go region x
 pub ends_over : (old : Scan) (t : FieldScanned) (bytes : List ℕ) (result : Progress) (new : Scan) → Follows old t → is_text old.mode ≡ true
     → field_move (mode_from old.mode) [] 125 ≡ ends_field → begins (λ c. c == 125) bytes ≡ true → EndsField old result new → ComesTo t bytes old result new
 unfolding has_room_at
-ends_over old t bytes result new follow text does braced ends = let in_text = text_open old t follow text in
-    let own = text_is t.mode in_text in
+ends_over old t bytes result new follow text does braced ends =
+    let in_text = text_open old t follow text in let own = text_is t.mode in_text in
     let bare_move : field_move t.mode [] 125 ≡ ends_field = ap (λ (m : FieldMode). field_move m [] 125) (sym follow.mode) ∙ does in
     let move : field_move t.mode t.held 125 ≡ ends_field = held_nothing t.mode t.held 125 in_text ∙ bare_move in
     let place : text_place t.mode ≡ specification = subst (StaysText (text_place t.mode)) bare_move (text_stays t.mode 125 in_text) in

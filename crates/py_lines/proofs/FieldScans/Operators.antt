@@ -125,13 +125,9 @@ module _ (old : Scan) (c : ℕ) (t : FieldScanned) (follow : Follows old t) (is 
   after_one = omega (arith, b.after, one_operator c starts_with)
 
   takes : (new made : Scan) (next : FieldScanned) → new ≡ made → field_operator t.outer Done t.openers c ≡ Some next → has_room_at (frames t) c breaks ≡ true → Follows made next → TakesOne t c old (progress.Going 1) new
-  takes new made next like same room follows = (
-    refl,
-    next,
-    steps t c breaks is next room (ap (field_started t.outer Done t.openers c) starts_with ∙ same),
-    goes_on t c breaks is (no_line_before t.mode c starts.Operator starts_with (λ other. absurd (cc))),
-    subst (λ (scan : Scan). Follows scan next) (sym like) follows,
-  )
+  takes new made next like same room follows = let step = steps t c breaks is next room (ap (field_started t.outer Done t.openers c) starts_with ∙ same) in
+      let on = goes_on t c breaks is (no_line_before t.mode c starts.Operator starts_with (λ other. absurd (cc))) in
+      (refl, next, step, on, subst (λ (scan : Scan). Follows scan next) (sym like) follows)
 
   -- it is refused
   wrongs : (kind : FaultKind) → room_step t c ≡ None → kind_of_cause (code_cause c) ≡ kind → TakesOne t c old (wrong_here old kind) old
@@ -161,8 +157,7 @@ module _ (old : Scan) (c : ℕ) (t : FieldScanned) (follow : Follows old t) (is 
 
   -- a sign is taken, whatever is open
   pub sign_passes : is_opening c ≡ false → is_closing c ≡ false → IsNoColon t.outer t.openers c → (new : Scan) → new ≡ passed old 1 → TakesOne t c old (progress.Going 1) new
-  sign_passes opens closes colon new like =
-      stays new old.frames t.openers like (others_keep t.openers c opens closes) colon (no_opening (frames t) c opens)
+  sign_passes opens closes colon new like = stays new old.frames t.openers like (others_keep t.openers c opens closes) colon (no_opening (frames t) c opens)
       (frames_alike t.outer Done (Done ++ piece operator (c ∷ []) ∷ []) t.openers old.frames (neutral_alike Done operator (c ∷ []) opens closes) b.frames)
 
   -- inside brackets, of which the innermost is known
@@ -214,8 +209,7 @@ module _ (old : Scan) (c : ℕ) (t : FieldScanned) (follow : Follows old t) (is 
 
     pub field_ends : c ≡ byte "}" → (result : Progress) (new : Scan) → (result ≡ progress.Going 1) × (new ≡ ended_in old field others) → TakesOne t c old result new
     unfolding is_opening code_operator
-    field_ends ends result new (going, like) = let text : List ℕ = i.level.front ++ (spelled Done ++ c ∷ []) in
-        rw going
+    field_ends ends result new (going, like) = let text : List ℕ = i.level.front ++ (spelled Done ++ c ∷ []) in rw going
         (takes new (ended_in old field others) (field_ended i.level i.outside text) like (in_code (Some (field_ended i.level i.outside text)) (rw (eq-eqb c (byte "}") ends)))
         (no_opening (frames t) c (ap is_opening ends)) (resumed old t.outer t.openers field others i text code_text))
 
@@ -224,8 +218,7 @@ module _ (old : Scan) (c : ℕ) (t : FieldScanned) (follow : Follows old t) (is 
     field_specifies ends specifies new like =
         takes new (record old { mode = opens.Fields field.host regions.Specification false; start = field.start; stop = old.stop + 1 })
         (field_state (i.level ∷ i.outside) [] [] (body i.level.host specification false between) (i.level.front ++ (spelled Done ++ c ∷ []))) like
-        (in_code _ (rw (ne_eqb c (byte "}") ends, eq-eqb c (byte ":") specifies))) (no_opening (frames t) c (ap is_opening specifies))
-        (record {
+        (in_code _ (rw (ne_eqb c (byte "}") ends, eq-eqb c (byte ":") specifies))) (no_opening (frames t) c (ap is_opening specifies)) (record {
           mode = ap (λ h. body h specification false between) i.at.host;
           holds = tt;
           no_list = (refl, refl, λ none. absurd (cc));
@@ -256,15 +249,11 @@ module _ (old : Scan) (c : ℕ) (t : FieldScanned) (follow : Follows old t) (is 
 
     -- it closes nothing
     pub closes_none : is_closing c ≡ true → ((others : List Frame) → ¬ (IsClosedBy old.frames c others)) → TakesOne t c old (wrong_here old kinds.WrongClose) old
-    closes_none closing wrong =
-        wrongs kinds.WrongClose
-        (by_innermost (room_step t c ≡ None) (λ none. none_shut none closing)
+    closes_none closing wrong = wrongs kinds.WrongClose (by_innermost (room_step t c ≡ None) (λ none. none_shut none closing)
         (λ opener spot others top. bracket_wrong opener spot others top closing (λ fits. wrong others (opener, spot, top, fits)))
-        (λ field others top. field_shuts_none field others top (apart field others top) closing))
-        (rw closing refl)
+        (λ field others top. field_shuts_none field others top (apart field others top) closing)) (rw closing refl)
 
     -- it is a sign
     pub sign_taken : is_opening c ≡ false → is_closing c ≡ false → (new : Scan) → new ≡ passed old 1 → TakesOne t c old (progress.Going 1) new
-    sign_taken opens closes =
-        sign_passes opens closes
+    sign_taken opens closes = sign_passes opens closes
         (by_innermost (IsNoColon t.outer t.openers c) colon_outside colon (λ field others top. colon_in_field field others top (apart field others top)))

@@ -40,11 +40,9 @@ pub record IsLaidOut (t : FieldScanned) : Type 0 where
 -- so it is wherever the scan keeps count
 levels_bare : (outer : List Level) (done : List Piece) (openers : List ℕ) (fs : List Frame) → FramesFollow outer done openers fs → AreBare outer
 levels_bare [] done openers fs follow = tt
-levels_bare (l ∷ ls) done openers fs (bs, field, others, stack, openers_are, frames_are, at) =
-    (at.bare, levels_bare ls l.done l.openers others at.round)
+levels_bare (l ∷ ls) done openers fs (bs, field, others, stack, openers_are, frames_are, at) = (at.bare, levels_bare ls l.done l.openers others at.round)
 
-body_whole : (host : Host) (place : Place) (named : Bool) (at : At) → (place ≡ specification → is_after_brace at ≡ false)
-    → IsWhole (body host place named at)
+body_whole : (host : Host) (place : Place) (named : Bool) (at : At) → (place ≡ specification → is_after_brace at ≡ false) → IsWhole (body host place named at)
 body_whole host literal named at fit = tt
 body_whole host specification named at fit = fit refl
 
@@ -53,12 +51,7 @@ mode_whole (opens.Fields h region named) = body_whole (host_in h) (region_in reg
 mode_whole m = tt
 
 pub follows_laid : (scan : Scan) (t : FieldScanned) → Follows scan t → IsLaidOut t
-follows_laid scan t follow = record {
-  holds = follow.holds;
-  no_list = follow.no_list;
-  whole = subst IsWhole follow.mode (mode_whole scan.mode);
-  bare = levels_bare t.outer t.done t.openers scan.frames follow.frames;
-}
+follows_laid scan t follow = search (follow, subst IsWhole follow.mode (mode_whole scan.mode), levels_bare t.outer t.done t.openers scan.frames follow.frames)
 
 -- a piece that grows stays so
 abbrev StaysWhole : FieldMove → Type 0
@@ -94,8 +87,7 @@ piece_at outer done openers class c bare = (
 
 -- back in the string of a field
 ended_at : (level : Level) (outer : List Level) (text : List ℕ) → AreBare (level ∷ outer) → IsLaidOut (field_ended level outer text)
-ended_at level outer text bare =
-    record { holds = tt; no_list = bare.0; whole = body_whole level.host level.place false between (λ is. refl); bare = bare.1 }
+ended_at level outer text bare = record { holds = tt; no_list = bare.0; whole = body_whole level.host level.place false between (λ is. refl); bare = bare.1 }
 
 -- an operator
 after_at : (outer : List Level) (done : List Piece) (c : ℕ) (o : Option (List ℕ)) → AreBare outer
@@ -132,8 +124,7 @@ specified_at : (outer : List Level) (done : List Piece) (held : List ℕ) (c : �
     → IsAt (byte_len (before specification outer ++ (spelled done ++ held)) + len_utf8 c) (specification_ended outer (held ++ c ∷ []))
 specified_at [] done held c none bare = tt
 specified_at (level ∷ outer) done held c none bare = (
-  sym (ap byte_len (append_assoc (before level.place outer) (spelled level.done) (held ++ c ∷ [])))
-      ∙ push_two (before specification (level ∷ outer)) held c
+  sym (ap byte_len (append_assoc (before level.place outer) (spelled level.done) (held ++ c ∷ []))) ∙ push_two (before specification (level ∷ outer)) held c
       ∙ ap (λ ps. byte_len (before specification (level ∷ outer) ++ (spelled ps ++ held)) + len_utf8 c) (sym none),
   ended_at level outer _ bare,
 )
@@ -144,12 +135,11 @@ whole_brace host specification named whole = absurd (both_ways _ whole refl)
 
 -- what each move comes to
 moved_at : (t : FieldScanned) (c : ℕ) (v : FieldMove) → IsLaidOut t → field_move t.mode t.held c ≡ v → IsAt (here t + len_utf8 c) (field_moved t c v)
-moved_at t c (grows n) laid is =
-    let so = said t.mode t.held c (grows n) laid.holds is in (
-      ap (λ p. byte_len (before p t.outer ++ (spelled t.done ++ (t.held ++ c ∷ [])))) so.place
-          ∙ push_three (before (text_place t.mode) t.outer) (spelled t.done) t.held c,
-      record { holds = so.holds; no_list = list_at t.mode n t.outer t.done t.openers so.place laid.no_list; whole = subst StaysWhole is (stays_whole t.mode t.held c); bare = laid.bare },
-    )
+moved_at t c (grows n) laid is = let so = said t.mode t.held c (grows n) laid.holds is in (
+  ap (λ p. byte_len (before p t.outer ++ (spelled t.done ++ (t.held ++ c ∷ [])))) so.place
+      ∙ push_three (before (text_place t.mode) t.outer) (spelled t.done) t.held c,
+  record { holds = so.holds; no_list = list_at t.mode n t.outer t.done t.openers so.place laid.no_list; whole = subst StaysWhole is (stays_whole t.mode t.held c); bare = laid.bare },
+)
 moved_at t c closes laid is =
     let so = said t.mode t.held c closes laid.holds is in
     let done : List Piece = t.done ++ piece (field_class_of t.mode) (t.held ++ c ∷ []) ∷ [] in (

@@ -102,9 +102,7 @@ passed_alike a b n m frames stop =
 over_sign : (scan : Scan) (front : List ℕ) (c : ℕ) → is_ascii_word c ≡ false → is_space c ≡ false
     → over_code scan (front ++ c ∷ []) ≡ passed scan (length front + 1)
 over_sign scan [] c word space = rw (word, space) refl
-over_sign scan (d ∷ ds) c word space =
-    let keeps = next_keeps scan d in
-    over_sign (code_next scan d) ds c word space
+over_sign scan (d ∷ ds) c word space = let keeps = next_keeps scan d in over_sign (code_next scan d) ds c word space
     ∙ passed_alike (code_next scan d) scan (length ds + 1) (length (d ∷ ds) + 1) keeps.frames (omega (arith, keeps.stop))
 
 operator_others : (c : ℕ) → is_operator c ≡ true → (is_ascii_word c ≡ false) × (is_quote c ≡ false) × (is_space c ≡ false)
@@ -167,8 +165,7 @@ module _ (scan : Scan) (t : FieldScanned) (c : ℕ) (follow : Follows scan t) (l
 
   -- the open piece grows
   grown : (mode : OpenMode) → field_move t.mode t.held c ≡ grows (mode_from mode) → text_place (mode_from mode) ≡ literal → text_place t.mode ≡ literal → HasQuote mode → Next t c (record scan { mode = mode; stop = scan.stop + 1 })
-  grown mode is to from quote =
-      let (step, at) = stands_grown t scan.frames scan.start scan.stop (stands_at scan t follow from) c (mode_from mode) is to in
+  grown mode is to from quote = let (step, at) = stands_grown t scan.frames scan.start scan.stop (stands_at scan t follow from) c (mode_from mode) is to in
       let holds = (said t.mode t.held c (grows (mode_from mode)) follow.holds is).holds in
       subst (λ (n : ℕ). Next t c (record scan { mode = mode; stop = scan.stop + n })) one (_, step, follows_at _ scan.frames scan.start (scan.stop + len_utf8 c) mode at refl holds quote)
 
@@ -205,34 +202,29 @@ module _ (scan : Scan) (t : FieldScanned) (c : ℕ) (follow : Follows scan t) wh
   at : (n : OpenMode) → scan.mode ≡ n → mode_from n ≡ t.mode
   at n same = sym (ap mode_from same) ∙ follow.mode
 
-  meets : (m : Mode) → plain m ≡ t.mode → is_code_mode m ≡ true → is_quote c ≡ false → (v : FieldMove) → code_result m c ≡ v
-      → field_move t.mode t.held c ≡ v
+  meets : (m : Mode) → plain m ≡ t.mode → is_code_mode m ≡ true → is_quote c ≡ false → (v : FieldMove) → code_result m c ≡ v → field_move t.mode t.held c ≡ v
   meets m mode simple none v is = subst (λ k. field_move k t.held c ≡ v) mode (code_results m t.held c simple none ∙ is)
 
   word_begins : is_ascii_word c ≡ true → (m : Mode) → plain m ≡ t.mode → is_code_mode m ≡ true → code_result m c ≡ breaks
       → Next t c (begun_at scan (opens.Word (first_spelling c)) 1)
-  word_begins h m mode simple ends =
-      let so = start-word c (word_starts c h) in
+  word_begins h m mode simple ends = let so = start-word c (word_starts c h) in
       begun scan t c follow (word_byte_low c h) (modes.Word (first_spelling c)) (opens.Word (first_spelling c)) refl (meets m mode simple (word_is c h).1 breaks ends)
       (ap text_place (sym mode)) so (subst (StartHolds c) so (start_holds c)) tt
 
   words : (n : OpenMode) → scan.mode ≡ n → is_code_open n ≡ true → is_ascii_word c ≡ true → Next t c (word_next n scan c)
-  words (opens.Word s) same some h =
-      let mode = at (opens.Word s) same in
+  words (opens.Word s) same some h = let mode = at (opens.Word s) same in
       grown scan t c follow (word_byte_low c h) (opens.Word (spelling_with s c)) (meets (modes.Word s) mode refl (word_is c h).1 _ (rw (word_is c h).0 refl)) refl
       (ap text_place (sym mode)) tt
   words opens.Free same some h = word_begins h modes.Free (at opens.Free same) refl refl
   words opens.Space same some h = word_begins h modes.Space (at opens.Space same) refl (rw (word_is c h).2 refl)
   words n same some h = absurd (both_ways _ refl some)
 
-  space_begins : is_space c ≡ true → (m : Mode) → plain m ≡ t.mode → is_code_mode m ≡ true → code_result m c ≡ breaks
-      → Next t c (begun_at scan opens.Space 1)
+  space_begins : is_space c ≡ true → (m : Mode) → plain m ≡ t.mode → is_code_mode m ≡ true → code_result m c ≡ breaks → Next t c (begun_at scan opens.Space 1)
   space_begins h m mode simple ends =
       begun scan t c follow (space_low c h) modes.Space opens.Space refl (meets m mode simple (space_is c h).1 breaks ends) (ap text_place (sym mode)) (start-space c h) tt tt
 
   spaces : (n : OpenMode) → scan.mode ≡ n → is_code_open n ≡ true → is_space c ≡ true → Next t c (space_next n scan)
-  spaces opens.Space same some h =
-      let mode = at opens.Space same in
+  spaces opens.Space same some h = let mode = at opens.Space same in
       subst (λ (k : OpenMode). Next t c (record scan { mode = k; stop = scan.stop + 1 })) (sym same)
       (grown scan t c follow (space_low c h) opens.Space (meets modes.Space mode refl (space_is c h).1 _ (rw h refl)) refl (ap text_place (sym mode)) tt)
   spaces opens.Free same some h = space_begins h modes.Free (at opens.Free same) refl refl
@@ -242,8 +234,7 @@ module _ (scan : Scan) (t : FieldScanned) (c : ℕ) (follow : Follows scan t) wh
   operator_ends : (n : OpenMode) → scan.mode ≡ n → is_code_open n ≡ true → is_operator c ≡ true → field_move t.mode t.held c ≡ breaks
   operator_ends opens.Free same some h = meets modes.Free (at opens.Free same) refl (operator_is c h).1 breaks refl
   operator_ends opens.Space same some h = meets modes.Space (at opens.Space same) refl (operator_is c h).1 breaks (rw (operator_is c h).2 refl)
-  operator_ends (opens.Word s) same some h =
-      meets (modes.Word s) (at (opens.Word s) same) refl (operator_is c h).1 breaks (rw (operator_is c h).0 refl)
+  operator_ends (opens.Word s) same some h = meets (modes.Word s) (at (opens.Word s) same) refl (operator_is c h).1 breaks (rw (operator_is c h).0 refl)
   operator_ends n same some h = absurd (both_ways _ refl some)
 
   signs : is_code_open scan.mode ≡ true → (is_operator c ≡ true) × (is_opening c ≡ false) × (is_closing c ≡ false) → IsNoColon t.outer t.openers c
@@ -272,8 +263,7 @@ code_run passes fs by scan t (c ∷ cs) same code follow all =
     let parts = and_parts (passes c) (list_all passes cs) all in let is = by c parts.0 in
     let inside = fields_alike t.outer t.done t.openers scan.frames follow.frames in
     let (u, step, follows) = code_one scan t c follow code is.0 (no_colon_in t.outer t.openers c (ap (λ b. b && (c == 58)) (sym inside ∙ ap has_field same) ∙ is.1)) in
-    let keeps = next_keeps scan c in let later = code_run passes fs by (code_next scan c) u cs (keeps.frames ∙ same) keeps.code follows parts.1 in
-    record {
+    let keeps = next_keeps scan c in let later = code_run passes fs by (code_next scan c) u cs (keeps.frames ∙ same) keeps.code follows parts.1 in record {
       to = later.to;
       goes = (follows_open scan t follow, u, step.0, step.1, later.goes);
       follows = later.follows;
@@ -285,8 +275,7 @@ code_run passes fs by scan t (c ∷ cs) same code follow all =
 -- the scan takes the first bytes so, where no field is open
 pub plain_low : (c : ℕ) → is_plain c ≡ true → c < 128
 unfolding is_plain
-plain_low c h =
-    ⊎_elim (word_byte_low c)
+plain_low c h = ⊎_elim (word_byte_low c)
     (λ others. ⊎_elim (space_low c) (λ signs. operator_ascii c (and_parts (is_operator c) (not (is_opening c || is_closing c)) signs).0) (or_cases (is_space c) _ others))
     (or_cases (is_ascii_word c) _ h)
 
@@ -295,10 +284,6 @@ pub code_takes : (scan : Scan) (bytes : List ℕ) (len : ℕ) → has_field scan
 code_takes scan bytes len outside code run t follow =
     let cs = take len bytes in let all : list_all is_plain cs ≡ true = all_pass is_plain bytes len run.within run.each in
     let encoded = low_encodes is_plain cs plain_low all in
-    let r = code_run is_plain scan.frames (λ c h. (h, ap (λ b. b && (c == 58)) outside)) scan t cs refl code follow all in record {
-      run = cs;
-      spell = ap (λ x. x ++ drop len bytes) encoded.0 ∙ take-append-drop len bytes;
-      scalars = encoded.1;
-      size = ap length encoded.0 ∙ length-take-le len bytes run.within;
-      comes = comes_exact t r.to cs (over_code scan cs) (drop len bytes) r.goes r.follows;
-    }
+    let r = code_run is_plain scan.frames (λ c h. (h, ap (λ b. b && (c == 58)) outside)) scan t cs refl code follow all in
+    let spell = ap (λ x. x ++ drop len bytes) encoded.0 ∙ take-append-drop len bytes in let size = ap length encoded.0 ∙ length-take-le len bytes run.within in
+    search (spell, encoded.1, size, comes_exact t r.to cs (over_code scan cs) (drop len bytes) r.goes r.follows)

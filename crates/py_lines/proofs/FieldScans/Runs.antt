@@ -6,7 +6,7 @@ use Rattle.std.specs.Prelude.{Some, encode_utf8_all}
 use Rattle.std.specs.Char.{len_utf8}
 use Rattle.std.specs.List.{list_all}
 use Rattle.std.specs.Str.{all_scalars}
-use Rattle.std.proofs.lemmas.Bool.{and_parts, and_right, both_ways}
+use Rattle.std.proofs.lemmas.Bool.{and_parts, and_right}
 use Rattle.std.proofs.lemmas.List.{length-take-le, take-take}
 use Rattle.py_lines.specs.Character.{is_quote}
 use Rattle.py_lines.specs.FieldStrings.{literal}
@@ -47,13 +47,9 @@ Stays m held c = (field_move m held c ≡ grows m) × HoldsCode m (held ++ c ∷
 -- so do those that stay in code, or in the text of a string without fields
 code_stays : (m : OpenMode) (held : List ℕ) (c : ℕ) → stays m c ≡ true → HoldsCode (mode_from m) held → Stays (mode_from m) held c
 unfolding field_move move_of short_move long_move spelling_with
-code_stays (opens.Word spellings.Name) held c h holds =
-    let is = word_is c h in (grind (arith, is.0, is.1), word_on spellings.Name held c holds is.0, refl)
-code_stays opens.Space held c h holds = (grind arith, tt, refl)
-code_stays opens.Comment held c h holds = (grind arith, tt, refl)
+code_stays (opens.Word spellings.Name) held c h holds = let is = word_is c h in (grind (arith, is.0, is.1), word_on spellings.Name held c holds is.0, refl)
 code_stays (opens.Short q) held c h holds = (grind (arith, body_parts q c h), tt, refl)
-code_stays (opens.Long q) held c h holds = (grind arith, tt, refl)
-code_stays m held c h holds = absurd (both_ways _ refl h)
+code_stays m held c h holds = grind arith
 
 -- and in a string's text
 text_stays_so : (h : StringWithFields) (region : Region) (named : Bool) (held : List ℕ) (c : ℕ) → is_literal_byte h.quote c ≡ true
@@ -68,8 +64,7 @@ with_text t run = field_state t.outer t.done t.openers t.mode (t.held ++ run)
 
 -- the scan follows over a run of such characters
 grown_ends : (m n : FieldMode) (c : ℕ) → is_line_ending m (grows n) c ≡ false
-grown_ends (plain modes.Return) n c = refl
-grown_ends m n c = refl
+grown_ends m n c = grind arith
 
 -- it follows over one
 module _ (scan : Scan) (t : FieldScanned) (c : ℕ) (follows : Follows scan t) (on : Stays t.mode t.held c) where
@@ -83,15 +78,7 @@ module _ (scan : Scan) (t : FieldScanned) (c : ℕ) (follows : Follows scan t) (
   no_end = ap (λ v. (frames t == 0) && is_line_ending t.mode v c) on.0 ∙ and_right (frames t == 0) _ (grown_ends t.mode t.mode c)
 
   follows_one : Follows (with_bytes scan (len_utf8 c)) next
-  follows_one = record {
-    mode = follows.mode;
-    holds = on.1;
-    no_list = follows.no_list;
-    quote = follows.quote;
-    start = follows.start;
-    frames = follows.frames;
-    stop = ap (λ (n : ℕ). n + len_utf8 c) follows.stop ∙ sym (push_three (before (text_place t.mode) t.outer) (spelled t.done) t.held c);
-  }
+  follows_one = search (follows, on.1, ap (λ (n : ℕ). n + len_utf8 c) follows.stop ∙ sym (push_three (before (text_place t.mode) t.outer) (spelled t.done) t.held c))
 
 -- and over a run of them
 follows_run : (passes : ℕ → Bool) (m : FieldMode) → ((held : List ℕ) (c : ℕ) → passes c ≡ true → HoldsCode m held → Stays m held c)
@@ -133,23 +120,15 @@ GoesFrom old run new = (t : FieldScanned) → Follows old t → (u : FieldScanne
 
 holds_run : (old new : Scan) (bytes : List ℕ) (n : ℕ) (run : List ℕ) → Spells bytes n run → GoesFrom old run new → HoldsField old bytes n new
 holds_run old new bytes n run spells leads t follows =
-    let (u, goes, keeps, after) = leads t follows in (
-      record {
-        run = run;
-        spell = ap (λ (t : List ℕ). t ++ drop n bytes) spells.spell ∙ take-append-drop n bytes;
-        scalars = spells.scalars;
-        size = ap length spells.spell ∙ length-take-le n bytes spells.within;
-        comes = comes_exact t u run new (drop n bytes) goes after;
-      },
-      keeps,
-    )
+    let (u, goes, keeps, after) = leads t follows in
+    let spell = ap (λ (t : List ℕ). t ++ drop n bytes) spells.spell ∙ take-append-drop n bytes in
+    (search (spell, spells.scalars, size_of bytes n run spells, comes_exact t u run new (drop n bytes) goes after), keeps)
 
 -- characters that leave what is open as it is
 holds_on : (scan : Scan) (bytes : List ℕ) (n : ℕ) (run : List ℕ) (passes : ℕ → Bool) → Spells bytes n run → list_all passes run ≡ true
     → ((held : List ℕ) (c : ℕ) → passes c ≡ true → HoldsCode (mode_from scan.mode) held → Stays (mode_from scan.mode) held c)
     → HoldsField scan bytes n (with_bytes scan n)
-holds_on scan bytes n run passes spells all by =
-    holds_run scan (with_bytes scan n) bytes n run spells (λ t follows.
+holds_on scan bytes n run passes spells all by = holds_run scan (with_bytes scan n) bytes n run spells (λ t follows.
     let (goes, keeps, after) = follows_run passes (mode_from scan.mode) by scan t run all (sym follows.mode) follows in
     (with_text t run, goes, keeps, subst (λ (k : ℕ). Follows (with_bytes scan k) (with_text t run)) (size_of bytes n run spells) after))
 
@@ -179,20 +158,15 @@ holds_text scan h bytes n mode quotes room text =
     let l : Level = record { done = t.done; openers = t.openers; host = host_in h; place = literal; front = [] } in
     let few : length t.openers + levels_open t.outer ≤ 100 = omega (arith, room, frames-length t.outer t.done t.openers scan.frames follows.frames) in
     let (u, goes, keeps, (held, ends)) = text.1.goes t.outer l t refl quotes few (t.held, is) in let own = subst (Follows scan) is follows in
-    let stop : scan.stop + n ≡ here u = omega (arith, follows.stop, here_on t u (take n bytes) (follows_laid scan t follows) goes, size_of bytes n (take n bytes) spells) in (
-      u,
-      goes,
-      keeps,
-      subst (Follows (with_bytes scan n)) (sym ends)
-          (record { mode = own.mode; holds = tt; no_list = own.no_list; quote = own.quote; start = own.start; frames = own.frames; stop = stop ∙ ap here ends }),
-    ))
+    let stop : scan.stop + n ≡ here u = omega (arith, follows.stop, here_on t u (take n bytes) (follows_laid scan t follows) goes, size_of bytes n (take n bytes) spells) in
+    let further : Follows (with_bytes scan n) _ = record { mode = own.mode; holds = tt; no_list = own.no_list; quote = own.quote; start = own.start; frames = own.frames; stop = stop ∙ ap here ends } in
+    (u, goes, keeps, subst (Follows (with_bytes scan n)) (sym ends) further))
 
 -- where no piece is open, none begins before where the scan stops
 pub free_start : (scan : Scan) (t : FieldScanned) → Follows scan t → scan.mode ≡ opens.Free → Follows (passed scan 0) t
 free_start scan t follows free =
     let mode : plain modes.Free ≡ t.mode = ap mode_from (sym free) ∙ follows.mode in
-    let none : t.held ≡ [] = subst (λ (m : FieldMode). HoldsCode m t.held) (sym mode) follows.holds in
-    let far : scan.stop ≡ scan.stop + 0 = omega arith in
+    let none : t.held ≡ [] = subst (λ (m : FieldMode). HoldsCode m t.held) (sym mode) follows.holds in let far : scan.stop ≡ scan.stop + 0 = omega arith in
     let start : scan.start ≡ scan.stop + 0 =
     follows.start ∙ ap byte_len (sym (append-nil (before (text_place t.mode) t.outer ++ spelled t.done)) ∙ append_assoc _ (spelled t.done) [])
     ∙ ap (λ h. byte_len (before (text_place t.mode) t.outer ++ (spelled t.done ++ h))) (sym none) ∙ sym follows.stop ∙ far in
@@ -205,8 +179,7 @@ holds_code first bytes all zero free field run end = λ t follows.
     (record { run = []; spell = refl; scalars = refl; size = refl; comes = free_start first t follows free }, tt)
 holds_code first bytes all (suc n) free field run end =
     let len : ℕ = suc n in
-    let least : len ≤ all = omega (arith, end.0, length-take-le all bytes run.within) in
-    let short : len ≤ length bytes = omega (arith, least, run.within) in
+    let least : len ≤ all = omega (arith, end.0, length-take-le all bytes run.within) in let short : len ≤ length bytes = omega (arith, least, run.within) in
     let code : list_all is_code_byte (take len bytes) ≡ true = all_pass is_code_byte bytes len short (λ i early. run.each i (omega (arith, early, least))) in
     let same : over_code first (take len bytes) ≡ passed first len = ap (over_code first) (sym (take-take len all bytes least)) ∙ over_operator first (take all bytes) len end (omega arith) in
     holds_run first (passed first len) bytes len (take len bytes) (spells_ascii is_code_byte bytes len short (λ c h. plain_low c (code_plain c h).0) code) (λ t follows.

@@ -17,7 +17,7 @@ use Rattle.py_lines.specs.declared.mode.Mode.{Mode as OpenMode}
 use Rattle.py_lines.specs.declared.mode.Mode.TheVariants as opens
 use Rattle.py_lines.specs.declared.string_text.TextMove.{TextMove}
 use Rattle.py_lines.specs.declared.string_text.TextMove.TheVariants as text_moves
-use Rattle.py_lines.specs.Private.FieldMachine.{At, FieldMode, after_brace, after_name, after_slash, between, between_move, body, body_move, closing_move, escape_move, field_move, grows, is_barred_escape, text_place}
+use Rattle.py_lines.specs.Private.FieldMachine.{At, FieldMode, after_brace, after_name, after_slash, between, between_move, body, body_move, closing_move, escape_move, field_move, grows, is_barred_escape, text_place, refused}
 use Rattle.py_lines.specs.Private.Run.{BeginsWith}
 use Rattle.py_lines.specs.Private.Scan.{BreaksInText, DoesText, GrowsInText, HasQuote, IsTextAt, QuotesInText, TextAlike, TextAs, TextGoes, WaitsInText, WouldDo, escape_in, host_in, region_in, is_part_of_text, is_pending, is_text, mode_from, quotes_in}
 use Rattle.py_lines.proofs.Text.CharacterTests.{not_quote, the_one}
@@ -146,8 +146,7 @@ module _ (mode : OpenMode) (q : ℕ) (long : Bool) (text : (is_text mode ≡ tru
   own = mode_from mode
 
   escapes_other : (c : ℕ) (rest : List ℕ) → EscapesBy own c rest → c == 13 ≡ false → GrowsInText own (92 ∷ c ∷ rest) mode (if nat_lt c 128 then 2 else 1)
-  escapes_other c rest by other = cond_both (nat_lt c 128) 2 1 (GrowsInText own (92 ∷ c ∷ rest) mode)
-      (λ small. let to = by.low (ltb-true c 128 small) other in
+  escapes_other c rest by other = cond_both (nat_lt c 128) 2 1 (GrowsInText own (92 ∷ c ∷ rest) mode) (λ small. let to = by.low (ltb-true c 128 small) other in
       grows_low own to.0 mode (92 ∷ c ∷ []) rest text (and_from _ _ small refl) (omega arith) (slashed own, by.slash, (to.0, to.1, refl)) to.2)
       (λ wide. grows_low own (slashed own) mode (92 ∷ []) (c ∷ rest) text refl (omega arith) (slashed own, by.slash, refl) (by.wide (ltb-false c 128 wide)))
 
@@ -161,8 +160,7 @@ module _ (mode : OpenMode) (q : ℕ) (long : Bool) (text : (is_text mode ≡ tru
   escapes_so (c ∷ []) by = cond_both (c == 13) None (Some (if nat_lt c 128 then 2 else 1)) (Comes mode (92 ∷ c ∷ []))
       (λ same. rw (eqb-true c 13 same) (waits_low own (returned own) (92 ∷ 13 ∷ []) [] refl nothing_bad (goes_return c [] by same) (pending (92 ∷ 13 ∷ []) refl)))
       (escapes_other c [] by)
-  escapes_so (c ∷ d ∷ rest) by =
-      cond_both (c == 13) (if d == 10 then 3 else 2) (if nat_lt c 128 then 2 else 1) (GrowsInText own (92 ∷ c ∷ d ∷ rest) mode)
+  escapes_so (c ∷ d ∷ rest) by = cond_both (c == 13) (if d == 10 then 3 else 2) (if nat_lt c 128 then 2 else 1) (GrowsInText own (92 ∷ c ∷ d ∷ rest) mode)
       (λ same. rw (eqb-true c 13 same) (cond_both (d == 10) 3 2 (GrowsInText own (92 ∷ 13 ∷ d ∷ rest) mode)
       (λ feed. rw (eqb-true d 10 feed) (grows_low own own mode (92 ∷ 13 ∷ 10 ∷ []) rest text refl (omega arith)
       (slashed own, by.slash, (returned own, by.return (eqb-true c 13 same), (own, by.feed, refl))) (text_as-self rest own)))
@@ -180,15 +178,8 @@ escapes_come mode q long c (b ∷ rest) at quotes slash by = subst (λ (x : ℕ)
 pub grows_other : (mode : OpenMode) (q : ℕ) (long : Bool) (c : ℕ) (bytes : List ℕ) → is_quote q ≡ true → BeginsWith bytes c → c == q ≡ false → is_backslash c ≡ false → is_break c && not long ≡ false → IsTextAt (mode_from mode) q long (slice_index bytes 0) → GrowsInText (mode_from mode) bytes mode (len_utf8 c)
 grows_other mode q long c bytes quotes next other slash break at = let here = text_at (mode_from mode) q long bytes c next at in
     let goes : TextGoes (mode_from mode) (c ∷ []) (mode_from mode) = (mode_from mode, other_grows (mode_from mode) q long c here other slash break, refl) in
-    search (
-      (len_utf8_bounds c).0,
-      text_mode mode q long c here quotes,
-      ap (λ t. t ++ drop (len_utf8 c) bytes) (append-nil (encode_utf8 c)) ∙ next.spell,
-      and_from _ _ next.scalar refl,
-      byte_len-one c,
-      goes,
-      text_as-self (drop (len_utf8 c) bytes) (mode_from mode),
-    )
+    let spell = ap (λ t. t ++ drop (len_utf8 c) bytes) (append-nil (encode_utf8 c)) ∙ next.spell in let text = text_mode mode q long c here quotes in
+    search ((len_utf8_bounds c).0, text, spell, and_from _ _ next.scalar refl, byte_len-one c, goes, text_as-self (drop (len_utf8 c) bytes) (mode_from mode))
 
 -- In a string with fields: a `{` of the literal part, which bytes follow that tell no character, or another one
 module _ (h : StringWithFields) (quotes : is_quote h.quote ≡ true) where
@@ -252,12 +243,10 @@ module _ (h : StringWithFields) (region : Region) (named : Bool) (bytes : List �
 
   two_bytes : 2 ≤ length bytes → 92 ∷ slice_index bytes 1 ∷ drop 2 bytes ≡ bytes
   unfolding is_backslash
-  two_bytes some =
-      ap (λ t. 92 ∷ t) (sym (drop-cons bytes 1 0 some)) ∙ first_byte_at bytes 92 (the_one 92 (slice_index bytes 0) slash) (omega arith)
+  two_bytes some = ap (λ t. 92 ∷ t) (sym (drop-cons bytes 1 0 some)) ∙ first_byte_at bytes 92 (the_one 92 (slice_index bytes 0) slash) (omega arith)
 
   -- what doesn't tell yet
-  pending : (run : List ℕ) → is_part_of_text h.is_long h.quote run ≡ true
-      → (other : OpenMode) → mode_from other ≡ at between → is_pending other run ≡ true
+  pending : (run : List ℕ) → is_part_of_text h.is_long h.quote run ≡ true → (other : OpenMode) → mode_from other ≡ at between → is_pending other run ≡ true
   unfolding is_backslash
   pending run part other same = pending_text other (at between) h.quote h.is_long 0 run (refl, refl, refl, refl, refl) part same
 
@@ -273,18 +262,10 @@ module _ (h : StringWithFields) (region : Region) (named : Bool) (bytes : List �
   pub breaks_escape : 2 ≤ length bytes → is_brace (slice_index bytes 1) ≡ false → is_break (slice_index bytes 1) ≡ true
       → region ≡ regions.Specification → h.is_long ≡ false → BreaksInText (at between) bytes
   unfolding field_move body_move escape_move
-  breaks_escape some brace break same long = record {
-    run = 92 ∷ [];
-    c = slice_index bytes 1;
-    after = drop 2 bytes;
-    spell = two_bytes some;
-    first = inr refl;
-    breaking = break;
-    to = at after_slash;
-    goes = (at after_slash, goes, refl);
-    does = rw (brace, same, break, long) refl;
-    waits = waits_not (host_in h) (region_in region) named after_slash refl;
-  }
+  breaks_escape some brace break same long = let over : TextGoes (at between) (92 ∷ []) (at after_slash) = (at after_slash, goes, refl) in
+      let does : field_move (at after_slash) [] (slice_index bytes 1) ≡ refused = rw (brace, same, break, long) refl in
+      let run : List ℕ = 92 ∷ [] in let first : (run ≡ []) ⊎ (run ≡ 92 ∷ []) = inr refl in
+      search (two_bytes some, first, break, over, does, waits_not (host_in h) (region_in region) named after_slash refl)
 
   -- before `N`
   name_goes : h.is_raw ≡ false → field_move (at after_slash) [] 78 ≡ grows (at after_name)
@@ -302,8 +283,7 @@ module _ (h : StringWithFields) (region : Region) (named : Bool) (bytes : List �
 
   pub waits_name : 2 ≤ length bytes → length bytes < 3 → h.is_raw ≡ false → slice_index bytes 1 ≡ 78 → WaitsInText (at between) bytes
   unfolding is_backslash
-  waits_name some fewer raw name =
-      let spell : 92 ∷ 78 ∷ [] ≡ bytes = rw (← name, ← drop_all 2 bytes (omega (arith, fewer))) (two_bytes some) in
+  waits_name some fewer raw name = let spell : 92 ∷ 78 ∷ [] ≡ bytes = rw (← name, ← drop_all 2 bytes (omega (arith, fewer))) (two_bytes some) in
       subst (WaitsInText (at between)) spell (waits_low (at between) (at after_name) (92 ∷ 78 ∷ []) [] refl nothing_bad
       (at after_slash, goes, (at after_name, name_goes raw, refl)) (pending (92 ∷ 78 ∷ []) refl))
 

@@ -70,7 +70,6 @@ pub pending_text : (mode : OpenMode) (m : FieldMode) (quote : ℕ) (long : Bool)
 pending_text mode m quote long c run at part same = go mode (subst (λ x. IsTextAt x quote long c) (sym same) at)
   where
     go : (mode : OpenMode) → IsTextAt (mode_from mode) quote long c → is_pending mode run ≡ true
-    go (opens.Short q) at = grind arith
     go other at = grind arith
 
 -- what holds of the first byte holds of the character
@@ -101,8 +100,7 @@ pub record IsAtQuote (m : FieldMode) (quote : ℕ) (is : FieldMode) : Type 0 whe
 pub quote_closes : (m : FieldMode) (q : ℕ) → IsTextAt m q false q → IsAtQuote m q m
 unfolding field_move move_of body_move between_move
 quote_closes (plain (modes.Inside p)) q at = grind (arith, eq-eqb q p)
-quote_closes (body host literal named between) q at = grind (arith, eq-eqb q host.quote)
-quote_closes (body host specification named between) q at = grind (arith, eq-eqb q host.quote)
+quote_closes (body host place named between) q at = grind (arith, eq-eqb q host.quote)
 quote_closes m q at = grind arith
 
 pub record TakesQuotes (m : FieldMode) (quote : ℕ) : Type 0 where
@@ -113,8 +111,7 @@ pub record TakesQuotes (m : FieldMode) (quote : ℕ) : Type 0 where
 pub quotes_long : (m : FieldMode) (q : ℕ) → IsTextAt m q true q → TakesQuotes m q
 unfolding field_move move_of body_move between_move
 quotes_long (plain (modes.Long p)) q at = grind (arith, eq-eqb q p)
-quotes_long (body host literal named between) q at = grind (arith, eq-eqb q host.quote)
-quotes_long (body host specification named between) q at = grind (arith, eq-eqb q host.quote)
+quotes_long (body host place named between) q at = grind (arith, eq-eqb q host.quote)
 quotes_long m q at = grind arith
 
 -- before another byte than the quote they are as if they weren't there
@@ -126,23 +123,18 @@ quotes_apart (plain (modes.Long p)) q b at quotes other =
       plain_alike b (modes.LongTwo p) (modes.Long p) refl refl (λ c first. rw (none c first)),
     )
 quotes_apart (body host place named between) q b at quotes other =
-    let none : (c : ℕ) → IsFirstByte b c → c == host.quote ≡ false = λ c first. ap (λ (x : ℕ). c == x) at.0 ∙ first_other b c q first (quote_ascii q quotes) other in (
-      body_alike b host place named after_one refl (λ c first. rw (none c first)),
-      body_alike b host place named after_two refl (λ c first. rw (none c first)),
-    )
+    let none : (c : ℕ) → IsFirstByte b c → c == host.quote ≡ false = λ c first. ap (λ (x : ℕ). c == x) at.0 ∙ first_other b c q first (quote_ascii q quotes) other in
+    (body_alike b host place named after_one refl (λ c first. rw (none c first)), body_alike b host place named after_two refl (λ c first. rw (none c first)))
 quotes_apart m q b at quotes other = grind arith
 
 -- another character than quote, backslash and line end
 pub other_grows : (m : FieldMode) (q : ℕ) (long : Bool) (c : ℕ) → IsTextAt m q long c → c == q ≡ false → is_backslash c ≡ false → is_break c && not long ≡ false → field_move m [] c ≡ grows m
 unfolding field_move move_of short_move long_move body_move between_move
-other_grows (plain (modes.Inside p)) q long c at other slash break = grind arith
 other_grows m q long c at other slash break = grind arith
 
 -- a line end in a short string
 pub break_refused : (m : FieldMode) (q c : ℕ) → IsTextAt m q false c → is_quote q ≡ true → is_break c ≡ true → (field_move m [] c ≡ refused) × (is_waiting m ≡ false)
 unfolding field_move move_of short_move body_move between_move
-break_refused (plain (modes.Inside p)) q c at quotes break = grind (arith, break-not-others c break, not_quote c q quotes)
-break_refused (body host literal named between) q c at quotes break = grind (arith, break-not-others c break, not_quote c q quotes)
 break_refused m q c at quotes break = grind (arith, break-not-others c break, not_quote c q quotes)
 
 -- A backslash, and what this byte and others after it come to: a character of more bytes is as good as any other; CR may be the first of
@@ -169,28 +161,25 @@ pub record EscapesBy (m : FieldMode) (c : ℕ) (rest : List ℕ) : Type 0 where
 -- in a string without fields
 pub plain_escapes : (m : FieldMode) (q : ℕ) (long : Bool) (c : ℕ) (rest : List ℕ) → IsTextAt m q long 92 → is_quote q ≡ true → EscapesBy m c rest
 unfolding field_move move_of short_move long_move is_backslash is_return is_line_feed is_quote
-plain_escapes (plain (modes.Inside p)) q long c rest at quotes = let own : is_quote p ≡ true = ap is_quote at.0 ∙ quotes in
-    record {
-      slash = rw (not_quote 92 p own refl);
-      wide = λ high. plain_alike c (modes.Escape p) (modes.Inside p) refl refl (λ d first.
-          let is = first_high c d first high in let apart = high_apart d is in
-          rw (apart.return, high_other d p is (quote_ascii p own), apart.slash, apart.break) refl);
-      low = λ low other. (plain (modes.Inside p), rw other, text_as-self rest (plain (modes.Inside p)));
-      return = λ is. refl;
-      feed = refl;
-      no_feed = λ b other. plain_alike b (modes.EscapeReturn p) (modes.Inside p) refl refl (λ d first. rw (first_other b d 10 first (omega arith) other) refl);
-    }
-plain_escapes (plain (modes.Long p)) q long c rest at quotes = let own : is_quote p ≡ true = ap is_quote at.0 ∙ quotes in
-    record {
-      slash = rw (not_quote 92 p own refl);
-      wide = λ high. plain_alike c (modes.LongEscape p) (modes.Long p) refl refl (λ d first.
-          let is = first_high c d first high in
-          rw (high_other d p is (quote_ascii p own), (high_apart d is).slash) refl);
-      low = λ low other. (plain (modes.Long p), refl, text_as-self rest (plain (modes.Long p)));
-      return = λ is. refl;
-      feed = rw (not_quote 10 p own refl);
-      no_feed = λ b other. text_as-self (b ∷ []) (plain (modes.Long p));
-    }
+plain_escapes (plain (modes.Inside p)) q long c rest at quotes = let own : is_quote p ≡ true = ap is_quote at.0 ∙ quotes in record {
+  slash = rw (not_quote 92 p own refl);
+  wide = λ high. plain_alike c (modes.Escape p) (modes.Inside p) refl refl (λ d first.
+      let is = first_high c d first high in let apart = high_apart d is in
+      rw (apart.return, high_other d p is (quote_ascii p own), apart.slash, apart.break) refl);
+  low = λ low other. (plain (modes.Inside p), rw other, text_as-self rest (plain (modes.Inside p)));
+  return = λ is. refl;
+  feed = refl;
+  no_feed = λ b other. plain_alike b (modes.EscapeReturn p) (modes.Inside p) refl refl (λ d first. rw (first_other b d 10 first (omega arith) other) refl);
+}
+plain_escapes (plain (modes.Long p)) q long c rest at quotes = let own : is_quote p ≡ true = ap is_quote at.0 ∙ quotes in record {
+  slash = rw (not_quote 92 p own refl);
+  wide = λ high. plain_alike c (modes.LongEscape p) (modes.Long p) refl refl (λ d first.
+      let is = first_high c d first high in rw (high_other d p is (quote_ascii p own), (high_apart d is).slash) refl);
+  low = λ low other. (plain (modes.Long p), refl, text_as-self rest (plain (modes.Long p)));
+  return = λ is. refl;
+  feed = rw (not_quote 10 p own refl);
+  no_feed = λ b other. text_as-self (b ∷ []) (plain (modes.Long p));
+}
 plain_escapes (body host place named between) q long c rest at quotes = absurd (both_ways _ at.2 refl)
 plain_escapes m q long c rest at quotes = absurd at
 
@@ -212,8 +201,7 @@ wide_alike host place named d quotes is = let apart = high_apart d is in
 low_escaped : (host : Host) (place : Place) (named : Bool) (c : ℕ) (rest : List ℕ) → is_brace c ≡ false → is_barred_escape host place c ≡ false → is_return c ≡ false → HasNoName host c rest
     → (to : FieldMode) × (body_move host place named after_slash c ≡ grows to) × TextAs rest to (body host place named between)
 unfolding body_move escape_move
-low_escaped host place named c rest brace barred return named_so = ⊎_elim
-    (λ (is : names host c ≡ true). let (d, after, same, other) = named_so is in
+low_escaped host place named c rest brace barred return named_so = ⊎_elim (λ (is : names host c ≡ true). let (d, after, same, other) = named_so is in
     let alike = body_alike d host place named after_name refl (λ e first. rw (first_other d e 123 first (omega arith) other) refl) in
     (body host place named after_name, grind arith, subst (λ x. TextAs x (body host place named after_name) (body host place named between)) (sym same) alike))
     (λ (none : names host c ≡ false). (body host place named between, grind arith, text_as-self rest (body host place named between))) (cases_Bool (names host c))

@@ -28,14 +28,12 @@ comes_exact t u [] new rest goes follows = subst (Follows new) (sym goes) follow
 comes_exact t u (c ∷ cs) new rest goes follows = (u, goes, rests_exact new u rest follows)
 
 -- what a step takes
-over_some : (t u : FieldScanned) (run : List ℕ) (new : Scan) (rest : List ℕ) → 0 < byte_len run → Goes t run u → Rests new u rest
-    → ComesOver t run new rest
+over_some : (t u : FieldScanned) (run : List ℕ) (new : Scan) (rest : List ℕ) → 0 < byte_len run → Goes t run u → Rests new u rest → ComesOver t run new rest
 over_some t u [] new rest some goes rests = absurd (omega (arith, some))
 over_some t u (c ∷ cs) new rest some goes rests = (u, goes, rests)
 
 pub takes_step : (old new : Scan) (bytes : List ℕ) (len : ℕ) → Steps old bytes (progress.Going len) new → Takes old bytes len new
-takes_step old new bytes len steps = λ t follows.
-    let o : GoesOver t bytes len new = steps t follows in
+takes_step old new bytes len steps = λ t follows. let o : GoesOver t bytes len new = steps t follows in
     record { run = o.run; spell = o.spell; scalars = o.scalars; size = o.size; comes = over_some t o.to o.run new (drop len bytes) (omega (arith, o.size, o.some)) o.goes o.rests }
 
 -- and what is taken after it
@@ -43,8 +41,7 @@ module _ (new : Scan) (rest bytes : List ℕ) (t u : FieldScanned) where
   -- the machine stands there as the scan does
   comes_as : (run : List ℕ) → StandsAs bytes u t → all_scalars run ≡ true → encode_utf8_all run ++ rest ≡ bytes → ComesOver t run new rest
       → (v : FieldScanned) × Goes u run v × Rests new v rest
-  comes_as [] stands scalars spell follows =
-      (u, refl, record { as_if = t; follows = follows; stands = subst (λ bs. StandsAs bs u t) (sym spell) stands })
+  comes_as [] stands scalars spell follows = (u, refl, record { as_if = t; follows = follows; stands = subst (λ bs. StandsAs bs u t) (sym spell) stands })
   comes_as (c ∷ cs) stands scalars spell (v, goes, rests) = (v, goes_real u t v bytes (c ∷ cs) rest stands scalars spell (omega arith) goes, rests)
 
 pub takes_on : (old mid new : Scan) (bytes : List ℕ) (a b : ℕ) → Takes old bytes a mid → Takes mid (drop a bytes) b new → Takes old bytes (a + b) new
@@ -56,23 +53,17 @@ takes_on old mid new bytes a b first second t follows = by (first t follows)
     both : (run : List ℕ) → encode_utf8_all run ++ drop a bytes ≡ bytes → all_scalars run ≡ true → byte_len run ≡ a → (more : List ℕ)
         → encode_utf8_all more ++ drop b (drop a bytes) ≡ drop a bytes
         → all_scalars more ≡ true → byte_len more ≡ b → ComesOver t (run ++ more) new (drop b (drop a bytes)) → TakesFrom t bytes (a + b) new
-    both run spell scalars size more next_spell next_scalars next_size comes = record {
-      run = run ++ more;
-      spell = ap (λ x. encode_utf8_all (run ++ more) ++ x) (sym far) ∙ ap (λ x. x ++ drop b (drop a bytes)) (encodes-append run more)
-          ∙ append_assoc (encode_utf8_all run) (encode_utf8_all more) (drop b (drop a bytes)) ∙ ap (λ x. encode_utf8_all run ++ x) next_spell ∙ spell;
-      scalars = all_scalars-append run more scalars next_scalars;
-      size = omega (arith, byte_len-append run more, size, next_size);
-      comes = subst (ComesOver t (run ++ more) new) far comes;
-    }
+    both run spell scalars size more next_spell next_scalars next_size comes = let size_is : byte_len (run ++ more) ≡ a + b = omega (arith, byte_len-append run more, size, next_size) in
+        let spelled = ap (λ x. encode_utf8_all (run ++ more) ++ x) (sym far) ∙ ap (λ x. x ++ drop b (drop a bytes)) (encodes-append run more)
+        ∙ append_assoc (encode_utf8_all run) (encode_utf8_all more) (drop b (drop a bytes)) ∙ ap (λ x. encode_utf8_all run ++ x) next_spell ∙ spell in
+        search (spelled, all_scalars-append run more scalars next_scalars, size_is, subst (ComesOver t (run ++ more) new) far comes)
 
     by : TakesFrom t bytes a mid → TakesFrom t bytes (a + b) new
     by one = go one.run one.spell one.scalars one.size one.comes
       where
         go : (run : List ℕ) → encode_utf8_all run ++ drop a bytes ≡ bytes → all_scalars run ≡ true → byte_len run ≡ a
             → ComesOver t run mid (drop a bytes) → TakesFrom t bytes (a + b) new
-        go [] spell scalars size follows_mid =
-            let two = second t follows_mid in both [] spell scalars size two.run two.spell two.scalars two.size two.comes
-        go (c ∷ cs) spell scalars size (u, goes, rests) =
-            let two = second rests.as_if rests.follows in
+        go [] spell scalars size follows_mid = let two = second t follows_mid in both [] spell scalars size two.run two.spell two.scalars two.size two.comes
+        go (c ∷ cs) spell scalars size (u, goes, rests) = let two = second rests.as_if rests.follows in
             let (v, on, rested) = comes_as new (drop b (drop a bytes)) (drop a bytes) rests.as_if u two.run rests.stands two.scalars two.spell two.comes in
             both (c ∷ cs) spell scalars size two.run two.spell two.scalars two.size (v, goes-append t u v (c ∷ cs) two.run goes on, rested)

@@ -27,8 +27,7 @@ use Rattle.py_lines.specs.declared.frames.Frame.{Frame}
 use Rattle.py_lines.specs.Private.Run.{BeginsWith}
 use Rattle.py_lines.proofs.Text.CharacterTests.{operator_ascii, each_of}
 use Rattle.py_lines.proofs.Pieces.PieceLists.{piece, spelled-push}
-use Rattle.py_lines.proofs.Machine.Starts as begun_so
-use Rattle.py_lines.proofs.Machine.Starts.{StartsSo, opens_no, start-feed, start-return}
+use Rattle.py_lines.proofs.Machine.Starts.{StartsSo, starts_so, opens_no, start-feed, start-return}
 use Rattle.py_lines.proofs.FieldMachine.Runs.{room_grows, room_closes}
 use Rattle.py_lines.proofs.FieldScans.Bytes.{byte_len-one, push_two, push_three}
 use Rattle.py_lines.proofs.FieldScans.Frames.{frames_alike}
@@ -46,8 +45,9 @@ follows_open scan t follows = ap (λ b. b && (frames t == 0)) (ap is_return_at (
 ends_free : (b : ℕ) (outer : List Level) (done : List Piece) (openers : List ℕ) (m : FieldMode) (held : List ℕ) → m ≡ plain modes.Free → outer ≡ []
     → EndsThere b (field_state outer done openers m held) (field_state outer done openers m held)
 unfolding field_move move_of
-ends_free b outer done openers (plain modes.Free) held is none = record { outside = none; pieces = refl; ends = λ c first. refl; ending = refl }
-ends_free b outer done openers m held is none = absurd (cc)
+ends_free b outer done openers m held is none =
+    subst (λ x. EndsThere b (field_state outer done openers x held) (field_state outer done openers x held)) (sym is)
+    (record { outside = none; pieces = refl; ends = λ c first. refl; ending = refl })
 
 -- a state is as good as itself
 pub alike_self : (b : ℕ) (t : FieldScanned) → has_returned t ≡ false → GoAlike b t t
@@ -66,11 +66,7 @@ stands_more [] more t u open_yet same = subst (λ x. StandsAs more x u) (sym sam
 stands_more (b ∷ rest) more t u open_yet alike = alike
 
 pub rests_more : (scan : Scan) (t : FieldScanned) (rest more : List ℕ) → Rests scan t rest → Rests scan t (rest ++ more)
-rests_more scan t rest more rests = record {
-  as_if = rests.as_if;
-  follows = rests.follows;
-  stands = stands_more rest more t rests.as_if (follows_open scan rests.as_if rests.follows) rests.stands;
-}
+rests_more scan t rest more rests = search (rests.follows, stands_more rest more t rests.as_if (follows_open scan rests.as_if rests.follows) rests.stands)
 
 -- it stops where the machine is
 stands_here : (rest : List ℕ) (t u : FieldScanned) → StandsAs rest t u → here t ≡ here u
@@ -170,16 +166,9 @@ wrong_real t u bytes f stands w = let last = w.c ∷ [] in
     let spell_all : encode_utf8_all (w.run ++ last) ++ w.after ≡ bytes =
     ap (λ x. x ++ w.after) (encodes-append w.run last) ∙ append_assoc (encode_utf8_all w.run) (encode_utf8_all last) w.after
     ∙ ap (λ x. encode_utf8_all w.run ++ (x ++ w.after)) (append-nil (encode_utf8 w.c)) ∙ w.spell in
-    let at = next_real t u w.to bytes w.run w.after w.c stands w.scalars w.scalar w.spell w.goes in
-    let none : room_step at.at w.c ≡ None = at.step ∙ w.none in
-    search (
-      w,
-      at.goes,
-      one_real t u bytes (w.run ++ last) w.after stands (all_scalars-append w.run last w.scalars (and_from _ _ w.scalar refl)) spell_all w.one,
-      at.returns (not (is_line_feed w.c)) w.open_yet,
-      none,
-      at.fault none f w.fault,
-    )
+    let at = next_real t u w.to bytes w.run w.after w.c stands w.scalars w.scalar w.spell w.goes in let none : room_step at.at w.c ≡ None = at.step ∙ w.none in
+    let one = one_real t u bytes (w.run ++ last) w.after stands (all_scalars-append w.run last w.scalars (and_from _ _ w.scalar refl)) spell_all w.one in
+    search (w, at.goes, one, at.returns (not (is_line_feed w.c)) w.open_yet, none, at.fault none f w.fault)
 
 -- so what a step comes to
 pub comes_real : (old new : Scan) (bytes : List ℕ) (p : Progress) (t : FieldScanned) → 0 < length bytes → Rests old t bytes → Steps old bytes p new → ComesTo t bytes old p new
@@ -242,13 +231,11 @@ module _ (t : FieldScanned) (c : ℕ) (v : FieldMove) (is : field_move t.mode t.
 
 -- only CR with LF after it, and LF alone, end a line
 pub no_line_end : (m : FieldMode) (v : FieldMove) (c : ℕ) → (v ≡ closes → m ≡ plain modes.Return → ⊥) → (v ≡ breaks → is_line_feed c ≡ false) → is_line_ending m v c ≡ false
-no_line_end (plain modes.Return) closes c shuts feeds = absurd (shuts refl refl)
-no_line_end m breaks c shuts feeds = feeds refl
-no_line_end m v c shuts feeds = refl
+no_line_end m v c shuts feeds = grind arith
 
 -- what begins no line end is no LF
 pub no_line_before : (m : FieldMode) (c : ℕ) (x : Start) → start_of c ≡ x → (x ≡ starts.LineEnd → ⊥) → is_line_ending m breaks c ≡ false
-no_line_before m c x is other = no_line_end m breaks c (λ e. absurd (keeps_open breaks refl e)) (λ e. false_from_ne_true _ (λ feed. other (sym is ∙ begun_so.start-feed c feed)))
+no_line_before m c x is other = no_line_end m breaks c (λ e. absurd (keeps_open breaks refl e)) (λ e. false_from_ne_true _ (λ feed. other (sym is ∙ start-feed c feed)))
 
 pub line_before : (m : FieldMode) (c : ℕ) → is_line_feed c ≡ true → is_line_ending m breaks c ≡ true
 line_before m c feed = grind arith
@@ -274,7 +261,7 @@ no_opening depth c none = ap (λ b. not b || nat_lt depth 200) none
 
 -- an operator is one byte
 pub one_operator : (c : ℕ) → start_of c ≡ starts.Operator → len_utf8 c ≡ 1
-one_operator c is = len_utf8_ascii c (operator_ascii c (subst (StartsSo c) is (begun_so.starts_so c)))
+one_operator c is = len_utf8_ascii c (operator_ascii c (subst (StartsSo c) is (starts_so c)))
 
 -- Where the machine stands in code, or in the literal part of a string, these frames are open, and the open piece and its end are at
 -- these bytes.
@@ -300,13 +287,9 @@ module _ (t : FieldScanned) (fs : List Frame) (start stop : ℕ) (at : StandsAt 
   -- the open piece grows
   pub stands_grown : (m : FieldMode) → field_move t.mode t.held c ≡ grows m → text_place m ≡ literal
       → StepsOn t c (field_state t.outer t.done t.openers m (t.held ++ c ∷ [])) × StandsAt (field_state t.outer t.done t.openers m (t.held ++ c ∷ [])) fs start (stop + len_utf8 c)
-  stands_grown m is place = (
-    (
-      steps t c (grows m) is (field_state t.outer t.done t.openers m (t.held ++ c ∷ [])) (room_grows (frames t) c m) refl,
-      goes_on t c (grows m) is (no_line_end t.mode (grows m) c (λ e. absurd (cc)) (λ e. absurd (cc))),
-    ),
-    search (place, at, ap (λ (n : ℕ). n + len_utf8 c) at.ends ∙ sym (push_three (before literal t.outer) (spelled t.done) t.held c)),
-  )
+  stands_grown m is place = let on = goes_on t c (grows m) is (no_line_end t.mode (grows m) c (λ e. absurd (cc)) (λ e. absurd (cc))) in
+      let ends = ap (λ (n : ℕ). n + len_utf8 c) at.ends ∙ sym (push_three (before literal t.outer) (spelled t.done) t.held c) in
+      ((steps t c (grows m) is (field_state t.outer t.done t.openers m (t.held ++ c ∷ [])) (room_grows (frames t) c m) refl, on), search (place, at, ends))
 
   -- it closes
   abbrev pub Shut : FieldScanned
@@ -336,15 +319,11 @@ module _ (t : FieldScanned) (fs : List Frame) (start stop : ℕ) (at : StandsAt 
   Opening m = field_state t.outer (field_closed t.mode t.done t.held) t.openers (plain m) (c ∷ [])
 
   pub stands_begun : HoldsCode t.mode t.held → field_move t.mode t.held c ≡ breaks → (m : Mode) → start_of c ≡ starts.Open m → StepsOn t c (Opening m) × StandsAt (Opening m) fs stop (stop + len_utf8 c)
-  stands_begun holds is m starts_with =
-      let b = broken holds is in (
-        (
-          steps t c breaks is (Opening m) (no_opening (frames t) c (opens_no c (starts.Open m) starts_with (λ other. absurd (cc))))
-              (ap (field_started t.outer (field_closed t.mode t.done t.held) t.openers c) starts_with),
-          goes_on t c breaks is (no_line_before t.mode c (starts.Open m) starts_with (λ other. absurd (cc))),
-        ),
-        search (b, ap (λ (n : ℕ). n + len_utf8 c) b.after ∙ sym (push_two (before literal t.outer) (spelled (field_closed t.mode t.done t.held)) c)),
-      )
+  stands_begun holds is m starts_with = let b = broken holds is in
+      let step = steps t c breaks is (Opening m) (no_opening (frames t) c (opens_no c (starts.Open m) starts_with (λ other. absurd (cc))))
+      (ap (field_started t.outer (field_closed t.mode t.done t.held) t.openers c) starts_with) in
+      let ends = ap (λ (n : ℕ). n + len_utf8 c) b.after ∙ sym (push_two (before literal t.outer) (spelled (field_closed t.mode t.done t.held)) c) in
+      ((step, goes_on t c breaks is (no_line_before t.mode c (starts.Open m) starts_with (λ other. absurd (cc)))), search (b, ends))
 
 -- one character with which the bytes begin is taken
 pub over_one : (t u : FieldScanned) (c : ℕ) (bytes : List ℕ) (new : Scan) → BeginsWith bytes c → has_returned t ≡ false → StepsOn t c u → Rests new u (drop (len_utf8 c) bytes) → GoesOver t bytes (len_utf8 c) new
@@ -353,20 +332,9 @@ over_one t u c bytes new first open_yet step rests = let goes : Goes t (c ∷ []
 
 -- or it is refused
 pub wrong_at : (t : FieldScanned) (c : ℕ) (bytes : List ℕ) (line_fault : LineFault) → BeginsWith bytes c → has_returned t ≡ false → room_step t c ≡ None → IsFieldFault t c line_fault → IsWrongIn t bytes line_fault
-wrong_at t c bytes line_fault first open_yet none fault = record {
-  run = [];
-  c = c;
-  after = drop (len_utf8 c) bytes;
-  spell = first.spell;
-  scalars = refl;
-  scalar = first.scalar;
-  to = t;
-  goes = refl;
-  one = tt;
-  open_yet = ap (λ b. b && not (is_line_feed c)) open_yet;
-  none = none;
-  fault = fault;
-}
+wrong_at t c bytes line_fault first open_yet none fault =
+    let goes : Goes t [] t = refl in let scalars : all_scalars [] ≡ true = refl in
+    search (first, scalars, goes, ap (λ b. b && not (is_line_feed c)) open_yet, none, fault)
 
 -- what one byte comes to that ends no line
 pub one_comes : (t : FieldScanned) (c : ℕ) (bytes : List ℕ) (old new : Scan) (p : Progress) → BeginsWith bytes c → len_utf8 c ≡ 1 → Follows old t → TakesOne t c old p new → ComesTo t bytes old p new
@@ -392,11 +360,10 @@ IsTaken other = ⊥
 
 pub break_starts : (c : ℕ) → is_break c ≡ true → IsTaken (start_of c) × (is_opening c ≡ false)
 unfolding is_break is_line_feed is_return
-break_starts c h =
-    each_of (λ x. IsTaken (start_of x) × (is_opening x ≡ false)) (10 ∷ 13 ∷ []) c (
-      (subst IsTaken (sym (start-feed 10 refl)) tt, opens_no 10 starts.LineEnd (start-feed 10 refl) (λ is. cc)),
-      ((subst IsTaken (sym (start-return 13 refl)) tt, opens_no 13 (starts.Open modes.Return) (start-return 13 refl) (λ is. cc)), tt),
-    ) h
+break_starts c h = each_of (λ x. IsTaken (start_of x) × (is_opening x ≡ false)) (10 ∷ 13 ∷ []) c (
+  (subst IsTaken (sym (start-feed 10 refl)) tt, opens_no 10 starts.LineEnd (start-feed 10 refl) (λ is. cc)),
+  ((subst IsTaken (sym (start-return 13 refl)) tt, opens_no 13 (starts.Open modes.Return) (start-return 13 refl) (λ is. cc)), tt),
+) h
 
 taken_some : (outer : List Level) (done : List Piece) (openers : List ℕ) (c : ℕ) (x : Start) → IsTaken x → field_started outer done openers c x ≡ None → ⊥
 taken_some outer done openers c x taken none = grind arith
@@ -422,10 +389,8 @@ module _ (b : ℕ) (t : FieldScanned) (may : is_ending t.mode ≡ true) (holds :
   -- no line end is refused
   pub no_break : (c : ℕ) → IsFirstByte b c → room_step t c ≡ None → is_break c ≡ false
   unfolding has_room_at
-  no_break c first none =
-      false_from_ne_true _ (λ break.
-      let starts_so = break_starts c break in
-      taken_some t.outer (field_pieces t) t.openers c (start_of c) starts_so.0 (sym (leads_to c first ∙ rw starts_so.1 refl) ∙ none))
+  no_break c first none = false_from_ne_true _ (λ break. let fits = break_starts c break in
+      taken_some t.outer (field_pieces t) t.openers c (start_of c) fits.0 (sym (leads_to c first ∙ rw fits.1 refl) ∙ none))
 
   -- the place of the fault
   place_same : (c depth : ℕ) → is_break c ≡ false → cause_place U (cause_in depth U.mode c) ≡ cause_place t (cause_in depth U.mode c)
@@ -436,8 +401,7 @@ module _ (b : ℕ) (t : FieldScanned) (may : is_ending t.mode ≡ true) (holds :
     here_is = here_same;
     open_yet = open_yet;
     step = λ c first. leads_to c first ∙ sym (ap (λ v. roomy (has_room_at (frames t) c v) (field_moved U c v)) (free_breaks c));
-    ending = λ c first.
-        ap (λ v. (frames t == 0) && is_line_ending t.mode v c) (ends c first) ∙ ap (λ x. (frames t == 0) && x) (ending_breaks t.mode c)
+    ending = λ c first. ap (λ v. (frames t == 0) && is_line_ending t.mode v c) (ends c first) ∙ ap (λ x. (frames t == 0) && x) (ending_breaks t.mode c)
         ∙ sym (ap (λ v. (frames t == 0) && is_line_ending U.mode v c) (free_breaks c));
     fault = λ c first none f is.
         let same : cause_in (frames t) U.mode c ≡ cause_in (frames t) t.mode c = sym (ending_cause t.mode (frames t) c may) in (

@@ -1,17 +1,17 @@
 -- How the machine with fields goes through the text of a string: its mode alone tells what a character does, and it alone changes, with the
 -- text that the string holds. And what the items of the text come to for the scan: it goes on, closes the string, waits, or finds a fault.
 -- What opens and ends a field there stands in Openings.
-use Rattle.std.proofs.Common.{◌≡◌, ℕ, Bool, true, false, ◌==◌, ◌&&◌, Some, List, [], ◌∷◌, ◌++◌, refl, sym, ap, ◌∙◌, subst, append-nil, append_assoc, ◌+◌, ◌<◌, inl, inr, ◌⊎◌, not, drop, length, length-append, arith}
+use Rattle.std.proofs.Common.{◌≡◌, ℕ, Bool, true, false, ◌==◌, eqb, ◌&&◌, Some, List, [], ◌∷◌, ◌++◌, refl, sym, ap, ◌∙◌, subst, append-nil, append_assoc, ◌+◌, ◌<◌, inl, inr, ◌⊎◌, not, drop, length, length-append, arith}
 use Rattle.std.specs.Prelude.{encode_utf8, encode_utf8_all}
-use Rattle.std.proofs.lemmas.Bool.{both_ways, and_from}
-use Rattle.py_lines.specs.Character.{is_break, is_line_feed, is_quote}
+use Rattle.std.proofs.lemmas.Bool.{both_ways, and_from, cond_both}
+use Rattle.py_lines.specs.Character.{is_backslash, is_break, is_line_feed, is_quote, is_return}
 use Rattle.py_lines.specs.Piece.{Piece, spelled, string}
 use Rattle.py_lines.specs.Faults.{Cause, breaks_string, ends_specification, kind_of_cause}
 use Rattle.py_lines.specs.FieldStrings.{Host, Place, literal, specification}
 use Rattle.py_lines.specs.LogicalLine.{byte_len}
 use Rattle.py_lines.specs.Private.Mode as modes
-use Rattle.py_lines.specs.Private.Machine.{move_of, short_move, long_move, Move as moves}
-use Rattle.py_lines.specs.Private.FieldMachine.{At, FieldMode, FieldMove, FieldScanned, Level, plain, body, grows, closes, breaks, ends_field, before, field_class_of, field_closed, field_move, field_moved, field_state, frames, has_room_at, room_step, roomy, text_place, refused}
+use Rattle.py_lines.specs.Private.Machine.{move_of, short_move, long_move, Move}
+use Rattle.py_lines.specs.Private.FieldMachine.{At, plain_move, FieldMode, FieldMove, FieldScanned, Level, plain, body, grows, closes, breaks, ends_field, before, field_class_of, field_closed, field_move, field_moved, field_state, frames, has_room_at, room_step, roomy, text_place, refused}
 use Rattle.py_lines.specs.Private.FieldFaults.{cause_in, cause_place, here, field_start}
 use Rattle.py_lines.specs.Private.Scan.{GoAlike, Goes, IsFirstByte, IsOneItem, StandsAs, TextAs, TextGoes, is_break_move, is_line_ending, is_return_at, is_shut, is_text, mode_from, BreaksInText, Follows, GoesOver, GoesOverAll, GrowsInText, HasPending, HasQuote, HoldsCode, IsFieldFault, IsWrongIn, QuotesInText, Rests, WaitsInText, has_returned, passed}
 use Rattle.py_lines.specs.declared.mode.Mode.{Mode as OpenMode}
@@ -79,11 +79,30 @@ StaysText place other = Unit {0}
 body_stays : (host : Host) (place : Place) (named : Bool) (at : At) (c : ℕ) (v : FieldMove) → BodyMoved host place named at c v → StaysText place v
 body_stays host place named at c v moved = grind arith
 
+abbrev StaysPlain : Move → Type 0
+StaysPlain v = StaysText literal (plain_move v)
+
+short_stays : (q c : ℕ) → StaysPlain (short_move q c)
+unfolding short_move
+short_stays q c = cond_both (is_backslash c) _ _ StaysPlain (λ h. (tt, refl)) (λ h. cond_both (is_break c) _ _ StaysPlain (λ k. tt) (λ k. (tt, refl)))
+
+long_stays : (q c : ℕ) → StaysPlain (long_move q c)
+unfolding long_move
+long_stays q c = cond_both (is_backslash c) _ _ StaysPlain (λ h. (tt, refl)) (λ h. (tt, refl))
+
 pub text_stays : (m : FieldMode) (c : ℕ) → InText m → StaysText (text_place m) (field_move m [] c)
-unfolding field_move move_of short_move long_move
+unfolding field_move move_of
 text_stays (body host place named at) c in_text =
     body_stays host place named at c (field_move (body host place named at) [] c) (body_moved host place named at [] c)
-text_stays m c in_text = grind arith
+text_stays (plain (modes.Inside q)) c in_text = cond_both (eqb c q) _ _ StaysPlain (λ h. refl) (λ h. short_stays q c)
+text_stays (plain (modes.Escape q)) c in_text = cond_both (is_return c) _ _ StaysPlain (λ h. (tt, refl)) (λ h. (tt, refl))
+text_stays (plain (modes.EscapeReturn q)) c in_text =
+    cond_both (is_line_feed c) _ _ StaysPlain (λ h. (tt, refl)) (λ h. cond_both (eqb c q) _ _ StaysPlain (λ k. refl) (λ k. short_stays q c))
+text_stays (plain (modes.Long q)) c in_text = cond_both (eqb c q) _ _ StaysPlain (λ h. (tt, refl)) (λ h. long_stays q c)
+text_stays (plain (modes.LongOne q)) c in_text = cond_both (eqb c q) _ _ StaysPlain (λ h. (tt, refl)) (λ h. long_stays q c)
+text_stays (plain (modes.LongTwo q)) c in_text = cond_both (eqb c q) _ _ StaysPlain (λ h. refl) (λ h. long_stays q c)
+text_stays (plain (modes.LongEscape q)) c in_text = (tt, refl)
+text_stays m c in_text = absurd in_text
 
 no_break : (m : FieldMode) (held : List ℕ) (c : ℕ) → InText m → is_break_move (field_move m held c) ≡ false
 no_break m held c in_text = ap is_break_move (held_nothing m held c in_text) ∙ by (field_move m [] c) (text_stays m c in_text)
@@ -109,21 +128,15 @@ module _ (outer : List Level) (done : List Piece) (openers : List ℕ) (n : Fiel
     pub place : text_place n ≡ text_place m
 
   pub text_way : (m : FieldMode) (held run : List ℕ) → InText m → TextGoes m run n → TextWay m held run
-  text_way m held [] in_text same = record {
-    goes = ap (λ x. In x held) same ∙ ap (In n) (sym (append-nil held));
-    one = tt;
-    one_then = λ c. tt;
-    in_text = subst InText same in_text;
-    place = ap text_place (sym same);
-  }
+  text_way m held [] in_text same =
+      record { goes = ap (λ x. In x held) same ∙ ap (In n) (sym (append-nil held)); one = tt; one_then = λ c. tt; in_text = rw same at in_text; place = ap text_place (sym same) }
   text_way m held (c ∷ cs) in_text (next, is, goes) = let t : FieldScanned = In m held in let u : FieldScanned = In next (held ++ c ∷ []) in
       let move : field_move m held c ≡ grows next = held_nothing m held c in_text ∙ is in
       let k : InText next × (text_place next ≡ text_place m) = subst (StaysText (text_place m)) is (text_stays m c in_text) in
       let way = text_way next (held ++ c ∷ []) cs k.0 goes in let own = text_is m in_text in
       let step : room_step t c ≡ Some u = steps t c (grows next) move u (room_grows (frames t) c next) refl in
       let on = goes_on t c (grows next) move (own.no_line (grows next) c) in
-      let others = subst (λ x. Goes u cs (In n x)) (append_assoc held (c ∷ []) cs) way.goes in
-      record {
+      let others = subst (λ x. Goes u cs (In n x)) (append_assoc held (c ∷ []) cs) way.goes in record {
         goes = (ap (λ b. b && (frames t == 0)) own.no_return, u, step, on, others);
         one = item_on t u c cs step k.0 way.one;
         one_then = λ d. item_on t u c (cs ++ d ∷ []) step k.0 (way.one_then d);
@@ -152,8 +165,7 @@ module _ (outer : List Level) (done : List Piece) (openers : List ℕ) (m n : Fi
   same_alike b one other place moves causes = record {
     here_is = here_alike place;
     open_yet = ap (λ x. x && (frames (T m) == 0)) one.no_return;
-    step = λ c first.
-        by_room (T m) c (field_move n held c) (moves c first)
+    step = λ c first. by_room (T m) c (field_move n held c) (moves c first)
         ∙ ap (roomy (has_room_at (frames (T m)) c (field_move n held c))) (moved_alike c (field_move n held c) one other);
     ending = λ c first. by_line (T m) c (field_move n held c) (moves c first)
         ∙ ap (λ x. (frames (T m) == 0) && x) (one.no_line (field_move n held c) c ∙ sym (other.no_line (field_move n held c) c));
@@ -251,8 +263,7 @@ module _ (old : Scan) (t : FieldScanned) (follow : Follows old t) (is : is_text 
       let here = stands_at old t follow place in let stop : ℕ = old.stop + byte_len q.run in let there : StandsAt at old.frames old.start stop =
       record { place = way.place ∙ place; frames = follow.frames; begins = here.begins; ends = more_bytes _ _ t.held q.run old.stop (byte_len q.run) here.ends refl } in
       let shut = stands_shut at old.frames old.start stop there q.quote (text_holds q.to at.held way.in_text) move in
-      let closed : FieldScanned = Shut at old.frames old.start stop there q.quote in
-      let own = text_is q.to way.in_text in
+      let closed : FieldScanned = Shut at old.frames old.start stop there q.quote in let own = text_is q.to way.in_text in
       let far : stop + len_utf8 q.quote ≡ old.stop + len = omega (arith, q.size, ap length (low_encoded q.run low_run), len_utf8_ascii q.quote one) in
       let some : 0 < len = omega (arith, q.size) in
       let spell : encode_utf8_all run ++ drop len bytes ≡ bytes = ap (λ x. x ++ drop len bytes) (low_encoded run low) ∙ append_assoc q.run (q.quote ∷ []) (drop len bytes) ∙ q.spell in
@@ -265,12 +276,11 @@ module _ (old : Scan) (t : FieldScanned) (follow : Follows old t) (is : is_text 
   -- the bytes don't tell yet
   pub waits_over : (bytes : List ℕ) → WaitsInText (mode_from old.mode) bytes → (all : GoesOverAll t bytes) × (has_returned all.to ≡ true → all.rest ≡ []) × HasPending old.mode bytes × (old ≡ old)
   waits_over bytes w =
-      let way = text_way t.outer t.done t.openers w.to t.mode t.held w.run text_open (subst (λ (m : FieldMode). TextGoes m w.run w.to) follow.mode w.goes) in (
-        record { run = w.run; rest = w.rest; spell = w.spell; scalars = w.scalars; none = w.none; to = with_run w.to w.run; goes = way.goes; one = way.one },
-        λ returned. absurd (both_ways _ (ap (λ b. b && (frames t == 0)) (text_is w.to way.in_text).no_return) returned),
-        record { run = w.run; rest = w.rest; spell = w.spell; none = w.none; is = w.pending old.mode refl },
-        refl,
-      )
+      let way = text_way t.outer t.done t.openers w.to t.mode t.held w.run text_open (subst (λ (m : FieldMode). TextGoes m w.run w.to) follow.mode w.goes) in
+      let open_yet = ap (λ b. b && (frames t == 0)) (text_is w.to way.in_text).no_return in
+      let all : GoesOverAll t bytes =
+      record { run = w.run; rest = w.rest; spell = w.spell; scalars = w.scalars; none = w.none; to = with_run w.to w.run; goes = way.goes; one = way.one } in
+      (all, λ returned. absurd (both_ways _ open_yet returned), search (w, w.pending old.mode refl), refl)
 
   -- after some of it a character of ASCII is refused, for this cause
   refused_in : (bytes run after : List ℕ) (c : ℕ) (to : FieldMode) (cause : Cause) (f : LineFault) → AreLow run → c < 128 → run ++ c ∷ after ≡ bytes → TextGoes t.mode run to → field_move to [] c ≡ refused
@@ -280,16 +290,9 @@ module _ (old : Scan) (t : FieldScanned) (follow : Follows old t) (is : is_text 
       let spelled_so : encode_utf8_all run ++ (encode_utf8 c ++ after) ≡ bytes =
       ap (λ x. x ++ (encode_utf8 c ++ after)) (low_encoded run low) ∙ ap (λ x. run ++ (x ++ after)) (encode_ascii c one) ∙ spell in
       let fault : IsFieldFault (with_run to run) c f = (kind ∙ ap kind_of_cause (sym because), place ∙ ap (cause_place (with_run to run)) (sym because)) in
-      search (
-        spelled_so,
-        low_scalars run low,
-        low_scalar c (omega (arith, one)),
-        way,
-        way.one_then c,
-        ap (λ b. (b && (frames t == 0)) && not (is_line_feed c)) own.no_return,
-        no_step (with_run to run) c refused (held_nothing to (t.held ++ run) c way.in_text ∙ does) refl,
-        fault,
-      )
+      let none = no_step (with_run to run) c refused (held_nothing to (t.held ++ run) c way.in_text ∙ does) refl in
+      let open_yet = ap (λ b. (b && (frames t == 0)) && not (is_line_feed c)) own.no_return in
+      search (spelled_so, low_scalars run low, low_scalar c (omega (arith, one)), way, way.one_then c, open_yet, none, fault)
 
   -- a line end may not stand there
   pub breaks_there : (bytes : List ℕ) (f : LineFault) → BreaksInText t.mode bytes → f ≡ record { kind = fault_kind.OpenString; place = old.start } → IsWrongIn t bytes f

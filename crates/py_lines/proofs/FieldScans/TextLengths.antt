@@ -4,12 +4,14 @@ use Rattle.std.specs.List.{list_all}
 use Rattle.std.proofs.lemmas.List.{take_more}
 use Rattle.std.proofs.Math.Seq.{take-add, take-append_seam}
 use Rattle.py_lines.specs.Balance.{closing_of}
+use Rattle.py_lines.specs.Character.{is_quote}
 use Rattle.py_lines.specs.FieldStrings.{begins_open}
+use Rattle.py_lines.specs.Piece.{begins}
 use Rattle.py_lines.specs.Private.FieldText.{AtBrace, AtCode, HasCode, HasSimpleCode, HasText, InCode, StandsInCode, AtSpecification, InText, Leads, LeadsBy, is_code_bracket}
 use Rattle.py_lines.specs.Private.Run.{BeginsPlainString, IsRunOf, IsWholePlainString, is_ascii_word, is_code_byte, is_literal_byte}
 use Rattle.py_lines.proofs.LineScan.AsciiRuns.{all_pass, quote-no_word}
 use Rattle.py_lines.proofs.LineScan.PlainStrings.{text_size}
-use Rattle.py_lines.proofs.PassedPieces.FirstBytes.{taken_one, taken_two}
+use Rattle.py_lines.proofs.PassedPieces.FirstBytes.{bytes_from, taken_one, taken_two}
 use Rattle.py_lines.proofs.FieldScans.Texts.{Spot, leads_to_code, passing, brace_leads, ends_in_word, string_leads, closing_leads, code_after, codes_lead, field_ends, leads-append, open_leads, opening_leads, specification_begins, specification_ends, specifications_lead, texts_lead}
 
 -- the bytes after the first ones, as a slice has them
@@ -19,6 +21,10 @@ rest_of bytes n = take (length bytes - n) (drop n bytes)
 pub rest_is : (bytes : List ℕ) (n : ℕ) → rest_of bytes n ≡ drop n bytes
 rest_is bytes n = take_all (length bytes - n) (drop n bytes) (omega (arith, length-drop n bytes))
 
+-- no more than there are
+pub rest_within : (bytes : List ℕ) (n m : ℕ) → n ≤ length bytes → m ≤ length (rest_of bytes n) → n + m ≤ length bytes
+rest_within bytes n m before within = omega (arith, before, within, length-drop n bytes, ap length (rest_is bytes n))
+
 -- over some bytes and then over others, over one more, and over a run
 taken_on : (bytes : List ℕ) (n m : ℕ) → take (n + m) bytes ≡ take n bytes ++ take m (rest_of bytes n)
 taken_on bytes n m = take-add n m bytes ∙ ap (λ t. take n bytes ++ take m t) (sym (rest_is bytes n))
@@ -26,7 +32,7 @@ taken_on bytes n m = take-add n m bytes ∙ ap (λ t. take n bytes ++ take m t) 
 joined : {quote : ℕ} {P Q R : Spot} (bytes : List ℕ) (n m : ℕ) → LeadsBy quote P bytes n Q → LeadsBy quote Q (rest_of bytes n) m R
     → LeadsBy quote P bytes (n + m) R
 joined {quote} {P} {Q} {R} bytes n m first second = (
-  omega (arith, first.0, second.0, length-drop n bytes, ap length (rest_is bytes n)),
+  rest_within bytes n m first.0 second.0,
   subst (λ run. Leads quote P run R) (sym (taken_on bytes n m)) (leads-append quote P Q R (take n bytes) (take m (rest_of bytes n)) first.1 second.1),
 )
 
@@ -54,14 +60,12 @@ no_word_last bytes (suc n) within (inl none) = absurd (omega (arith, none))
 no_word_last bytes (suc n) within (inr other) =
     let less : suc n - 1 ≡ n = omega arith in let more : suc n ≡ n + 1 = omega arith in
     ap (λ (k : ℕ). ends_in_word false (take k bytes)) more ∙ ap (ends_in_word false) (take_more bytes n 0 (omega (arith, within)))
-    ∙ ends-append false (take n bytes) (slice_index bytes n ∷ [])
-    ∙ ap (λ k. is_ascii_word (slice_index bytes k)) (sym less) ∙ other
+    ∙ ends-append false (take n bytes) (slice_index bytes n ∷ []) ∙ ap (λ k. is_ascii_word (slice_index bytes k)) (sym less) ∙ other
 
 -- code with strings, as it is counted
 pub record IsCodeCounted (bytes : List ℕ) (n : ℕ) : Type 0 where
   pub code : HasSimpleCode bytes n
-  pub leads : (openers : List ℕ) (quote : ℕ)
-      → LeadsBy quote (AtCode openers) bytes n (StandsInCode (passing (ends_in_word false (take n bytes))) openers)
+  pub leads : (openers : List ℕ) (quote : ℕ) → LeadsBy quote (AtCode openers) bytes n (StandsInCode (passing (ends_in_word false (take n bytes))) openers)
 
 counted : (bytes : List ℕ) (n : ℕ)
     → ((openers : List ℕ) (quote : ℕ) → LeadsBy quote (AtCode openers) bytes n (StandsInCode (passing (ends_in_word false (take n bytes))) openers))
@@ -76,6 +80,12 @@ code_counted bytes n run =
     counted bytes n (λ openers quote. (run.within, codes_lead openers quote (take n bytes) (all_pass is_code_byte bytes n run.within run.each)))
 
 -- a string after it, and more code
+pub quote_next : (bytes : List ℕ) (n : ℕ) → BeginsPlainString bytes n → begins is_quote (rest_of bytes n) ≡ true
+quote_next bytes n next = ap (begins is_quote) (rest_is bytes n ∙ bytes_from bytes n next.within) ∙ next.quote
+
+pub text_within : (bytes : List ℕ) (n m : ℕ) → n ≤ length bytes → IsWholePlainString (rest_of bytes n) m → (0 < m) × (n + m ≤ length bytes)
+text_within bytes n m before text = let size = text_size (rest_of bytes n) m text in (size.0, rest_within bytes n m before size.1)
+
 text_taken : (bytes : List ℕ) (m : ℕ) → (is : IsWholePlainString bytes m) → take m bytes ≡ is.q ∷ (is.run ++ is.q ∷ [])
 text_taken bytes m is =
     let spelled_so : List ℕ = is.q ∷ (is.run ++ is.q ∷ []) in
@@ -85,8 +95,7 @@ text_taken bytes m is =
 
 pub code_counted_on : (bytes : List ℕ) (n m k : ℕ) → IsCodeCounted bytes n → BeginsPlainString bytes n → IsWholePlainString (rest_of bytes n) m
     → IsRunOf is_code_byte (rest_of bytes (n + m)) k → IsCodeCounted bytes (n + m + k)
-code_counted_on bytes n m k so_far begins_so text run =
-    counted bytes (n + m + k) (λ openers quote.
+code_counted_on bytes n m k so_far begins_so text run = counted bytes (n + m + k) (λ openers quote.
     let before = subst (λ b. LeadsBy quote (AtCode openers) bytes n (StandsInCode (passing b) openers)) (no_word_last bytes n so_far.code.within begins_so.apart) (so_far.leads openers quote) in
     let string = subst (λ t. Leads quote (AtCode openers) t (AtCode openers)) (sym (text_taken (rest_of bytes n) m text)) (string_leads openers quote text.q text.run text.quote text.full text.all) in
     let passed = joined bytes n m before ((text_size (rest_of bytes n) m text).1, string) in
@@ -95,14 +104,12 @@ code_counted_on bytes n m k so_far begins_so text run =
   where
     -- a string ends in its quote
     apart : ends_in_word false (take (n + m) bytes) ≡ false
-    apart =
-        ap (ends_in_word false) (taken_on bytes n m ∙ ap (λ t. take n bytes ++ t) (text_taken (rest_of bytes n) m text))
+    apart = ap (ends_in_word false) (taken_on bytes n m ∙ ap (λ t. take n bytes ++ t) (text_taken (rest_of bytes n) m text))
         ∙ ends-append false (take n bytes) (text.q ∷ (text.run ++ text.q ∷ []))
         ∙ ends-append (is_ascii_word text.q) text.run (text.q ∷ []) ∙ quote-no_word text.q text.quote
 
     last : ends_in_word false (take (n + m + k) bytes) ≡ ends_in_word false (take k (rest_of bytes (n + m)))
-    last =
-        ap (ends_in_word false) (taken_on bytes (n + m) k) ∙ ends-append false (take (n + m) bytes) (take k (rest_of bytes (n + m)))
+    last = ap (ends_in_word false) (taken_on bytes (n + m) k) ∙ ends-append false (take (n + m) bytes) (take k (rest_of bytes (n + m)))
         ∙ ap (λ b. ends_in_word b (take k (rest_of bytes (n + m)))) apart
 
 -- a bracket, what stands within it, the one that closes it, and more code
@@ -115,9 +122,7 @@ pub code_on : (bytes : List ℕ) (n m k : ℕ) → HasCode bytes n → n < lengt
 code_on bytes n m k code within is inside further closes more = record { within = (all 0).0; leads = λ quote. (all quote).1 }
   where
     all : (quote : ℕ) → LeadsBy quote (AtCode []) bytes (n + 1 + m + 1 + k) (InCode [])
-    all quote =
-        let o : ℕ = slice_index bytes n in
-        let opened = one_more bytes n o (code.within, code.leads quote) within refl (opening_leads quote o is) in
+    all quote = let o : ℕ = slice_index bytes n in let opened = one_more bytes n o (code.within, code.leads quote) within refl (opening_leads quote o is) in
         let inner = joined bytes (n + 1) m opened (inside.within, inside.leads (o ∷ []) quote) in
         let closed = one_more bytes (n + 1 + m) _ inner further refl (closing_leads quote o _ is closes) in
         joined bytes (n + 1 + m + 1) k closed (more.within, more.leads [] quote)
@@ -157,11 +162,9 @@ brace_part quote bytes some is = one_part 125 bytes some is (brace_leads quote)
 
 pub two_part : (quote a b : ℕ) (bytes : List ℕ) → 1 < length bytes → slice_index bytes 0 ≡ a → slice_index bytes 1 ≡ b
     → Leads quote InText (a ∷ b ∷ []) InText → LeadsBy quote InText bytes 2 InText
-two_part quote a b bytes some one two leads = (
-  omega (arith, some),
-  subst (λ run. Leads quote InText run InText)
-      (sym (taken_two bytes some ∙ ap (λ (x : ℕ). x ∷ slice_index bytes 1 ∷ []) one ∙ ap (λ (x : ℕ). a ∷ x ∷ []) two)) leads,
-)
+two_part quote a b bytes some one two leads =
+    let taken = taken_two bytes some ∙ ap (λ (x : ℕ). x ∷ slice_index bytes 1 ∷ []) one ∙ ap (λ (x : ℕ). a ∷ x ∷ []) two in
+    (omega (arith, some), subst (λ run. Leads quote InText run InText) (sym taken) leads)
 
 pub field_part : (quote : ℕ) (bytes : List ℕ) (n : ℕ) → 0 < length bytes → slice_index bytes 0 ≡ 123
     → LeadsBy quote AtBrace (rest_of bytes 1) n InText → LeadsBy quote InText bytes (1 + n) InText

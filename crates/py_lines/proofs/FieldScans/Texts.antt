@@ -3,7 +3,7 @@ use Rattle.std.proofs.Common.{◌≡◌, ℕ, ◌+◌, ◌<◌, ◌≤◌, Bool,
 use Rattle.std.specs.Prelude.{nat_lt}
 use Rattle.std.proofs.lemmas.Bool.Decides.{nat_tests}
 use Rattle.std.specs.List.{list_all}
-use Rattle.std.proofs.lemmas.Bool.{and_from, and_parts, and_right, eq-eqb}
+use Rattle.std.proofs.lemmas.Bool.{and_from, and_parts, and_right, both_ways, eq-eqb}
 use Rattle.std.proofs.lemmas.List.Folds.{list_all-append}
 use Rattle.py_lines.specs.Character.{is_space, is_quote, is_operator, is_break, is_backslash, is_brace, is_line_feed}
 use Rattle.py_lines.specs.Piece.{Piece, spelled, operator, string}
@@ -26,8 +26,7 @@ use Rattle.py_lines.proofs.FieldMachine.ListBrackets.{opening_pushes, closing_po
 use Rattle.py_lines.proofs.FieldMachine.StringParts.{open_moves, other_escaped, second_brace, slash_grows}
 use Rattle.py_lines.proofs.FieldMachine.CodeRuns.{brace_ends, code_moves, colon_opens, end_moves}
 use Rattle.py_lines.proofs.FieldScans.PlainCode.{code_result, code_results, operator_is, plain_operator, space_is, word_is}
-use Rattle.py_lines.proofs.FieldScans.Returns.{no_line_end}
-use Rattle.py_lines.proofs.FieldScans.Taking.{goes_on, no_opening, some_level, steps}
+use Rattle.py_lines.proofs.FieldScans.Taking.{goes_on, no_line_end, no_opening, some_level, steps}
 use Rattle.py_lines.proofs.FieldScans.Takes.{goes-append}
 use Rattle.py_lines.proofs.LineScan.AsciiRuns.{line_byte, operator-no_break, word_starts, low_is, quote_ascii, quote-no_break, space-not-quote, word-no_break}
 use Rattle.py_lines.proofs.LineScan.Runs.{body_parts}
@@ -49,7 +48,8 @@ one_step : (t next : FieldScanned) (c : ℕ) (v : FieldMove) → is_return_at t.
 unfolding is_break is_line_feed
 one_step t next c v apart none is room comes still =
     let open_yet : has_returned t ≡ false = ap (λ b. b && (frames t == 0)) apart in let step = steps t c v is next room comes in
-    ((open_yet, next, step, no_line_end t c open_yet (grind arith), refl), (next, step, still, tt))
+    let on = no_line_end t.mode v c (λ shuts return. both_ways _ apart (ap is_return_at return)) (λ ends. grind arith) in
+    ((open_yet, next, step, goes_on t c v is on, refl), (next, step, still, tt))
 
 -- one by which the text of a string grows
 grows_to : (t : FieldScanned) (c : ℕ) (m : FieldMode) → is_return_at t.mode ≡ false → is_break c ≡ false → (t.outer ≡ [] → is_shut m ≡ false)
@@ -81,10 +81,8 @@ Few quote outer l = (l.host.quote ≡ quote) × (is_quote quote ≡ true) × (le
 leads_by : (quote : ℕ) (P Q : Spot) (run : List ℕ) → list_all is_line_byte run ≡ true
     → ((outer : List Level) (l : Level) (t : FieldScanned) → Few quote outer l → P outer l t → (u : FieldScanned) × GoesOpen t run u × Q outer l u)
     → Leads quote P run Q
-leads_by quote P Q run low by = record {
-  low = low;
-  goes = λ outer l t same quotes room at. let (u, goes, to) = by outer l t (same, quotes, room) at in (u, goes.0, goes.1, to);
-}
+leads_by quote P Q run low by =
+    record { low = low; goes = λ outer l t same quotes room at. let (u, goes, to) = by outer l t (same, quotes, room) at in (u, goes.0, goes.1, to) }
 
 one_low : (c : ℕ) → c < 128 → is_break c ≡ false → list_all is_line_byte (c ∷ []) ≡ true
 one_low c low none = and_from _ _ (line_byte c low none) refl
@@ -98,8 +96,7 @@ ends_in_word word [] = word
 ends_in_word word (c ∷ cs) = ends_in_word (is_ascii_word c) cs
 
 -- a run of characters each of which leads on from where a word stands last, or none does
-leads-run : (passes : ℕ → Bool) (quote : ℕ) (P : Bool → Spot)
-    → ((word : Bool) (c : ℕ) → passes c ≡ true → Leads quote (P word) (c ∷ []) (P (is_ascii_word c)))
+leads-run : (passes : ℕ → Bool) (quote : ℕ) (P : Bool → Spot) → ((word : Bool) (c : ℕ) → passes c ≡ true → Leads quote (P word) (c ∷ []) (P (is_ascii_word c)))
     → (word : Bool) (run : List ℕ) → list_all passes run ≡ true → Leads quote (P word) run (P (ends_in_word word run))
 leads-run passes quote P each word [] all = record { low = refl; goes = λ outer l t same quotes room at. (t, refl, tt, at) }
 leads-run passes quote P each word (c ∷ cs) all =
@@ -140,17 +137,14 @@ InPart at outer l t = (held : List ℕ) × (t ≡ field_state outer l.done l.ope
 part_leads : (quote c : ℕ) (a b : At) → c < 128 → is_break c ≡ false
     → ((host : Host) (held : List ℕ) → host.quote ≡ quote → is_quote host.quote ≡ true → field_move (body host literal false a) held c ≡ grows (body host literal false b))
     → Leads quote (InPart a) (c ∷ []) (InPart b)
-part_leads quote c a b low none moves =
-    leads_by quote (InPart a) (InPart b) (c ∷ []) (one_low c low none) (λ outer l t few (held, is).
+part_leads quote c a b low none moves = leads_by quote (InPart a) (InPart b) (c ∷ []) (one_low c low none) (λ outer l t few (held, is).
     let next : FieldScanned = field_state outer l.done l.openers (body l.host literal false b) (held ++ c ∷ []) in
     let goes = grows_to (field_state outer l.done l.openers (body l.host literal false a) held) c (body l.host literal false b) refl none (λ outside. refl)
     (moves l.host held few.0 (ap is_quote few.0 ∙ few.1)) in
     (next, subst (λ x. GoesOpen x (c ∷ []) next) (sym is) goes, (held ++ c ∷ [], refl)))
 
 pub texts_lead : (quote : ℕ) (run : List ℕ) → list_all (is_literal_byte quote) run ≡ true → Leads quote InText run InText
-texts_lead quote =
-    leads-back (is_literal_byte quote) quote InText (λ c h.
-    let is = literal_parts quote c h in
+texts_lead quote = leads-back (is_literal_byte quote) quote InText (λ c h. let is = literal_parts quote c h in
     part_leads quote c between between is.low is.none (λ host held same quotes. text_grows host quote c same is held literal))
 
 -- `}` and `{{`
@@ -164,8 +158,7 @@ open_leads quote = part_leads quote 123 between after_brace (omega arith) refl (
 
 pub two_lead : (quote : ℕ) → Leads quote InText (123 ∷ 123 ∷ []) InText
 unfolding is_break
-two_lead quote =
-    leads-append quote InText AtBrace InText (123 ∷ []) (123 ∷ []) (open_leads quote)
+two_lead quote = leads-append quote InText AtBrace InText (123 ∷ []) (123 ∷ []) (open_leads quote)
     (part_leads quote 123 after_brace between (omega arith) refl (λ host held same quotes. second_brace host literal false held))
 
 -- a backslash and a character
@@ -173,8 +166,7 @@ pub escape_leads : (quote c : ℕ) → is_escaped c ≡ true → Leads quote InT
 unfolding field_move body_move is_backslash is_break
 escape_leads quote c h =
     let low : c < 128 = grind (arith, nat_tests) in let none : is_break c ≡ false = grind arith in let brace : is_brace c ≡ false = grind arith in
-    let name : c == 78 ≡ false = grind arith in
-    leads-append quote InText (InPart after_slash) InText (92 ∷ []) (c ∷ [])
+    let name : c == 78 ≡ false = grind arith in leads-append quote InText (InPart after_slash) InText (92 ∷ []) (c ∷ [])
     (part_leads quote 92 between after_slash (omega arith) refl (λ host held same quotes. slash_grows host literal false between 92 quotes refl))
     (part_leads quote c after_slash between low none (λ host held same quotes. other_escaped host literal false held c brace refl (break-return c none) (ap (λ b. b && not host.is_raw) name)))
 
@@ -183,8 +175,7 @@ abbrev fresh : List Level → Level → List ℕ → FieldScanned
 fresh outer l held = field_fresh (level_after l held ∷ outer) [] []
 
 pub code_after : (quote : ℕ) (Q : Spot) (c : ℕ) (cs : List ℕ) → c == 123 ≡ false → Leads quote (AtCode []) (c ∷ cs) Q → Leads quote AtBrace (c ∷ cs) Q
-code_after quote Q c cs other leads =
-    leads_by quote AtBrace Q (c ∷ cs) leads.low (λ outer l t (same, quotes, room) (held, is).
+code_after quote Q c cs other leads = leads_by quote AtBrace Q (c ∷ cs) leads.low (λ outer l t (same, quotes, room) (held, is).
     let T : FieldScanned = field_state outer l.done l.openers (body l.host literal false after_brace) held in let F : FieldScanned = fresh outer l held in
     let (u, (open_yet, next, step, line, others), (again, once, still, keeps), to) =
     leads.goes outer l F same quotes room (record { front = held; done = []; mode = modes.Free; held = []; is = refl; simple = refl }) in
@@ -201,8 +192,7 @@ in_code outer l front done openers m held = field_state (level_after l front ∷
 from_code : (passes : Mode → Bool) (os : List ℕ) (quote : ℕ) (run : List ℕ) (Q : Spot) → list_all is_line_byte run ≡ true
     → ((outer : List Level) (l : Level) (front : List ℕ) (done : List Piece) (held : List ℕ) (m : Mode) → passes m ≡ true → Few quote outer l → (u : FieldScanned) × GoesOpen (in_code outer l front done os m held) run u × Q outer l u)
     → Leads quote (StandsInCode passes os) run Q
-from_code passes os quote run Q low from =
-    leads_by quote (StandsInCode passes os) Q run low (λ outer l t few at.
+from_code passes os quote run Q low from = leads_by quote (StandsInCode passes os) Q run low (λ outer l t few at.
     subst (λ x. (u : FieldScanned) × GoesOpen x run u × Q outer l u) (sym at.is) (from outer l at.front at.done at.held at.mode at.simple few))
 
 -- what a character of a word, and a space, does to a word, to space, and where no piece is open: that goes on in such a mode, or ends
@@ -238,8 +228,7 @@ passes_code word m h = grind arith
 
 pub leads_to_code : (word : Bool) (os : List ℕ) (quote : ℕ) (P : Spot) (run : List ℕ) → Leads quote P run (StandsInCode (passing word) os)
     → Leads quote P run (InCode os)
-leads_to_code word os quote P run leads =
-    leads_by quote P (InCode os) run leads.low (λ outer l t few at.
+leads_to_code word os quote P run leads = leads_by quote P (InCode os) run leads.low (λ outer l t few at.
     let (u, goes, keeps, to) = leads.goes outer l t few.0 few.1 few.2 at in (u, (goes, keeps), search (to, passes_code word to.mode to.simple)))
 
 standing : (passes : Mode → Bool) (os : List ℕ) (outer : List Level) (l : Level) (front : List ℕ) (done : List Piece) (m : Mode) (held : List ℕ)
@@ -273,13 +262,9 @@ module _ (outer : List Level) (l : Level) (front os : List ℕ) (ps : List Piece
   piece_goes passes begun quote none opens fits moves = go (code_result m c) (code_results m held c simple quote) moves
     where
       go : (v : FieldMove) → field_move (plain m) held c ≡ v → Fits passes v → To passes
-      go (grows (plain n)) move more = (
-        in_code outer l front ps os n (held ++ c ∷ []),
-        grows_to T c (plain n) (code_apart m simple) none (inside (plain n)) move,
-        standing passes os outer l front ps n (held ++ c ∷ []) more,
-      )
-      go breaks move more =
-          let next : FieldScanned = in_code outer l front (closed m ps held) os begun (c ∷ []) in
+      go (grows (plain n)) move more = let goes = grows_to T c (plain n) (code_apart m simple) none (inside (plain n)) move in
+          (in_code outer l front ps os n (held ++ c ∷ []), goes, standing passes os outer l front ps n (held ++ c ∷ []) more)
+      go breaks move more = let next : FieldScanned = in_code outer l front (closed m ps held) os begun (c ∷ []) in
           let room = no_opening _ c (opens_no c (starts.Open begun) opens (λ other. absurd (cc))) in (
             next,
             breaks_to next none move room (ap (field_started (level_after l front ∷ outer) (closed m ps held) os c) opens) (inside (plain begun)),
@@ -293,17 +278,14 @@ module _ (outer : List Level) (l : Level) (front os : List ℕ) (ps : List Piece
 
   operator_goes : (after : List ℕ) → is_operator c ≡ true → openers_with os c ≡ Some after → (c == 58) && (length os == 0) ≡ false
       → has_room_at (frames T) c breaks ≡ true → GoesOpen T (c ∷ []) (Operated after)
-  operator_goes after h stands colon room =
-      breaks_to (Operated after) (operator-no_break c h) (operator_breaks m held c simple h) room
+  operator_goes after h stands colon room = breaks_to (Operated after) (operator-no_break c h) (operator_breaks m held c simple h) room
       (ap (field_started (level_after l front ∷ outer) (closed m ps held) os c) (start-operator c h) ∙ operator_stays (level_after l front ∷ outer) (closed m ps held) os after c stands colon) (inside (plain modes.Free))
 
   -- a letter or digit, a space or a sign
   signs_go : (is_operator c ≡ true) × (is_opening c ≡ false) × (is_closing c ≡ false) → c == 58 ≡ false → To is_apart_mode
-  signs_go (is, opens, shuts) colon = (
-    Operated os,
-    operator_goes os is (others_keep os c opens shuts) (ap (λ b. b && (length os == 0)) colon) (no_opening _ c opens),
-    standing is_apart_mode os outer l front (closed m ps held ++ piece operator (c ∷ []) ∷ []) modes.Free [] refl,
-  )
+  signs_go (is, opens, shuts) colon =
+      let goes = operator_goes os is (others_keep os c opens shuts) (ap (λ b. b && (length os == 0)) colon) (no_opening _ c opens) in
+      (Operated os, goes, standing is_apart_mode os outer l front (closed m ps held ++ piece operator (c ∷ []) ∷ []) modes.Free [] refl)
 
   code_goes : is_code_byte c ≡ true → To (passing (is_ascii_word c))
   code_goes h = go (is_ascii_word c) (is_space c) refl refl
@@ -318,8 +300,7 @@ module _ (outer : List Level) (l : Level) (front os : List ℕ) (ps : List Piece
 -- and a run of them
 code_leads : (word : Bool) (os : List ℕ) (quote c : ℕ) → is_code_byte c ≡ true
     → Leads quote (StandsInCode (passing word) os) (c ∷ []) (StandsInCode (passing (is_ascii_word c)) os)
-code_leads word os quote c h =
-    from_code (passing word) os quote (c ∷ []) (StandsInCode (passing (is_ascii_word c)) os) (and_from _ _ (code_line c h) refl)
+code_leads word os quote c h = from_code (passing word) os quote (c ∷ []) (StandsInCode (passing (is_ascii_word c)) os) (and_from _ _ (code_line c h) refl)
     (λ outer l front done held m simple few. code_goes outer l front os done m held (passes_code word m simple) c h)
 
 pub codes_lead : (os : List ℕ) (quote : ℕ) (run : List ℕ) → list_all is_code_byte run ≡ true
@@ -352,8 +333,7 @@ module _ (os : List ℕ) (quote q : ℕ) (quotes : is_quote q ≡ true) where
   -- its text grows over a character
   string_grows : (m : Mode) (c : ℕ) → is_return_at (plain m) ≡ false → ((held : List ℕ) → begins_host m held c ≡ false)
       → move_of m c ≡ moves.Grows (modes.Inside q) → is_text_byte q c ≡ true → Leads quote (InString m os) (c ∷ []) (InString (modes.Inside q) os)
-  string_grows m c apart none move passes =
-      let is = and_parts (is_body_byte q c) (nat_lt c 128) passes in let break = (body_parts q c is.0).2 in
+  string_grows m c apart none move passes = let is = and_parts (is_body_byte q c) (nat_lt c 128) passes in let break = (body_parts q c is.0).2 in
       leads_by quote (InString m os) (InString (modes.Inside q) os) (c ∷ []) (one_low c (low_is c is.1) break) (λ outer l t few (front, done, held, at).
       let next : FieldScanned = in_code outer l front done os (modes.Inside q) (held ++ c ∷ []) in
       let goes = grows_to (in_code outer l front done os m held) c (plain (modes.Inside q)) apart break (λ outside. refl)
@@ -377,8 +357,7 @@ module _ (os : List ℕ) (quote q : ℕ) (quotes : is_quote q ≡ true) where
       (next, subst (λ x. GoesOpen x (q ∷ []) next) (sym at) goes, standing is_apart_mode os outer l front ps modes.Free [] refl))
 
   string_on : (d : ℕ) (ds : List ℕ) → list_all (is_text_byte q) (d ∷ ds) ≡ true → Leads quote (AtCode os) (q ∷ ((d ∷ ds) ++ q ∷ [])) (AtCode os)
-  string_on d ds all =
-      let parts = and_parts (is_text_byte q d) (list_all (is_text_byte q) ds) all in
+  string_on d ds all = let parts = and_parts (is_text_byte q d) (list_all (is_text_byte q) ds) all in
       let first = string_grows (modes.Opened q) d refl (λ held. refl) (inside_grows d parts.0).1 parts.0 in
       let others = leads-back (is_text_byte q) quote (InString (modes.Inside q) os)
       (λ c h. string_grows (modes.Inside q) c refl (λ held. refl) (inside_grows c h).0 h) ds parts.1 in
@@ -406,13 +385,11 @@ unfolding is_code_bracket is_operator is_opening is_closing
 bracket_is c h = grind (arith, nat_tests)
 
 pub opening_leads : (quote c : ℕ) → is_code_bracket c ≡ true → Leads quote (InCode []) (c ∷ []) (AtCode (c ∷ []))
-opening_leads quote c h =
-    let is = bracket_is c h in
+opening_leads quote c h = let is = bracket_is c h in
     operator_leads [] (c ∷ []) quote c is.0 (opening_pushes [] c is.1) (ap (λ b. b && true) is.2) (λ n few. room_at (length {A = ℕ} [] + n) c breaks (λ opens. omega (arith, few)))
 
 pub closing_leads : (quote o c : ℕ) → is_code_bracket o ≡ true → c ≡ closing_of o → Leads quote (InCode (o ∷ [])) (c ∷ []) (AtCode [])
-closing_leads quote o c h same =
-    subst (λ (x : ℕ). Leads quote (InCode (o ∷ [])) (x ∷ []) (AtCode [])) (sym same) (
+closing_leads quote o c h same = subst (λ (x : ℕ). Leads quote (InCode (o ∷ [])) (x ∷ []) (AtCode [])) (sym same) (
     let is = bracket_is o h in
     operator_leads (o ∷ []) [] quote (closing_of o) is.3 (closing_pops o [] (closing_of o) is.4 (eq-eqb (closing_of o) (closing_of o) refl)) (and_right (closing_of o == 58) _ refl) (λ n few. room_at (1 + n) (closing_of o) breaks (λ opens. omega (arith, few)))
     )
@@ -421,12 +398,9 @@ closing_leads quote o c h same =
 end_leads : (quote c : ℕ) (Q : Spot) (to : Level → List Level → List Piece → FieldScanned) → is_operator c ≡ true → is_opening c ≡ false
     → ((level : Level) (outer : List Level) (ps : List Piece) → code_operator level outer ps c ≡ Some (to level outer ps))
     → ((level : Level) (outer : List Level) (ps : List Piece) → is_shut (to level outer ps).mode ≡ false)
-    → ((outer : List Level) (l : Level) (front : List ℕ) (ps : List Piece) → Q outer l (to (level_after l front) outer ps))
-    → Leads quote (InCode []) (c ∷ []) Q
-end_leads quote c Q to h opens ends still there =
-    from_code is_code_mode [] quote (c ∷ []) Q (operator_line c h) (λ outer l front done held m simple few.
-    let level = level_after l front in
-    let ps : List Piece = closed m done held in (
+    → ((outer : List Level) (l : Level) (front : List ℕ) (ps : List Piece) → Q outer l (to (level_after l front) outer ps)) → Leads quote (InCode []) (c ∷ []) Q
+end_leads quote c Q to h opens ends still there = from_code is_code_mode [] quote (c ∷ []) Q (operator_line c h) (λ outer l front done held m simple few.
+    let level = level_after l front in let ps : List Piece = closed m done held in (
       to level outer ps,
       breaks_to outer l front [] done m held simple c (to level outer ps) (operator-no_break c h) (operator_breaks m held c simple h) (no_opening _ c opens)
           (ap (field_started (level ∷ outer) ps [] c) (start-operator c h) ∙ ends level outer ps) (λ outside. still level outer ps),
@@ -462,8 +436,7 @@ specifications_lead quote = leads-back (is_literal_byte quote) quote AtSpecifica
 
 pub specification_ends : (quote : ℕ) → Leads quote AtSpecification (125 ∷ []) InText
 unfolding field_move body_move has_room_at is_break
-specification_ends quote =
-    leads_by quote AtSpecification InText (125 ∷ []) refl (λ outer l t few (front, held, is).
+specification_ends quote = leads_by quote AtSpecification InText (125 ∷ []) refl (λ outer l t few (front, held, is).
     let ended : FieldScanned = field_state outer l.done l.openers (body l.host literal false between) (held ++ 125 ∷ []) in
     let ends = end_moves l.host between (ap is_quote few.0 ∙ few.1) in
     let goes = one_step (specified outer l front held) ended 125 ends_field refl refl ends refl refl (λ outside. refl) in

@@ -1,5 +1,4 @@
--- What each character does in a string with fields, at each place in it: how the string grows, in its literal part and in
--- specifications, and how it ends.
+-- What each character does in a string with fields, at each place in it: how the string grows, in its literal part and in specifications, and how it ends.
 use Rattle.std.proofs.Common.{◌≡◌, ◌==◌, ℕ, Bool, true, false, not, ◌||◌, ◌&&◌, List, [], ◌∷◌, ◌++◌, refl, sym, ap, ◌∙◌, subst, inl, inr, ◌⊎◌, ⊎_elim, append_assoc, append-nil}
 use Rattle.std.specs.Prelude.{if◌then◌else◌}
 use Rattle.std.specs.Str.{byte}
@@ -153,17 +152,13 @@ module _ (limit : Limit) (outer : List Level) (depth : ℕ) (host : Host) where
   -- a character between two parts, or after a quote of the string
   pub between_moves : (waits : Bool) (place : Place) (named : Bool) (at : At) (held : List ℕ) (c : ℕ) → HoldsParts limit outer depth host place named held (c ∷ []) → (c ≡ host.quote → Moved place waits held c (quote_move place named at)) → Moved place waits held c (between_move host place named at c)
   unfolding between_move
-  between_moves waits place named at held c h quoted =
-      let P : FieldMove → Type 0 = Moved place waits held c in
+  between_moves waits place named at held c h quoted = let P : FieldMove → Type 0 = Moved place waits held c in
       cond_both (c == host.quote) _ _ P (λ same. quoted (eqb-true c host.quote same))
       (λ other. cond_both (is_backslash c) _ _ P (λ slashes. (refl, λ done. tt, (held, c, refl, slashes, h)))
       (λ no_slash. cond_both (is_break c && not host.is_long) _ _ P (λ ended. inl (and_not (is_break c) host.is_long ended))
-      (λ stays. cond_both ((c == 123) && not named) _ _ P
-      (λ opens.
-      let parts = and_not (c == 123) named opens in
+      (λ stays. cond_both ((c == 123) && not named) _ _ P (λ opens. let parts = and_not (c == 123) named opens in
       opening waits place held c (subst (λ n. HoldsParts limit outer depth host place n held (c ∷ [])) parts.1 h) (eqb-true c 123 parts.0))
-      (λ no_open. cond_both (c == 125) _ _ P
-      (λ is. ending waits place named held c h is other no_slash stays)
+      (λ no_open. cond_both (c == 125) _ _ P (λ is. ending waits place named held c h is other no_slash stays)
       (λ no_close. (refl, λ done. tt, bare_one place named named held c h other no_slash stays (ordinary_character place named c no_open no_close) (rw no_close (and-true named))))))))
 
   -- after a quote that is a part of its own, of a long string
@@ -205,12 +200,11 @@ module _ (limit : Limit) (outer : List Level) (depth : ℕ) (host : Host) where
   -- with them a literal part ends the string, which is no empty one; in a specification they may not stand
   closes_at : (waits : Bool) (place : Place) (named : Bool) (held text more : List ℕ) (c : ℕ) → held ++ c ∷ [] ≡ text ++ host.quote ∷ more → quotes_of host ≡ host.quote ∷ more → c ≡ host.quote → (h : HoldsBetween limit outer depth host place named text (host.quote ∷ [])) → (place ≡ literal → (r : ℕ) → more ++ (joined h.all.parts ++ host.quote ∷ more) ≡ r ∷ [] → ⊥) → Moved place waits held c (closing_move place)
   unfolding whole_string
-  closes_at waits literal named held text more c is quotes same h other =
-      let own = whole_string named text more quotes h.all h.apart in (
-        refl,
-        subst (InClassIn (with_fields (limit.FieldsAt depth)) string) (sym is) (inr own),
-        λ after. full_string own.prefix (more ++ (joined own.parts ++ host.quote ∷ more)) (held ++ c ∷ []) after host.quote (is ∙ own.spell ∙ ap (λ t. own.prefix ++ (t ++ (joined own.parts ++ t))) quotes) own.begun h.all.quotes (other refl),
-      )
+  closes_at waits literal named held text more c is quotes same h other = let own = whole_string named text more quotes h.all h.apart in (
+    refl,
+    subst (InClassIn (with_fields (limit.FieldsAt depth)) string) (sym is) (inr own),
+    λ after. full_string own.prefix (more ++ (joined own.parts ++ host.quote ∷ more)) (held ++ c ∷ []) after host.quote (is ∙ own.spell ∙ ap (λ t. own.prefix ++ (t ++ (joined own.parts ++ t))) quotes) own.begun h.all.quotes (other refl),
+  )
   closes_at waits specification named held text more c is quotes same h other = inr (refl, same)
 
   -- a quote of the string: the first one, the second one of a long string, and the third
@@ -218,24 +212,18 @@ module _ (limit : Limit) (outer : List Level) (depth : ℕ) (host : Host) where
   first_quotes waits place named held c h is =
       let own : HoldsBetween limit outer depth host place named held (host.quote ∷ []) = subst (λ (d : ℕ). HoldsBetween limit outer depth host place named held (d ∷ [])) is h in
       let spell : held ++ c ∷ [] ≡ held ++ host.quote ∷ [] = ap (λ (d : ℕ). held ++ d ∷ []) is in
-      cond_both (host.is_long && true) _ _ (Moved place waits held c)
-      (λ long. (refl, λ done. tt, (held, spell, (and_parts _ _ long).0, own)))
-      (λ one.
+      cond_both (host.is_long && true) _ _ (Moved place waits held c) (λ long. (refl, λ done. tt, (held, spell, (and_parts _ _ long).0, own))) (λ one.
       let short = plain_one host.is_long one in
       closes_at waits place named held held [] c spell (short_quotes host short) is own (λ at r single. more_than_one (joined own.all.parts) host.quote r (own.full at short) single))
 
   pub second_quote : (waits : Bool) (place : Place) (named : Bool) (held : List ℕ) (c : ℕ) → HoldsAt limit outer depth host place named after_one held → c ≡ host.quote → Moved place waits held c (quote_move place named after_one)
-  second_quote waits place named held c (text, spell, long, h) is =
-      cond_both (host.is_long && true) _ _ (Moved place waits held c)
+  second_quote waits place named held c (text, spell, long, h) is = cond_both (host.is_long && true) _ _ (Moved place waits held c)
       (λ two. (refl, λ done. tt, (text, ap (λ t. t ++ c ∷ []) spell ∙ append_assoc text (host.quote ∷ []) (c ∷ []) ∙ ap (λ (d : ℕ). text ++ host.quote ∷ d ∷ []) is, long, h)))
       (λ short. absurd (both_ways _ short (and_from _ _ long refl)))
 
   pub third_quote : (waits : Bool) (place : Place) (named : Bool) (held : List ℕ) (c : ℕ) → HoldsAt limit outer depth host place named after_two held → c ≡ host.quote → Moved place waits held c (quote_move place named after_two)
-  third_quote waits place named held c (text, spell, long, h) is =
-      cond_both (host.is_long && false) _ _ (Moved place waits held c)
-      (λ two. absurd (both_ways _ (and_right host.is_long false refl) two))
-      (λ three.
-      closes_at waits place named held text (host.quote ∷ host.quote ∷ []) c
+  third_quote waits place named held c (text, spell, long, h) is = cond_both (host.is_long && false) _ _ (Moved place waits held c)
+      (λ two. absurd (both_ways _ (and_right host.is_long false refl) two)) (λ three. closes_at waits place named held text (host.quote ∷ host.quote ∷ []) c
       (ap (λ t. t ++ c ∷ []) spell ∙ append_assoc text (host.quote ∷ host.quote ∷ []) (c ∷ []) ∙ ap (λ (d : ℕ). text ++ host.quote ∷ host.quote ∷ d ∷ []) is) (rw long) is h
       (λ at r one. absurd (cc)))
 
@@ -258,56 +246,38 @@ module _ (limit : Limit) (outer : List Level) (depth : ℕ) (host : Host) where
 
   -- where what follows whole parts is one more part, which is no quote
   pushed : (place : Place) (named after : Bool) (held text first more next : List ℕ) → held ≡ text ++ (first ++ more) → HoldsParts limit outer depth host place named text first → ((rest : List ℕ) → IsPart (limit.FieldsAt depth) host place named (first ++ more) (next ++ rest)) → is_bare (λ d. d == host.quote) (first ++ more) ≡ false → IsFull (first ++ more) → named_after named (first ++ more) ≡ after → HoldsBetween limit outer depth host place after held next
-  pushed place named after held text first more next is h each other full names =
-      subst (λ t. HoldsBetween limit outer depth host place after t next) (sym is)
+  pushed place named after held text first more next is h each other full names = subst (λ t. HoldsBetween limit outer depth host place after t next) (sym is)
       (push_between limit outer depth host place named after text (first ++ more) next (longer_next limit outer depth host place named text first more h) each other full names)
 
   -- what each character does
   pub body_moves : (place : Place) (named : Bool) (at : At) (held : List ℕ) (c : ℕ) → HoldsAt limit outer depth host place named at held → Moved limit outer depth host place (is_after_brace at) held c (body_move host place named at c)
   unfolding body_move escape_move
   body_moves place named between held c h = between_two false place named held c (record { all = longer_next limit outer depth host place named held [] (c ∷ []) h.all; apart = h.apart; full = h.full })
-  body_moves place named after_one held c h =
-      between_moves limit outer depth host false place named after_one held c
+  body_moves place named after_one held c h = between_moves limit outer depth host false place named after_one held c
       (subst (λ t. HoldsParts limit outer depth host place named t (c ∷ [])) (sym h.1) (one_quote limit outer depth host place named h.0 (c ∷ []) h.2 h.3)) (λ same. second_quote limit outer depth host false place named held c h same)
-  body_moves place named after_two held c h =
-      between_moves limit outer depth host false place named after_two held c
+  body_moves place named after_two held c h = between_moves limit outer depth host false place named after_two held c
       (subst (λ t. HoldsParts limit outer depth host place named t (c ∷ [])) (sym h.1) (two_quotes limit outer depth host place named h.0 (c ∷ []) h.2 h.3)) (λ same. third_quote limit outer depth host false place named held c h same)
-  body_moves place named after_slash held c (text, s, is, slashes, h) =
-      let P : FieldMove → Type 0 = Moved limit outer depth host place false held c in
-      let spell : held ++ c ∷ [] ≡ text ++ s ∷ c ∷ [] = ap (λ t. t ++ c ∷ []) is ∙ append_assoc text (s ∷ []) (c ∷ []) in
-      cond_both (is_brace c) _ _ P
-      (λ brace.
+  body_moves place named after_slash held c (text, s, is, slashes, h) = let P : FieldMove → Type 0 = Moved limit outer depth host place false held c in
+      let spell : held ++ c ∷ [] ≡ text ++ s ∷ c ∷ [] = ap (λ t. t ++ c ∷ []) is ∙ append_assoc text (s ∷ []) (c ∷ []) in cond_both (is_brace c) _ _ P (λ brace.
       between_two false place named held c
       (pushed place named named held text (s ∷ []) [] (c ∷ []) is h (λ more. slash s refl slashes brace) (not_quote s host.quote h.quotes (slash-not-quote s slashes)) tt (rw (slash-not-closing s slashes) (and-true named))))
-      (λ no_brace. cond_both (is_barred_escape host place c) _ _ P (λ barred. inl (barred_short host place c barred))
-      (λ free. cond_both (is_return c) _ _ P
+      (λ no_brace. cond_both (is_barred_escape host place c) _ _ P (λ barred. inl (barred_short host place c barred)) (λ free. cond_both (is_return c) _ _ P
       (λ returns. (refl, λ done. tt, (text, s, c, spell, slashes, returns, may_stand_escaped host place c free, h)))
       (λ no_return. cond_both (names host c) _ _ P
-      (λ named_one. (refl, λ done. tt, (text, s, c, spell, slashes, named_one, may_stand_escaped host place c free, h)))
-      (λ no_name.
+      (λ named_one. (refl, λ done. tt, (text, s, c, spell, slashes, named_one, may_stand_escaped host place c free, h))) (λ no_name.
       (refl, λ done. tt, pushed place named named (held ++ c ∷ []) text (s ∷ []) (c ∷ []) [] spell h (λ more. escape s c refl slashes no_brace (may_stand_escaped host place c free) (and_left _ _ no_name) (and_left _ _ no_return)) refl tt refl)))))
   body_moves place named after_return held c (text, s, r, is, slashes, returns, may, h) =
-      cond_both (is_line_feed c) _ _ (Moved limit outer depth host place false held c)
-      (λ feeds.
+      cond_both (is_line_feed c) _ _ (Moved limit outer depth host place false held c) (λ feeds.
       let own = pushed place named named (held ++ c ∷ []) text (s ∷ []) (r ∷ c ∷ []) [] (ap (λ t. t ++ c ∷ []) is ∙ append_assoc text (s ∷ r ∷ []) (c ∷ [])) h
       (λ more. escaped_end s r c refl slashes returns feeds may) refl tt (kept_or named (is_backslash s && (r == 78)) (and_right _ _ (return-not-letter r returns))) in
-      (refl, λ done. tt, own))
-      (λ no_feed.
-      between_two false place named held c
-      (pushed place named named held text (s ∷ []) (r ∷ []) (c ∷ []) is h
+      (refl, λ done. tt, own)) (λ no_feed. between_two false place named held c (pushed place named named held text (s ∷ []) (r ∷ []) (c ∷ []) is h
       (λ more. escape s r refl slashes (return-not-brace r returns) may (and_left _ _ (and_left _ _ (return-not-letter r returns))) (and_right _ _ no_feed)) refl tt refl))
   body_moves place named after_name held c (text, s, n, is, slashes, is_name, may, h) =
-      cond_both (c == 123) _ _ (Moved limit outer depth host place false held c)
-      (λ braces.
+      cond_both (c == 123) _ _ (Moved limit outer depth host place false held c) (λ braces.
       let own = pushed place named true (held ++ c ∷ []) text (s ∷ []) (n ∷ c ∷ []) [] (ap (λ t. t ++ c ∷ []) is ∙ append_assoc text (s ∷ n ∷ []) (c ∷ [])) h
       (λ more. name s n c refl slashes is_name (eqb-true c 123 braces)) refl tt (or_right named (is_backslash s && (n == 78)) (and_from _ _ slashes (names_letter host n is_name))) in
-      (refl, λ done. tt, own))
-      (λ no_brace.
-      between_two false place named held c
-      (pushed place named named held text (s ∷ []) (n ∷ []) (c ∷ []) is h
+      (refl, λ done. tt, own)) (λ no_brace. between_two false place named held c (pushed place named named held text (s ∷ []) (n ∷ []) (c ∷ []) is h
       (λ more. escape s n refl slashes (name-not-brace host n is_name) may (and_right _ _ no_brace) (and_left _ _ (name-not-return host n is_name))) refl tt refl))
-  body_moves place named after_brace held c (text, is, at, unnamed, h) =
-      cond_both (c == 123) _ _ (Moved limit outer depth host place true held c)
-      (λ braces.
+  body_moves place named after_brace held c (text, is, at, unnamed, h) = cond_both (c == 123) _ _ (Moved limit outer depth host place true held c) (λ braces.
       (refl, λ done. tt, pushed place named named (held ++ c ∷ []) text (123 ∷ []) (c ∷ []) [] (ap (λ t. t ++ c ∷ []) is ∙ append_assoc text (123 ∷ []) (c ∷ [])) h (λ more. double 123 c refl refl (eqb-true c 123 braces) at unnamed) refl tt refl))
       (λ no_brace. (refl, at, no_brace, text, is, subst (λ p. HoldsParts limit outer depth host p false text (123 ∷ [])) at (subst (λ n. HoldsParts limit outer depth host place n text (123 ∷ [])) unnamed h)))

@@ -1,6 +1,6 @@
 -- What each character does outside strings with fields: it goes on with the open piece or ends it, begins another one, ends a field,
 -- or opens its specification.
-use Rattle.std.proofs.Common.{◌≡◌, ◌==◌, ℕ, suc, ◌+◌, true, false, ◌&&◌, Option, None, Some, List, [], ◌∷◌, ◌++◌, length, refl, sym, ap, ◌∙◌, subst, inl, append_assoc, append-nil, arith, inr, ◌⊎◌}
+use Rattle.std.proofs.Common.{◌≡◌, ◌==◌, ℕ, Bool, suc, ◌+◌, true, false, ◌&&◌, Option, None, Some, List, [], ◌∷◌, ◌++◌, length, refl, sym, ap, ◌∙◌, subst, inl, append_assoc, append-nil, arith, inr, ◌⊎◌}
 use Rattle.std.proofs.lemmas.Bool.{cond_both, and_left, and_right, eqb-true, ne_eqb, and_parts, both_ways, or_from, false_from_ne_true, and_from}
 use Rattle.py_lines.specs.Character.{is_quote, is_operator, is_word_character}
 use Rattle.py_lines.specs.Piece.{string, operator, line_end, Piece, spelled, Class, word, begins, is_mark_class}
@@ -68,8 +68,7 @@ after_sound limit outer done openers read c ready room is colon = go (openers_wi
   where
     go : (o : Option (List ℕ)) → OpensIf o (done ++ piece operator (c ∷ []) ∷ []) → FieldSoundIf limit (after_operator outer done c o) (read ++ c ∷ [])
     go None opens = tt
-    go (Some after) opens =
-        fresh_sound limit outer done openers after operator (c ∷ []) (read ++ c ∷ []) ready
+    go (Some after) opens = fresh_sound limit outer done openers after operator (c ∷ []) (read ++ c ∷ []) ready
         (record { is = (c, refl, is); precedes = λ more. tt; unmarked = inl refl; opens = opens; colon = colon; room = room })
 
 -- the `}` that ends a field without a specification
@@ -79,8 +78,7 @@ code_ends limit level outer done read c ready is =
     field_end limit level outer rest (read ++ c ∷ []) own ready.levels.2
     (limit.makes_field (length level.openers + levels_open outer) level.host (123 ∷ rest) own.room
     (simple done (ap (λ (d : ℕ). 123 ∷ (spelled done ++ d ∷ [])) is) (subst (λ (d : ℕ). AreInside fielded done (d ∷ [])) is (inside_is limit level outer done read c ready)) ready.list.passes))
-    (λ at. ap begins_open (sym (append-nil rest)) ∙ single_at level.place rest ready.levels.0 at [])
-    ((simp append_assoc) ∙ ready.spell)
+    (λ at. ap begins_open (sym (append-nil rest)) ∙ single_at level.place rest ready.levels.0 at []) ((simp append_assoc) ∙ ready.spell)
 
 -- the `:` that opens a specification
 code_specifies : (limit : Limit) (level : Level) (outer : List Level) (done : List Piece) (read : List ℕ) (c : ℕ) → Ready limit (level ∷ outer) done [] read c → c ≡ 58 → IsFieldSound limit (field_state (level ∷ outer) [] [] (body level.host specification false between) (level.front ++ (spelled done ++ c ∷ []))) (read ++ c ∷ [])
@@ -93,8 +91,7 @@ code_specifies limit level outer done read c ready is =
       are_inside = subst (λ (d : ℕ). AreInside fielded done (d ∷ [])) is (inside_is limit level outer done read c ready);
       passes = ready.list.passes;
       single = λ at more. ap (λ (d : ℕ). begins_open (spelled done ++ d ∷ more)) (sym is) ∙ ap begins_open (sym (append_assoc (spelled done) (c ∷ []) more)) ∙ single_at level.place rest ready.levels.0 at more;
-    } in
-    record {
+    } in record {
       spell = (simp append_assoc) ∙ ready.spell;
       mode = record {
         all = no_parts limit (level ∷ outer) _ level.host specification held [] opens own.parts.quotes;
@@ -127,13 +124,17 @@ start_sound limit outer done openers read c ready room = go (start_of c) (starts
     begun : (m : Mode) → StartsSo c (starts.Open m) → (class_of m ≡ string → BeginsPlain (c ∷ [])) × AtStart (plain m) outer done
     begun modes.Start so = absurd so
     begun (modes.Opened q) so = (λ at. record { prefix = []; quote = c; body = []; spell = refl; none = refl; opens = so.0; plain = refl }, tt)
-    begun m so = (λ at. absurd (first_of (assumption, cc)), tt)
+    begun modes.Space so = (λ at. absurd (cc), tt)
+    begun (modes.Word s) so = (λ at. absurd (cc), tt)
+    begun modes.Comment so = (λ at. absurd (cc), tt)
+    begun modes.Return so = (λ at. absurd (cc), tt)
+    begun modes.Backslash so = (λ at. absurd (cc), tt)
+    begun m so = absurd so
 
     go : (s : Start) → StartsSo c s → StartHolds c s → FieldSoundIf limit (field_started outer done openers c s) (read ++ c ∷ [])
     go (starts.Open m) so holds = sound_in limit outer done openers (plain m) (c ∷ []) (read ++ c ∷ []) ready (holds, (begun m so).0) (begun m so).1
     go starts.Operator so holds = operator_sound limit outer done openers read c ready room so
-    go starts.LineEnd so holds =
-        fresh_sound limit outer done openers openers line_end (c ∷ []) (read ++ c ∷ []) ready
+    go starts.LineEnd so holds = fresh_sound limit outer done openers openers line_end (c ∷ []) (read ++ c ∷ []) ready
         (adds_neutral limit outer done openers line_end (c ∷ []) [] ready.list.opens (λ at. absurd (cc)) holds.0 (λ more. holds.1 more) (inl refl))
     go starts.Nothing so holds = tt
 
@@ -141,20 +142,15 @@ start_sound limit outer done openers read c ready room = go (start_of c) (starts
 pub specification_ends : (limit : Limit) (outer : List Level) (openers : List ℕ) (host : Host) (held read : List ℕ) (c : ℕ) → openers ≡ [] → c ≡ 125 → HoldsParts limit outer (length openers + levels_open outer) host specification false held (125 ∷ []) → HoldsLevels limit specification outer held → before specification outer ++ held ≡ read → FieldSoundIf limit (specification_ended outer (held ++ c ∷ [])) (read ++ c ∷ [])
 specification_ends limit [] openers host held read c none is h levels spell = absurd levels
 specification_ends limit (level ∷ outer) openers host held read c none is h levels spell =
-    let own = levels.1 in let opens = h.opens_with in let same : level.host ≡ host = opens.same_host in
-    let depth : length openers + levels_open (level ∷ outer) ≡ levels_open (level ∷ outer) =
-    let zero : length openers ≡ 0 = ap length none in
-    omega (arith, zero) in
+    let own = levels.1 in let opens = h.opens_with in let same : level.host ≡ host = opens.same_host in let zero : length openers ≡ 0 = ap length none in
+    let depth : length openers + levels_open (level ∷ outer) ≡ levels_open (level ∷ outer) = omega (arith, zero) in
     let rest = spelled opens.inside ++ (58 ∷ (joined h.parts ++ 125 ∷ [])) in
     let text : held ++ c ∷ [] ≡ level.front ++ rest =
-    ap (λ (d : ℕ). held ++ d ∷ []) is
-    ∙ ap (λ t. t ++ 125 ∷ []) (h.spell ∙ ap (λ t. t ++ joined h.parts) opens.spell)
-    ∙ simp append_assoc in
+    ap (λ (d : ℕ). held ++ d ∷ []) is ∙ ap (λ t. t ++ 125 ∷ []) (h.spell ∙ ap (λ t. t ++ joined h.parts) opens.spell) ∙ simp append_assoc in
     let own_specification : IsSpecification (limit.FieldsAt (levels_open (level ∷ outer))) level.host h.parts =
     subst (λ (x : Host). IsSpecification (limit.FieldsAt (levels_open (level ∷ outer))) x h.parts) (sym same)
     (subst (λ (d : ℕ). IsSpecification (limit.FieldsAt d) host h.parts) depth (record { each = h.fit []; ended = h.named_is; open_yet = h.open_yet })) in
-    subst (λ t. IsFieldSound limit (field_ended level outer t) (read ++ c ∷ [])) (sym text)
-    (field_end limit level outer rest (read ++ c ∷ []) own levels.2
+    subst (λ t. IsFieldSound limit (field_ended level outer t) (read ++ c ∷ [])) (sym text) (field_end limit level outer rest (read ++ c ∷ []) own levels.2
     (limit.makes_field (length level.openers + levels_open outer) level.host (123 ∷ rest) own.room (specified opens.inside h.parts refl opens.are_inside opens.passes own_specification))
     (λ at. opens.single at (joined h.parts ++ 125 ∷ []))
     (ap (λ t. before level.place outer ++ (spelled level.done ++ t)) (sym text) ∙ (simp append_assoc) ∙ ap (λ t. t ++ c ∷ []) spell))
@@ -214,6 +210,15 @@ quoted_so (modes.Word s) held c holds own other =
     (λ k. tt))
 quoted_so m held c holds own other = keeps_class (class_of m) held c (move_of m c) (no_word m c refl) own
 
+-- classes that are neither operators nor words
+abbrev is_told_at_once : Class → Bool
+is_told_at_once operator = false
+is_told_at_once word = false
+is_told_at_once other = true
+
+apart : (class : Class) → is_told_at_once class ≡ true → (class ≡ operator → ⊥) × (class ≡ word → ⊥)
+apart class told = (λ at. both_ways _ (ap is_told_at_once at) told, λ at. both_ways _ (ap is_told_at_once at) told)
+
 -- no character closes a word, nor what stands after no piece
 closes_class : (m : Mode) (c : ℕ) → move_of m c ≡ moves.Closes → (class_of m ≡ operator → ⊥) × (class_of m ≡ word → ⊥)
 unfolding move_of
@@ -221,7 +226,7 @@ closes_class modes.Free c h = absurd (cc)
 closes_class (modes.Word s) c h =
     let P : Move → Type 0 = λ v. v ≡ moves.Closes → ⊥ in
     absurd (cond_both (is_word_character c) _ _ P (λ k at. cc) (λ k. cond_both (is_prefix_spelling s && is_quote c) _ _ P (λ l at. cc) (λ l at. cc)) h)
-closes_class m c h = (λ at. absurd (cc), λ at. absurd (cc))
+closes_class m c h = apart (class_of m) refl
 
 -- what keeps an open piece from being part of a string with fields
 pub plain_text : (class : Class) (text rest : List ℕ) → (class ≡ string → BeginsPlain text) → (class ≡ word → is_field_prefix text && begins is_quote rest ≡ false) → IsPlainText class text rest
@@ -253,8 +258,7 @@ module _ (limit : Limit) (outer : List Level) (done : List Piece) (openers : Lis
   ready own = go (ends_of m)
     where
       go : Ends m → Ready limit outer (closed m done held) openers read c
-      go (nothing is empty) =
-          subst (λ (l : List Piece). Ready limit outer l openers read c) (sym (is done held))
+      go (nothing is empty) = subst (λ (l : List Piece). Ready limit outer l openers read c) (sym (is done held))
           (subst (λ t. Stands limit literal outer done openers (t ++ c ∷ []) (read ++ c ∷ [])) (empty held sound.mode.0) (stands_more limit literal outer done openers held read (c ∷ []) (stands_at limit outer done openers (plain m) held read literal sound refl)))
       go (something is class marked) =
           let fit : (more : List ℕ) → AreReadPlain (piece (class_of m) held ∷ []) (c ∷ more) = λ more. subst (λ (l : List Piece). AreReadPlain l (c ∷ more)) (is [] held) (own more) in
@@ -273,8 +277,7 @@ module _ (limit : Limit) (outer : List Level) (done : List Piece) (openers : Lis
 
       go : (v : Move) → MoveHolds m held c v → QuotedSo held c v → move_of m c ≡ v → HasRoom limit (length openers + levels_open outer) c (plain_move v) → FieldSoundIf limit (field_moved (field_state outer done openers (plain m) held) c (plain_move v)) (read ++ c ∷ [])
       go (moves.Grows n) holds quoted so room = grew limit outer done openers (plain m) (plain n) held read c sound refl (holds, quoted) (no_start n holds)
-      go moves.Closes holds quoted so room =
-          let text = held ++ c ∷ [] in let class = closes_class m c so in
+      go moves.Closes holds quoted so room = let text = held ++ c ∷ [] in let class = closes_class m c so in
           let is_plain : (rest : List ℕ) → IsPlainText (class_of m) text rest = λ rest. plain_text (class_of m) text rest (λ at. begins_plain-more held c (sound.mode.1 at)) (λ at. absurd (class.1 at)) in
           closes_with limit outer done openers (plain m) held read c (class_of m) sound refl class.0 (plain_class _ (class_of m) text [] (is_plain []) holds.0)
           (λ more. plain_precede Fields (class_of m) text more (is_plain more) (holds.1 more)) (unmarked m outer done sound.start)

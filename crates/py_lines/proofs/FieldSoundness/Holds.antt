@@ -1,5 +1,4 @@
--- What the machine with fields holds wherever it has come from the text's start: in each mode, of the innermost list of pieces,
--- and of each field that is open.
+-- What the machine with fields holds wherever it has come from the text's start: in each mode, of the innermost list of pieces, and of each field that is open.
 --
 -- It is stated for any `Limit`, which says what may stand at a depth of brackets and fields. Without a limit it gives the
 -- readings of texts; with the limit of 200 it says besides that they are shallow.
@@ -17,8 +16,7 @@ use Rattle.py_lines.specs.Private.Machine.{IsFull, Holds, class_of}
 use Rattle.py_lines.specs.Private.FieldMachine.{text_place, before, At, between, after_one, after_two, after_slash, after_return, after_name, after_brace, FieldMode, plain, opened, empty, body, Level, FieldScanned, levels_open, frames}
 use Rattle.py_lines.proofs.FieldSoundness.OpenLists.{Opens}
 
--- what may stand at a depth: which fields have their `{` there, which pieces begin there, and whether one more bracket or field
--- may open there
+-- what may stand at a depth: which fields have their `{` there, which pieces begin there, and whether one more bracket or field may open there
 pub record Limit : Type 1 where
   pub FieldsAt : ℕ → Host → List ℕ → Type 0
   pub PiecesAt : ℕ → List Piece → Type 0
@@ -96,8 +94,7 @@ HoldsAt limit outer depth host place named after_return held =
 HoldsAt limit outer depth host place named after_name held =
     (text : List ℕ) × (s : ℕ) × (n : ℕ) × (held ≡ text ++ s ∷ n ∷ []) × (is_backslash s ≡ true) × (names host n ≡ true) × (may_be_escaped host place n ≡ true)
     × HoldsParts limit outer depth host place named text (s ∷ [])
-HoldsAt limit outer depth host place named after_brace held =
-    (text : List ℕ) × (held ≡ text ++ byte "{" ∷ []) × (place ≡ literal) × (named ≡ false)
+HoldsAt limit outer depth host place named after_brace held = (text : List ℕ) × (held ≡ text ++ byte "{" ∷ []) × (place ≡ literal) × (named ≡ false)
     × HoldsParts limit outer depth host place named text (byte "{" ∷ [])
 
 -- a string without fields begins so: its prefix has neither `f` nor `t`

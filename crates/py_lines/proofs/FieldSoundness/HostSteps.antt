@@ -65,8 +65,7 @@ module _ (limit : Limit) (outer : List Level) (done : List Piece) (openers : Lis
       let level : Level = record { done = done; openers = openers; host = h; place = literal; front = held } in
       let stands = stands_at limit outer done openers m held read literal sound (at ∙ here) in
       let own : HoldsLevel limit level outer = record { text = text; spell = spell; list = stands.list; parts = parts; room = room.0 } in
-      start_sound limit (level ∷ outer) [] [] read c
-      (record {
+      start_sound limit (level ∷ outer) [] [] read c (record {
         spell = sym (append_assoc (before literal outer ++ (spelled done ++ held)) [] (c ∷ [])) ∙ ap (λ t. t ++ c ∷ []) (append-nil (before literal outer ++ (spelled done ++ held)) ∙ stands.spell);
         list = no_pieces limit literal (level ∷ outer) (c ∷ []);
         levels = (λ more. single, own, stands.levels);
@@ -102,14 +101,12 @@ step_sound limit outer done openers (opened host) held read c sound room =
     (λ other room. moved_sound limit outer done openers (opened host) held read c sound host literal false (body_move host literal false between c) refl refl (opened_moves limit outer depth host held c sound.mode other) room) room
 step_sound limit outer done openers (empty host) held read c sound room =
     let depth = length openers + levels_open outer in let (opens, quotes, short) = sound.mode in
-    cond_both (c == host.quote) _ _ (IsSoundBy limit (field_state outer done openers (empty host) held) read c)
-    (λ same room.
+    cond_both (c == host.quote) _ _ (IsSoundBy limit (field_state outer done openers (empty host) held) read c) (λ same room.
     let three = more_quotes host (host.quote ∷ host.quote ∷ []) held c same opens in
     let long : OpensHost (long_host host) (quotes_of (long_host host)) (held ++ c ∷ []) = record { prefix = three.prefix; spell = three.spell; begun = three.begun; raw = three.raw } in
     grew limit outer done openers (empty host) (body (long_host host) literal false between) held read c sound refl
     (record { all = no_parts limit outer depth (long_host host) literal (held ++ c ∷ []) [] long quotes; apart = refl; full = λ at short. absurd (both_ways _ short refl) }) tt)
-    (λ other room.
-    start_sound limit outer (done ++ piece string held ∷ []) openers read c
+    (λ other room. start_sound limit outer (done ++ piece string held ∷ []) openers read c
     (ends_before limit outer done openers (empty host) held read c string sound refl (λ h. absurd (cc)) (inr (empty_string limit outer depth host held opens quotes short)) (λ more. empty_before host held c more opens quotes other) refl) room) room
 step_sound limit outer done openers (body host place named at) held read c sound room =
     let depth = length openers + levels_open outer in
@@ -124,18 +121,12 @@ HaveRoom limit (Some s) (c ∷ cs) = HasRoom limit (frames s) c (field_move s.mo
 pub run_sound : (limit : Limit) (o : Option FieldScanned) (read cs : List ℕ) → FieldSoundIf limit o read → HaveRoom limit o cs → FieldSoundIf limit (field_steps_from o cs) (read ++ cs)
 run_sound limit None read cs sound room = tt
 run_sound limit (Some s) read [] sound room = subst (IsFieldSound limit s) (sym (append-nil read)) sound
-run_sound limit (Some s) read (c ∷ cs) sound room =
-    subst (FieldSoundIf limit (field_steps_from (field_step s c) cs)) (append_assoc read (c ∷ []) cs)
+run_sound limit (Some s) read (c ∷ cs) sound room = subst (FieldSoundIf limit (field_steps_from (field_step s c) cs)) (append_assoc read (c ∷ []) cs)
     (run_sound limit (field_step s c) (read ++ c ∷ []) cs (step_sound limit s.outer s.done s.openers s.mode s.held read c sound room.0) room.1)
 
 pub start_is_sound : (limit : Limit) → IsFieldSound limit field_text_start []
-start_is_sound limit = record {
-  spell = refl;
-  mode = ((refl, refl), λ at. absurd (cc));
-  list = no_pieces limit literal [] [];
-  levels = tt;
-  start = (refl, refl);
-}
+start_is_sound limit =
+    record { spell = refl; mode = ((refl, refl), λ at. absurd (cc)); list = no_pieces limit literal [] []; levels = tt; start = (refl, refl) }
 
 -- where the machine goes to from the start is sound
 pub sound_at : (limit : Limit) (cs : List ℕ) (s : FieldScanned) → HaveRoom limit (Some field_text_start) cs → field_steps_from (Some field_text_start) cs ≡ Some s → IsFieldSound limit s cs

@@ -99,8 +99,7 @@ stands_push limit outer done openers after class text next read h adds =
     let is_field = class_map _ Fields (limit.are_fields (length openers + levels_open outer)) class text adds.is in
     let spell : spelled (done ++ piece class text ∷ []) ≡ spelled done ++ text = spelled-push done class text in
     let follows : MayFollow done (piece class text ∷ []) =
-    ⊎_elim (λ other. follows_any done class text other) (λ first. subst (λ l. MayFollow l (piece class text ∷ [])) (sym first.1) tt) adds.unmarked in
-    record {
+    ⊎_elim (λ other. follows_any done class text other) (λ first. subst (λ l. MayFollow l (piece class text ∷ [])) (sym first.1) tt) adds.unmarked in record {
       spell = sym (append_assoc (before literal outer) (spelled (done ++ piece class text ∷ [])) next) ∙ ap (λ t. t ++ next) (ap (λ t. before literal outer ++ t) spell ∙ h.spell);
       list = record {
         fit = λ more. AreReadIn-push fielded done class text (next ++ more) (h.list.fit (next ++ more)) is_field (adds.precedes more) follows;
@@ -116,15 +115,14 @@ stands_push limit outer done openers after class text next read h adds =
 
 -- a piece that is no operator
 pub adds_neutral : (limit : Limit) (outer : List Level) (done : List Piece) (openers : List ℕ) (class : Class) (text next : List ℕ) → Opens openers done → (class ≡ operator → ⊥) → InClassIn (with_fields (limit.FieldsAt (length openers + levels_open outer))) class text → ((more : List ℕ) → MayPrecedeIn fielded class text (next ++ more)) → (is_mark_class class ≡ false) ⊎ ((outer ≡ []) × (done ≡ [])) → Adds limit outer done openers openers class text next
-adds_neutral limit outer done openers class text next opens other is precedes unmarked =
-    let own = neutral class text other in record {
-      is = is;
-      precedes = precedes;
-      unmarked = unmarked;
-      opens = opens-other openers done (piece class text) opens own.no_opener own.no_closer;
-      colon = λ l ls at. and_left _ _ own.no_colon;
-      room = λ opener. absurd (both_ways _ own.no_opener opener);
-    }
+adds_neutral limit outer done openers class text next opens other is precedes unmarked = let own = neutral class text other in record {
+  is = is;
+  precedes = precedes;
+  unmarked = unmarked;
+  opens = opens-other openers done (piece class text) opens own.no_opener own.no_closer;
+  colon = λ l ls at. and_left _ _ own.no_colon;
+  room = λ opener. absurd (both_ways _ own.no_opener opener);
+}
 
 -- the piece is finished, and none is open after it
 pub fresh_sound : (limit : Limit) (outer : List Level) (done : List Piece) (openers after : List ℕ) (class : Class) (text read : List ℕ) → Stands limit literal outer done openers text read → Adds limit outer done openers after class text [] → IsFieldSound limit (field_fresh outer (done ++ piece class text ∷ []) after) read

@@ -120,15 +120,12 @@ closes_list Room outer (o ∷ os) later done m held ready =
 
 -- code can be finished: outside fields the text may end there, and in a field `}` leads back into the string
 outside_finishes : (Room : ℕ → Type 0) (openers : List ℕ) → ReadyFinishes Room [] openers
-outside_finishes Room openers =
-    closes_list Room [] openers
+outside_finishes Room openers = closes_list Room [] openers
     (λ done m held ready. record { more = []; to = field_state [] done [] m held; scalars = refl; goes = refl; none = tt; final = record { outside = refl; closed_all = refl; ends = ready.ends } })
 
 code_finishes : (Room : ℕ → Type 0) (l : Level) (ls : List Level) (openers : List ℕ) → ((text : List ℕ) → Finishes Room (field_ended l ls text)) → ReadyFinishes Room (l ∷ ls) openers
 unfolding is_closing
-code_finishes Room l ls openers later =
-    closes_list Room (l ∷ ls) openers
-    (λ done m held ready.
+code_finishes Room l ls openers later = closes_list Room (l ∷ ls) openers (λ done m held ready.
     let text = l.front ++ (spelled (field_closed m done held) ++ 125 ∷ []) in
     closes_by Room (l ∷ ls) done [] m held 125 (field_ended l ls text) ready refl (brace_ends l ls (field_closed m done held)) (later text))
 
@@ -164,8 +161,7 @@ name_ends host specification held quotes = rw (not_quote 125 host.quote quotes r
 module _ (limit : Limit) (Room : ℕ → Type 0) where
   string_finishes : (place : Place) (outer : List Level) (done : List Piece) (openers : List ℕ) (host : Host) (held text : List ℕ) → is_quote host.quote ≡ true → HoldsLevels limit place outer text → Finishes Room (field_state outer done openers (body host place false between) held)
   string_finishes literal [] done openers host held text quotes levels = literal_readies Room [] done openers host false held quotes (outside_finishes Room openers)
-  string_finishes literal (l ∷ ls) done openers host held text quotes levels =
-      literal_readies Room (l ∷ ls) done openers host false held quotes
+  string_finishes literal (l ∷ ls) done openers host held text quotes levels = literal_readies Room (l ∷ ls) done openers host false held quotes
       (code_finishes Room l ls openers (λ more. string_finishes l.place ls l.done l.openers l.host more _ levels.1.parts.quotes levels.2))
   string_finishes specification [] done openers host held text quotes levels = absurd levels
   string_finishes specification (l ∷ ls) done openers host held text quotes levels =
@@ -214,8 +210,7 @@ module _ (Room : ℕ → Type 0) (outer : List Level) (done : List Piece) (opene
 
   comment_ends : (held : List ℕ) → Readies Room (State modes.Comment held)
   unfolding is_opening
-  comment_ends held later =
-      let pieces = done ++ piece comment held ∷ [] in let next = field_fresh outer (pieces ++ piece line_end (10 ∷ []) ∷ []) openers in
+  comment_ends held later = let pieces = done ++ piece comment held ∷ [] in let next = field_fresh outer (pieces ++ piece line_end (10 ∷ []) ∷ []) openers in
       let move = plain_moves modes.Comment held 10 refl ∙ ap plain_move comment-breaks in
       finishes_after Room (State modes.Comment held) next 10 breaks refl refl move
       (goes-begins Room (State modes.Comment held) next next 10 [] move (ap (field_started outer pieces openers 10) feed-starts) (λ opens. absurd (both_ways _ refl opens)) refl)

@@ -1,5 +1,4 @@
--- What is open where the machine with fields stands, and where a text ends, by its mode: lists of pieces that are begun, and
--- strings, one in another.
+-- What is open where the machine with fields stands, and where a text ends, by its mode: lists of pieces that are begun, and strings, one in another.
 use Rattle.std.proofs.Common.{◌≡◌, ℕ, ◌+◌, ◌<◌, Bool, false, List, [], ◌∷◌, ◌++◌, length, refl, sym, ap, ◌∙◌, subst, append_assoc, append-nil, arith, true, inl, inr, ◌⊎◌}
 use Rattle.std.specs.Str.{byte}
 use Rattle.std.proofs.lemmas.Bool.{eq-eqb, and_right}
@@ -73,8 +72,7 @@ begins_in : (l : Level) (ls : List Level) (text rest : List ℕ) → l.front ≡
 begins_in l ls text rest front single inner =
     in_field (before literal (l ∷ ls)) rest (levels_open (l ∷ ls)) inner.outside inner.base inner.pieces text l.host inner.spot
     (ap (λ t. before l.place ls ++ (spelled l.done ++ t)) front ∙ (simp append_assoc) ∙ ap (λ t. t ++ (text ++ 123 ∷ [])) inner.before_is ∙ simp append_assoc) inner.list inner.begun inner.string
-    (record { unnamed = inner.named_is; single = λ at. single (sym inner.place_is ∙ at) })
-    (omega (arith, inner.depth_is))
+    (record { unnamed = inner.named_is; single = λ at. single (sym inner.place_is ∙ at) }) (omega (arith, inner.depth_is))
 
 -- whole parts of a string before this rest
 pub parts_at : (limit : Limit) (outer : List Level) (depth : ℕ) (host : Host) (place : Place) (named : Bool) (text next more : List ℕ) → HoldsParts limit outer depth host place named text next → PartsAt limit outer depth host place named text (next ++ more)
@@ -104,8 +102,7 @@ specification_open limit l ls done openers host named text rest own no_done no_o
     let opens = h.opens_with in let code = spelled opens.inside in
     let front : text ≡ own.text ++ (123 ∷ (code ++ (58 ∷ joined h.parts))) =
     h.spell ∙ ap (λ t. t ++ joined h.parts) (opens.spell ∙ ap (λ t. t ++ (code ++ 58 ∷ [])) own.spell) ∙ simp append_assoc in
-    let whole : own.text ++ (123 ∷ (code ++ (58 ∷ (joined h.parts ++ rest)))) ≡ text ++ rest =
-    (simp append_assoc) ∙ ap (λ t. t ++ rest) (sym front) in
+    let whole : own.text ++ (123 ∷ (code ++ (58 ∷ (joined h.parts ++ rest)))) ≡ text ++ rest = (simp append_assoc) ∙ ap (λ t. t ++ rest) (sym front) in
     let spot = specification_after inner.spot own.text h.parts in
     let string : IsOpenString l.host inner.spot own.text (123 ∷ (code ++ (58 ∷ (joined h.parts ++ rest)))) = inner.string in record {
       outside = inner.outside;
@@ -192,8 +189,7 @@ module _ (limit : Limit) (outer : List Level) (depth : ℕ) (host : Host) (place
 module _ (limit : Limit) (outer : List Level) (done : List Piece) (openers : List ℕ) (m : FieldMode) (held read : List ℕ) (sound : IsFieldSound limit (field_state outer done openers m held) read) where
   -- a string with fields that is open up to a spot, of which more is said
   body_open : (host : Host) (place : Place) (named : Bool) (IsOpen : Spot → List ℕ → Type 0) → ((spot : Spot) → spot.place ≡ place → IsOpenUpTo host spot held → IsOpen spot held) → text_place m ≡ place → OpenUpTo limit outer (length openers + levels_open outer) host place named held → (spot : Spot) × (spot.place ≡ place) × StandsOpen (IsOpen spot) read (before place outer ++ spelled done)
-  body_open host place named IsOpen is at up =
-      let here = stands_at limit outer done openers m held read place sound at in
+  body_open host place named IsOpen is at up = let here = stands_at limit outer done openers m held read place sound at in
       let so = stands_open limit place outer done openers host named up.text up.last held [] (sym up.spell ∙ sym (append-nil held)) here.list up.parts here.levels in (
         so.spot,
         so.place_is,
@@ -212,18 +208,17 @@ module _ (limit : Limit) (outer : List Level) (done : List Piece) (openers : Lis
 
   -- a piece of the innermost list that is open
   pub piece_open : (IsOpen : List ℕ → Type 0) → text_place m ≡ literal → IsOpen held → StandsOpen IsOpen read (before literal outer ++ spelled done)
-  piece_open IsOpen at is =
-      let here = stands_at limit outer done openers m held read literal sound at in record {
-        outside = before literal outer;
-        depth = levels_open outer;
-        pieces = done;
-        front = held;
-        list = subst (λ t. BeginsList (before literal outer) t (levels_open outer)) (append-nil (spelled done ++ held)) (list_begins limit outer (spelled done ++ held) [] here.levels);
-        begun = subst (AreBegun (levels_open outer) done) (append-nil held) (are_begun limit outer literal done openers held [] here.list);
-        before = refl;
-        spell = append_assoc (before literal outer) (spelled done) held ∙ here.spell;
-        open_yet = is;
-      }
+  piece_open IsOpen at is = let here = stands_at limit outer done openers m held read literal sound at in record {
+    outside = before literal outer;
+    depth = levels_open outer;
+    pieces = done;
+    front = held;
+    list = subst (λ t. BeginsList (before literal outer) t (levels_open outer)) (append-nil (spelled done ++ held)) (list_begins limit outer (spelled done ++ held) [] here.levels);
+    begun = subst (AreBegun (levels_open outer) done) (append-nil held) (are_begun limit outer literal done openers held [] here.list);
+    before = refl;
+    spell = append_assoc (before literal outer) (spelled done) held ∙ here.spell;
+    open_yet = is;
+  }
 
 -- the literal part of a string, a short or a long one
 pub literal_is_open : (limit : Limit) (outer : List Level) (done : List Piece) (openers : List ℕ) (host : Host) (named : Bool) (at : At) (held read : List ℕ) → IsFieldSound limit (field_state outer done openers (body host literal named at) held) read → (at ≡ after_brace → ⊥) → (Other : List ℕ → Type 0) (is_long : Bool) → host.is_long ≡ is_long → StandsOpen (λ front. Other front ⊎ IsOpenLiteral is_long front) read (before literal outer ++ spelled done)

@@ -59,11 +59,9 @@ opens-operator os ps c cs opens = go os opens
     pushed bs own h = inside (c ∷ bs) (ps ++ p ∷ []) c bs ps [] p refl refl own h refl (balance.none [] refl)
 
     go : (bs : List ℕ) → Opens bs ps → OpensIf (openers_with bs c) (ps ++ p ∷ [])
-    go [] own =
-        cond_both (is_opening c) _ _ (λ o. OpensIf o (ps ++ p ∷ [])) (pushed [] own)
+    go [] own = cond_both (is_opening c) _ _ (λ o. OpensIf o (ps ++ p ∷ [])) (pushed [] own)
         (λ h. cond_both (is_closing c) _ _ (λ o. OpensIf o (ps ++ p ∷ [])) (λ k. tt) (λ k. opens-other [] ps p own h k))
-    go (b ∷ bs) own =
-        cond_both (is_opening c) _ _ (λ o. OpensIf o (ps ++ p ∷ [])) (pushed (b ∷ bs) own)
+    go (b ∷ bs) own = cond_both (is_opening c) _ _ (λ o. OpensIf o (ps ++ p ∷ [])) (pushed (b ∷ bs) own)
         (λ h. cond_both (is_closing c) _ _ (λ o. OpensIf o (ps ++ p ∷ []))
         (λ k. cond_both (c == closing_of b) (Some bs) None (λ o. OpensIf o (ps ++ p ∷ [])) (λ l. opens-closes b bs ps p own k l) (λ l. tt)) (λ k. opens-other (b ∷ bs) ps p own h k))
 
@@ -84,11 +82,8 @@ pub opens-depth : (os : List ℕ) (ps : List Piece) (depth : ℕ) → Opens os p
 opens-depth os ps depth (level _ _ none within) = let is : length os ≡ 0 = ap length none in balanced_depth ps within depth ∙ omega (arith, is)
 opens-depth os ps depth (inside _ _ o others outer inner a is spell out opens kind within) =
     let before = opens-depth others outer depth out in let many : length os ≡ suc (length others) = ap length is ∙ omega arith in
-    ap (depth_through depth) spell
-    ∙ depth_through-append depth outer (a ∷ inner)
-    ∙ balanced_depth inner within (depth_after (depth_through depth outer) a)
-    ∙ depth-opener (depth_through depth outer) a opens
-    ∙ omega (arith, before, many)
+    ap (depth_through depth) spell ∙ depth_through-append depth outer (a ∷ inner) ∙ balanced_depth inner within (depth_after (depth_through depth outer) a)
+    ∙ depth-opener (depth_through depth outer) a opens ∙ omega (arith, before, many)
 
 -- balanced pieces in two parts: the first is balanced where it comes back to depth 0, and then the second is
 pub balanced_first : (ps qs : List Piece) → IsBalanced (ps ++ qs) → depth_through 0 ps ≡ 0 → IsBalanced ps

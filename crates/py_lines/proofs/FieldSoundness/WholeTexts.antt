@@ -1,5 +1,4 @@
--- Where the machine with fields may end, its pieces read the text, those of the innermost list with the open one. They are
--- shallow if each character had room.
+-- Where the machine with fields may end, its pieces read the text, those of the innermost list with the open one. They are shallow if each character had room.
 use Rattle.std.proofs.Common.{◌≡◌, ℕ, ◌+◌, true, false, List, [], ◌∷◌, ◌++◌, length, refl, sym, ap, ◌∙◌, subst, inr, append-nil, ◌<◌, Option, None, Some, nat_lt, arith}
 use Rattle.std.proofs.lemmas.Bool.{and_left, and_right, both_ways, and_parts, cond_both, ltb-true}
 use Rattle.py_lines.specs.Piece.{Class, string, operator, Piece, is_mark_class, begins_marked, spelled}
@@ -46,14 +45,12 @@ module _ (limit : Limit) (outer : List Level) (done : List Piece) (openers : Lis
 
   ends_piece : (class : Class) → (class ≡ operator → ⊥) → is_mark_class class ≡ false → InClassIn (with_fields (limit.FieldsAt (length openers + levels_open outer))) class held → MayPrecedeIn fielded class held [] → EndsList limit outer openers (done ++ piece class held ∷ []) (spelled done ++ held)
   ends_piece class other marked is precedes =
-      let own = neutral class held other in let is_field = class_map _ Fields (limit.are_fields (length openers + levels_open outer)) class held is in
-      record {
+      let own = neutral class held other in let is_field = class_map _ Fields (limit.are_fields (length openers + levels_open outer)) class held is in record {
         spell = spelled-push done class held;
         fit = AreReadIn-push fielded done class held [] (sound.list.fit []) is_field precedes (follows_any done class held marked);
         opens = opens-other openers done (piece class held) sound.list.opens own.no_opener own.no_closer;
         passes = passes-push limit outer done openers class held sound.list.opens sound.list.passes is (λ opens. absurd (both_ways _ own.no_opener opens));
-        in_field = λ l ls at.
-            let before = sound.list.in_field l ls at in
+        in_field = λ l ls at. let before = sound.list.in_field l ls at in
             (marked-push done (piece class held) before.0 marked, colon-push 0 done (piece class held) before.1 (and_left _ _ own.no_colon));
       }
 
@@ -133,8 +130,7 @@ rooms_at (Some s) (c ∷ cs) h =
 pub final_is_reading : (characters : List ℕ) (s : FieldScanned) → field_steps_from (Some field_text_start) characters ≡ Some s → have_room (Some field_text_start) characters ≡ true → IsFieldFinal s → IsBalancedReading (field_pieces s) characters
 final_is_reading characters s steps room final =
     let sound : IsFieldSound two_hundred (field_state s.outer s.done s.openers s.mode s.held) characters = sound_at two_hundred characters s (rooms_at (Some field_text_start) characters room) steps in
-    let own = rw (final.outside, final.closed_all) at sound in
-    let list = list_ends two_hundred [] s.done [] s.mode s.held characters own final.ends in record {
+    let own = rw (final.outside, final.closed_all) at sound in let list = list_ends two_hundred [] s.done [] s.mode s.held characters own final.ends in record {
       reads = record { spell = list.spell ∙ sym (ap (λ p. before p [] ++ (spelled s.done ++ s.held)) (code_at_end s.mode final.ends)) ∙ own.spell; fit = list.fit };
       balanced = balanced_at [] (field_pieces s) refl list.opens;
       shallow = list.passes;

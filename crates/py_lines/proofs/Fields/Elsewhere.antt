@@ -11,6 +11,7 @@ use Rattle.py_lines.specs.Reading.{IsBalancedReading}
 use Rattle.py_lines.specs.WithoutFields.{IsPlainReading}
 use Rattle.py_lines.specs.FieldStrings.{is_field_prefix, Host, quotes_of, IsFieldString, with_fields, may_have_fields}
 use Rattle.std.specs.List.{list_any}
+pub use Rattle.std.proofs.Math.Bool.{and-false as none_false}
 use Rattle.py_lines.proofs.Fields.Prefixes.{plain_quotes, field_letters, first_quote}
 use Rattle.py_lines.proofs.FieldSoundness.Holds.{BeginsPlain}
 
@@ -23,10 +24,6 @@ two_false : (x y z : Bool) → x && (y || (z && true)) ≡ false → x && z ≡ 
 two_false true false false h = refl
 two_false x y z h = cc
 
-pub none_false : (x : Bool) → x && false ≡ false
-none_false true = refl
-none_false false = refl
-
 -- so no prefix of a string with fields stands directly before a quote
 pub no_field_prefix : (prefix : List ℕ) (q : ℕ) (after : List ℕ) → is_quote q ≡ true → may_have_fields (prefix ++ q ∷ after) ≡ false → is_field_prefix prefix ≡ false
 no_field_prefix [] q after quotes h = refl
@@ -34,8 +31,7 @@ no_field_prefix (a ∷ []) q after quotes h = sym (and-true (is_f a || is_t a)) 
 no_field_prefix (a ∷ b ∷ []) q after quotes h =
     let parts = or_parts _ (may_have_fields (b ∷ q ∷ after)) h in
     let second = no_field_prefix (b ∷ []) q after quotes parts.1 in
-    or_from _ _
-    (ap (λ x. is_r a && x) second ∙ none_false (is_r a))
+    or_from _ _ (ap (λ x. is_r a && x) second ∙ none_false (is_r a))
     (two_false (is_f a || is_t a) (is_quote b) (is_r b) (subst (λ x. (is_f a || is_t a) && (is_quote b || (is_r b && x)) ≡ false) quotes parts.0))
 no_field_prefix (a ∷ b ∷ c ∷ cs) q after quotes h = refl
 
@@ -47,27 +43,23 @@ no_field_string text prefix body rest q is quotes h =
 pub quotes_begin : (host : Host) → (others : List ℕ) × (quotes_of host ≡ host.quote ∷ others)
 quotes_begin host = cond_both host.is_long _ _ (λ (qs : List ℕ). (others : List ℕ) × (qs ≡ host.quote ∷ others)) (λ long. (host.quote ∷ host.quote ∷ [], refl)) (λ short. ([], refl))
 
--- a string with fields begins with one
+-- a string with fields has a quote after its prefix
+pub first_quote_at : (F : Host → List ℕ → Type 0) (text : List ℕ) (is : IsFieldString F text) → text ≡ is.prefix ++ is.host.quote ∷ ((quotes_begin is.host).0 ++ (joined is.parts ++ quotes_of is.host))
+first_quote_at F text is = is.spell ∙ ap (λ t. is.prefix ++ (t ++ (joined is.parts ++ quotes_of is.host))) (quotes_begin is.host).1
+
+-- and begins with such a prefix
 has_prefix : (F : Host → List ℕ → Type 0) (text rest : List ℕ) → may_have_fields (text ++ rest) ≡ false → ¬ (IsFieldString F text)
-has_prefix F text rest h is =
-    let begin = quotes_begin is.host in
-    let spell : text ≡ is.prefix ++ is.host.quote ∷ (begin.0 ++ (joined is.parts ++ quotes_of is.host)) =
-    is.spell ∙ ap (λ t. is.prefix ++ (t ++ (joined is.parts ++ quotes_of is.host))) begin.1 in
-    both_ways _ (no_field_string text is.prefix _ rest is.host.quote spell is.opens h) is.begun
+has_prefix F text rest h is = both_ways _ (no_field_string text is.prefix _ rest is.host.quote (first_quote_at F text is) is.opens h) is.begun
 
 -- a text whose first quote comes after no prefix of a string with fields has no such prefix
 pub other_prefix : (text prefix body : List ℕ) (q : ℕ) → BeginsPlain text → text ≡ prefix ++ q ∷ body → list_any is_quote prefix ≡ false → is_quote q ≡ true → is_field_prefix prefix ≡ false
 other_prefix text prefix body q is spell none quotes =
-    let cut = first_quote prefix is.prefix body is.body q is.quote none is.none quotes is.opens (sym spell ∙ is.spell) in
-    ap is_field_prefix cut.0 ∙ is.plain
+    let cut = first_quote prefix is.prefix body is.body q is.quote none is.none quotes is.opens (sym spell ∙ is.spell) in ap is_field_prefix cut.0 ∙ is.plain
 
 -- so it is none with fields
 pub plain_unfielded : (F : Host → List ℕ → Type 0) (text : List ℕ) → BeginsPlain text → ¬ (IsFieldString F text)
 plain_unfielded F text plain is =
-    let begin = quotes_begin is.host in
-    let spell : text ≡ is.prefix ++ is.host.quote ∷ (begin.0 ++ (joined is.parts ++ quotes_of is.host)) =
-    is.spell ∙ ap (λ t. is.prefix ++ (t ++ (joined is.parts ++ quotes_of is.host))) begin.1 in
-    both_ways _ (other_prefix text is.prefix _ is.host.quote plain spell (field_letters is.prefix is.begun).quotes is.opens) is.begun
+    both_ways _ (other_prefix text is.prefix _ is.host.quote plain (first_quote_at F text is) (field_letters is.prefix is.begun).quotes is.opens) is.begun
 
 -- what keeps a piece from being part of a string with fields
 abbrev pub IsPlainText : Class → List ℕ → List ℕ → Type 0
@@ -90,9 +82,7 @@ plain_precede F string text rest plain before = λ prefix q spell begun quotes. 
   where
     fewer : (prefix : List ℕ) (q : ℕ) → text ≡ prefix ++ q ∷ q ∷ [] → is_quote q ≡ true → IsNoneOr (λ p. is_prefix p || is_field_prefix p) prefix → IsNoneOr is_prefix prefix
     fewer prefix q spell quotes (inl none) = inl none
-    fewer prefix q spell quotes (inr some) =
-        inr (⊎_elim
-        (λ is. is)
+    fewer prefix q spell quotes (inr some) = inr (⊎_elim (λ is. is)
         (λ is. absurd (both_ways _ (other_prefix text prefix (q ∷ []) q plain spell (field_letters prefix is).quotes quotes) is)) (or_cases (is_prefix prefix) (is_field_prefix prefix) some))
 plain_precede F class text rest plain before = before
 

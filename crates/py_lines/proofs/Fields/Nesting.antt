@@ -26,9 +26,7 @@ module _ (F : Host → List ℕ → Type 0) (W : ℕ → Host → List ℕ → T
   part_within host place named part rest (escaped_end s r c a b d e g) = (zero, λ m le. escaped_end s r c a b d e g)
   part_within host place named part rest (name s c d a b e g) = (zero, λ m le. name s c d a b e g)
   part_within host place named part rest (double c d a b e g h) = (zero, λ m le. double c d a b e g h)
-  part_within host place named part rest (field is a b) =
-      let own = into host part is in
-      (own.0, λ m le. field (own.1 m le) a b)
+  part_within host place named part rest (field is a b) = let own = into host part is in (own.0, λ m le. field (own.1 m le) a b)
 
   parts_within : (host : Host) (place : Place) (named : Bool) (parts : List (List ℕ)) (rest : List ℕ) → AreParts F host place named parts rest → Later (λ n. AreParts (W n) host place named parts rest)
   parts_within host place named [] rest each = (zero, λ m le. tt)
@@ -36,8 +34,7 @@ module _ (F : Host → List ℕ → Type 0) (W : ℕ → Host → List ℕ → T
 
   pub string_within : (text : List ℕ) → InClassIn (with_fields F) string text → Later (λ n. InClassIn (with_fields (W n)) string text)
   string_within text (inl plain) = (zero, λ m le. inl plain)
-  string_within text (inr is) =
-      let each = parts_within is.host _ _ is.parts _ is.each in
+  string_within text (inr is) = let each = parts_within is.host _ _ is.parts _ is.each in
       (each.0, λ m le. inr (record { prefix = is.prefix; host = is.host; parts = is.parts; spell = is.spell; begun = is.begun; raw = is.raw; opens = is.opens; each = each.1 m le; first = is.first }))
 
   class_within : (class : Class) (text : List ℕ) → InClassIn (with_fields F) class text → Later (λ n. InClassIn (with_fields (W n)) class text)
@@ -46,24 +43,20 @@ module _ (F : Host → List ℕ → Type 0) (W : ℕ → Host → List ℕ → T
 
   read_within : (ps : List Piece) (rest : List ℕ) → AreReadIn (with_fields F) ps rest → Later (λ n. AreReadIn (with_fields (W n)) ps rest)
   read_within [] rest fit = (zero, λ m le. tt)
-  read_within (p ∷ ps) rest fit =
-      let both = both_later _ _ (class_within p.class p.text fit.0) (read_within ps rest fit.3) in
+  read_within (p ∷ ps) rest fit = let both = both_later _ _ (class_within p.class p.text fit.0) (read_within ps rest fit.3) in
       (both.0, λ m le. let own = both.1 m le in (own.0, fit.1, fit.2, own.1))
 
   pub inside_within : (ps : List Piece) (rest : List ℕ) → AreInside (with_fields F) ps rest → Later (λ n. AreInside (with_fields (W n)) ps rest)
-  inside_within ps rest is =
-      let fit = read_within ps rest is.fit in
+  inside_within ps rest is = let fit = read_within ps rest is.fit in
       (fit.0, λ m le. record { fit = fit.1 m le; unmarked = is.unmarked; balanced = is.balanced; colon = is.colon })
 
   pub specification_within : (host : Host) (parts : List (List ℕ)) → IsSpecification F host parts → Later (λ n. IsSpecification (W n) host parts)
-  specification_within host parts is =
-      let each = parts_within host _ _ parts _ is.each in
+  specification_within host parts is = let each = parts_within host _ _ parts _ is.each in
       (each.0, λ m le. record { each = each.1 m le; ended = is.ended; open_yet = is.open_yet })
 
   -- a field, by its pieces, what they meet, and its specification
   field_within : (D : Host → List ℕ → Type 0) (V : ℕ → Host → List ℕ → Type 0) (P : List Piece → Type 0) (Q : ℕ → List Piece → Type 0) → ((host : Host) (parts : List (List ℕ)) → IsSpecification D host parts → Later (λ n. IsSpecification (V n) host parts)) → ((ps : List Piece) → P ps → Later (λ n. Q n ps)) → (host : Host) (text : List ℕ) → IsField (with_fields F) P D host text → Later (λ n. IsField (with_fields (W n)) (Q n) (V n) host text)
-  field_within D V P Q specify meet host text (simple inside spell is passes) =
-      let own = both_later _ _ (inside_within inside _ is) (meet inside passes) in
+  field_within D V P Q specify meet host text (simple inside spell is passes) = let own = both_later _ _ (inside_within inside _ is) (meet inside passes) in
       (own.0, λ m le. simple inside spell (own.1 m le).0 (own.1 m le).1)
   field_within D V P Q specify meet host text (specified inside parts spell is passes specification) =
       let own = both_later _ _ (inside_within inside _ is) (both_later _ _ (meet inside passes) (specify host parts specification)) in
@@ -137,8 +130,7 @@ shallow_within depth (p ∷ ps) shallow =
     (both.0, λ m le. let own = both.1 m le in (shallow.0, own.0, own.1))
   where
     at : (class : Class) → (class ≡ string → InClassIn (with_fields (ShallowFields depth)) string p.text) → Later (λ n. class ≡ string → InClassIn (with_fields (ShallowWithin n depth)) string p.text)
-    at string h =
-        let own = string_within (ShallowFields depth) (λ n. ShallowWithin n depth) (later_shallow depth) p.text (h refl) in
+    at string h = let own = string_within (ShallowFields depth) (λ n. ShallowWithin n depth) (later_shallow depth) p.text (h refl) in
         (own.0, λ m le is. own.1 m le)
     at class h = (zero, λ m le is. absurd (cc))
 

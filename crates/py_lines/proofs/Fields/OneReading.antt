@@ -6,12 +6,12 @@ use Rattle.std.specs.Str.{chars}
 use Rattle.std.proofs.lemmas.Str.{chars-encodes}
 use Rattle.py_lines.specs.Character.{is_mark, is_operator, is_quote, is_return, is_line_feed}
 use Rattle.py_lines.specs.Piece.{Class, mark, space, word, string, operator, comment, join, line_end, Piece, ends, spelled}
-use Rattle.py_lines.specs.PieceGrammar.{feed, return_feed, return, joined, Grammar, InClassIn, MayPrecedeIn, AreReadIn, ReadsIn}
+use Rattle.py_lines.specs.PieceGrammar.{feed, return_feed, return, Grammar, InClassIn, MayPrecedeIn, AreReadIn, ReadsIn}
 use Rattle.py_lines.specs.LogicalLine.{LogicalLine, lines_of}
 use Rattle.py_lines.specs.Reading.{IsBalancedReading}
 use Rattle.py_lines.specs.Lexed.{IsLexedWhole}
 use Rattle.py_lines.specs.Fields.{ReadsText, Fields, fielded}
-use Rattle.py_lines.specs.FieldStrings.{Host, quotes_of, with_fields}
+use Rattle.py_lines.specs.FieldStrings.{Host, with_fields}
 use Rattle.py_lines.specs.Private.Machine.{start_of}
 use Rattle.py_lines.specs.Private.FieldMachine.{FieldScanned, field_state, field_text_start, openers_with, after_operator, field_started, field_moved, field_step, field_steps_from, field_pieces}
 use Rattle.py_lines.proofs.Pieces.PieceLists.{piece, spelled-append, AreReadIn-second}
@@ -19,7 +19,7 @@ use Rattle.py_lines.proofs.Text.CharacterTests.{none_of}
 use Rattle.py_lines.proofs.Text.Decoding.{decoded}
 use Rattle.py_lines.proofs.Text.Splits.{Either, either}
 use Rattle.py_lines.proofs.Machine.Starts.{start-operator}
-use Rattle.py_lines.proofs.Fields.Elsewhere.{quotes_begin}
+use Rattle.py_lines.proofs.Fields.Elsewhere.{first_quote_at}
 use Rattle.py_lines.proofs.Fields.Prefixes.{Compared, same, longer, shorter, compared_more}
 use Rattle.py_lines.proofs.Fields.Parts.{not_nothing, begins_same}
 use Rattle.py_lines.proofs.FieldMachine.Runs.{NoLimit, StopsAt, steps_of}
@@ -46,11 +46,8 @@ read_before grammar [] c r s fit = tt
 read_before grammar (p ∷ ps) c r s fit = (fit.0, precede_before grammar p.class p.text (spelled ps) c r s fit.1, fit.2, read_before grammar ps c r s fit.3)
 
 -- and all may stand at a text's end
-precede_nothing : (grammar : Grammar) (class : Class) (text : List ℕ) → MayPrecedeIn grammar class text []
-precede_nothing grammar class text = grind (arith, and_right)
-
 precede_end : (grammar : Grammar) (class : Class) (text next rest : List ℕ) → MayPrecedeIn grammar class text (next ++ rest) → MayPrecedeIn grammar class text (next ++ [])
-precede_end grammar class text [] rest before = precede_nothing grammar class text
+precede_end grammar class text [] rest before = grind (arith, and_right)
 precede_end grammar class text (c ∷ cs) rest before = precede_before grammar class text [] c (cs ++ rest) (cs ++ []) before
 
 pub read_nothing : (grammar : Grammar) (ps : List Piece) (rest : List ℕ) → AreReadIn grammar ps rest → AreReadIn grammar ps []
@@ -67,8 +64,7 @@ started_begin first ps c = go (field_started [] (first ++ ps) [] c (start_of c))
   where
     go : (o : Option FieldScanned) → field_started [] (first ++ ps) [] c (start_of c) ≡ o → BeginIf first o
     go None is = tt
-    go (Some u) is =
-        let (outside, (qs, more)) = started_outer (first ++ ps) [] c (start_of c) u is in
+    go (Some u) is = let (outside, (qs, more)) = started_outer (first ++ ps) [] c (start_of c) u is in
         (ps ++ qs, (outer_alone u outside).0 ∙ more ∙ append_assoc first ps qs)
 
 -- the machine goes over a piece, and may stop there; or the piece is an operator
@@ -87,11 +83,8 @@ module _ (p q : Piece) (t u : List ℕ) (two : FieldFinds NoLimit field_text_sta
 
   goes_on : (o : Option FieldScanned) (text : List ℕ) → field_steps_from o text ≡ Some end_of → BeginIf (p ∷ []) o → p ≡ q
   goes_on None text steps begin = absurd (none_some steps)
-  goes_on (Some s) text steps (ps, begin) =
-      let (qs, more) = outer_runs text s end_of steps in
-      let (rs, last) = closed_on two.mode two.done two.held in
-      let is : p ∷ (ps ++ (qs ++ rs)) ≡ q ∷ [] = sym (last ∙ ap (λ l. l ++ rs) (more ∙ ap (λ l. l ++ qs) begin) ∙ simp append_assoc) ∙ two.pieces_are in
-      cc
+  goes_on (Some s) text steps (ps, begin) = let (qs, more) = outer_runs text s end_of steps in let (rs, last) = closed_on two.mode two.done two.held in
+      let is : p ∷ (ps ++ (qs ++ rs)) ≡ q ∷ [] = sym (last ∙ ap (λ l. l ++ rs) (more ∙ ap (λ l. l ++ qs) begin) ∙ simp append_assoc) ∙ two.pieces_are in cc
 
   after_piece : (s r x : List ℕ) → FieldFinds NoLimit field_text_start s (p ∷ []) [] r → t ≡ s ++ x → r ≡ x ++ u → p ≡ q
   after_piece s r x one is left =
@@ -101,12 +94,8 @@ module _ (p q : Piece) (t u : List ℕ) (two : FieldFinds NoLimit field_text_sta
       end = field_state [] one.done [] one.mode one.held
 
       go : (y : List ℕ) → r ≡ y ++ u → field_steps_from (Some end) y ≡ Some end_of → p ≡ q
-      go [] at later =
-          let same : end ≡ end_of = cc in
-          let is : p ∷ [] ≡ q ∷ [] = sym one.pieces_are ∙ ap field_pieces same ∙ two.pieces_are in
-          cc
-      go (c ∷ y) at later =
-          let move = subst (StopsAt one.mode one.held) at one.stops in
+      go [] at later = let same : end ≡ end_of = cc in let is : p ∷ [] ≡ q ∷ [] = sym one.pieces_are ∙ ap field_pieces same ∙ two.pieces_are in cc
+      go (c ∷ y) at later = let move = subst (StopsAt one.mode one.held) at one.stops in
           goes_on (field_step end c) y later (subst (BeginIf (p ∷ [])) (sym (ap (field_moved end c) move)) (subst (λ l. BeginIf (p ∷ []) (field_started [] l [] c (start_of c))) (sym one.pieces_are) (started_begin (p ∷ []) [] c)))
 
 -- an operator is the first piece where its character stands
@@ -123,9 +112,7 @@ operator_first c is =
     go (Some os) = ([], refl)
 
 after_operator_piece : (c : ℕ) (q : Piece) (t r u : List ℕ) → is_operator c ≡ true → FieldFinds NoLimit field_text_start t (q ∷ []) [] u → c ∷ r ≡ t ++ u → piece operator (c ∷ []) ≡ q
-after_operator_piece c q [] r u is two at =
-    let none : [] ≡ q ∷ [] = ap field_pieces two.goes ∙ two.pieces_are in
-    absurd (cc)
+after_operator_piece c q [] r u is two at = let none : [] ≡ q ∷ [] = ap field_pieces two.goes ∙ two.pieces_are in absurd (cc)
 after_operator_piece c q (d ∷ t) r u is two at =
     let here : c ≡ d = cc in
     goes_on (piece operator (c ∷ [])) q (d ∷ t) u two (field_step field_text_start d) t (steps_of NoLimit field_text_start (end_of (piece operator (c ∷ [])) q (d ∷ t) u two) (d ∷ t) two.goes)
@@ -140,8 +127,7 @@ same_piece c d s t r u one before two after at = go (is_alone c s r one before) 
 
     go : IsAlone c s r → IsAlone d t u → piece c s ≡ piece d t
     go (single x is passes) (single y also passing) =
-        let shown : x ∷ r ≡ y ∷ u = ap (λ (p : Piece). p.text ++ r) (sym is) ∙ at ∙ ap (λ (p : Piece). p.text ++ u) also in
-        let here : x ≡ y = cc in
+        let shown : x ∷ r ≡ y ∷ u = ap (λ (p : Piece). p.text ++ r) (sym is) ∙ at ∙ ap (λ (p : Piece). p.text ++ u) also in let here : x ≡ y = cc in
         is ∙ ap (λ z. piece operator (z ∷ [])) here ∙ sym also
     go (single x is passes) (over found) = is ∙ after_operator_piece x (piece d t) t r u passes found (ap (λ (p : Piece). p.text ++ r) (sym is) ∙ at)
     go (over found) (single y also passing) = sym (also ∙ after_operator_piece y (piece c s) s u r passing found (ap (λ (p : Piece). p.text ++ u) (sym also) ∙ sym at))
@@ -166,9 +152,7 @@ compare_pieces (p ∷ ps) (q ∷ qs) r u one two at =
 pub full : (F : Host → List ℕ → Type 0) (class : Class) (text : List ℕ) → InClassIn (with_fields F) class text → text ≡ [] → ⊥
 full F string text (inl (inl short)) none = not_nothing short.0.prefix short.0.quote _ (sym short.0.spell ∙ none)
 full F string text (inl (inr long)) none = not_nothing long.0.prefix long.0.quote _ (sym long.0.spell ∙ none)
-full F string text (inr is) none =
-    let begin = quotes_begin is.host in
-    not_nothing is.prefix is.host.quote _ (ap (λ t. is.prefix ++ (t ++ (joined is.parts ++ quotes_of is.host))) (sym begin.1) ∙ sym is.spell ∙ none)
+full F string text (inr is) none = not_nothing is.prefix is.host.quote _ (sym (first_quote_at F text is) ∙ none)
 full F line_end text (feed is) none = cc
 full F line_end text (return_feed is) none = cc
 full F line_end text (return is) none = cc
@@ -186,8 +170,7 @@ ends_there ps qs zs y fit is at =
 
 -- two readings of a text are the same
 pub one_fielded_reading : (pieces others : List Piece) (characters : List ℕ) → ReadsIn fielded pieces characters → ReadsIn fielded others characters → pieces ≡ others
-one_fielded_reading pieces others characters one two =
-    go (compare_pieces pieces others [] [] one.fit two.fit (ap (λ t. t ++ []) at))
+one_fielded_reading pieces others characters one two = go (compare_pieces pieces others [] [] one.fit two.fit (ap (λ t. t ++ []) at))
   where
     at : spelled pieces ≡ spelled others
     at = one.spell ∙ sym two.spell

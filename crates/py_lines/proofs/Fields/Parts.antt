@@ -81,9 +81,7 @@ pub short_part : (F : Host → List ℕ → Type 0) → BeginOpen F → (q : ℕ
 short_part F begin q raw named part rest w v quotes is at = go is
   where
     first : (s : ℕ) (x : List ℕ) → part ≡ s ∷ x → s ≡ q
-    first s x shape =
-        let shown : s ∷ (x ++ w) ≡ q ∷ v = ap (λ t. t ++ w) (sym shape) ∙ at in
-        cc
+    first s x shape = let shown : s ∷ (x ++ w) ≡ q ∷ v = ap (λ t. t ++ w) (sym shape) ∙ at in cc
 
     no_slash : (s : ℕ) → s ≡ q → is_backslash s ≡ true → ⊥
     no_slash s here slashes = both_ways _ (quote-not-slash q quotes) (ap is_backslash (sym here) ∙ slashes)
@@ -98,6 +96,4 @@ short_part F begin q raw named part rest w v quotes is at = go is
     go (escaped_end s c d shape a b f g) = no_slash s (first s (c ∷ d ∷ []) shape) a
     go (name s c d shape a b f) = no_slash s (first s (c ∷ d ∷ []) shape) a
     go (double b c shape one two e f) = no_brace (sym one ∙ first b (c ∷ []) shape)
-    go (field own a b) =
-        let head = begin _ part own in
-        no_brace (first 123 (head.0 ∷ head.1) head.2)
+    go (field own a b) = let head = begin _ part own in no_brace (first 123 (head.0 ∷ head.1) head.2)

@@ -28,8 +28,7 @@ letter c h =
     let P : ℕ → Type 0 = λ x. (is_word_start x ≡ true) × (is_word_character x ≡ true) × (is_quote x ≡ false) in
     ⊎_elim
     (λ rf. ⊎_elim (λ r. each_of P (codes "rR") c ((refl, refl, refl), ((refl, refl, refl), tt)) r) (λ f. each_of P (codes "fF") c ((refl, refl, refl), ((refl, refl, refl), tt)) f) (or_cases (is_r c) (is_f c) rf))
-    (λ t. each_of P (codes "tT") c ((refl, refl, refl), ((refl, refl, refl), tt)) t)
-    (or_cases (is_r c || is_f c) (is_t c) h)
+    (λ t. each_of P (codes "tT") c ((refl, refl, refl), ((refl, refl, refl), tt)) t) (or_cases (is_r c || is_f c) (is_t c) h)
 
 -- Booleans
 third_of : (a b c : Bool) → b || c ≡ true → a || b || c ≡ true
@@ -40,9 +39,7 @@ abbrev IsLetter : ℕ → Type 0
 IsLetter c = is_r c || is_f c || is_t c ≡ true
 
 letters : (a b : ℕ) → is_field_prefix (a ∷ b ∷ []) ≡ true → IsLetter a × IsLetter b
-letters a b h =
-    ⊎_elim
-    (λ one. let parts = and_parts _ _ one in (or_left _ _ (or_left _ _ parts.0), third_of (is_r b) (is_f b) (is_t b) parts.1))
+letters a b h = ⊎_elim (λ one. let parts = and_parts _ _ one in (or_left _ _ (or_left _ _ parts.0), third_of (is_r b) (is_f b) (is_t b) parts.1))
     (λ two. let parts = and_parts _ _ two in (third_of (is_r a) (is_f a) (is_t a) parts.0, or_left _ _ (or_left _ _ parts.1)))
     (or_cases (is_r a && (is_f b || is_t b)) ((is_f a || is_t a) && is_r b) h)
 
@@ -61,18 +58,14 @@ field_letters (a ∷ []) h =
     let one = letter a (third_of (is_r a) (is_f a) (is_t a) h) in
     record { first = a; others = []; is = refl; starts = one.0; all = and_from _ _ one.1 refl; quotes = or_from _ _ one.2 refl }
 field_letters (a ∷ b ∷ []) h =
-    let both = letters a b h in
-    let one = letter a both.0 in
-    let two = letter b both.1 in
+    let both = letters a b h in let one = letter a both.0 in let two = letter b both.1 in
     record { first = a; others = b ∷ []; is = refl; starts = one.0; all = and_from _ _ one.1 (and_from _ _ two.1 refl); quotes = or_from _ _ one.2 (or_from _ _ two.2 refl) }
 field_letters (a ∷ b ∷ c ∷ cs) h = absurd (both_ways _ refl h)
 
 -- where all pass one test, none passes another that excludes it: no letter of a word or of another prefix is a quote
 pub none_in : (p q : ℕ → Bool) → ((c : ℕ) → q c ≡ true → p c ≡ false) → (cs : List ℕ) → list_all p cs ≡ true → list_any q cs ≡ false
 none_in p q apart [] h = refl
-none_in p q apart (c ∷ cs) h =
-    let parts = and_parts (p c) (list_all p cs) h in
-    or_from _ _ (excluded p q c (apart c) parts.0) (none_in p q apart cs parts.1)
+none_in p q apart (c ∷ cs) h = let parts = and_parts (p c) (list_all p cs) h in or_from _ _ (excluded p q c (apart c) parts.0) (none_in p q apart cs parts.1)
 
 pub word_quotes : (cs : List ℕ) → list_all is_word_character cs ≡ true → list_any is_quote cs ≡ false
 word_quotes cs h = none_in is_word_character is_quote quote-not-word cs h

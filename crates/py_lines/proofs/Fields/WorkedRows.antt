@@ -53,38 +53,22 @@ read_strings (t ∷ ts) steps begun =
 -- strings with fields
 strings : List (List ℕ)
 strings =
-    -- f"{}"
-    codes "f\"{}\""
-    -- f"}"
-    ∷ codes "f\"}\""
-    -- f"{{"
-    ∷ codes "f\"{{\""
-    -- f"{{{x}}}" : the third brace opens a field
-    ∷ codes "f\"{{{x}}}\""
-    -- f"{d["import"]}" : the string's own quote in a field
-    ∷ codes "f\"{d[\"import\"]}\""
-    -- t'{x:{w}}' : a field in a specification
-    ∷ codes "t'{x:{w}}'"
-    -- f"{x!r:>{w}}"
-    ∷ codes "f\"{x!r:>{w}}\""
-    -- f"\N{DASH}" : a name, and no field
-    ∷ codes "f\"\\N{DASH}\""
-    -- f"\N{{ {x}" : no field opens before the next `}`
-    ∷ codes "f\"\\N{{ {x}\""
-    -- rf"\N{a}" : with `r` there are no names, and a field
-    ∷ codes "rf\"\\N{a}\""
-    -- f"\{a}" : the backslash stands for itself before a brace
-    ∷ codes "f\"\\{a}\""
-    -- f'{\n1}' : a line end in a field of a short string
-    ∷ codes "f'{\n1}'"
-    -- 'f"a\\\nb"' : a line end after a backslash in a literal part
-    ∷ codes "f\"a\\\nb\""
-    -- f"""{x:""}""" : two quotes in a specification, and then the three that close the string
-    ∷ codes "f\"\"\"{x:\"\"}\"\"\""
-    -- f"{""}" : an empty string in a field
-    ∷ codes "f\"{\"\"}\""
-    -- 'f"{a # }"\n}"' : a comment in a field goes to the line's end, over quotes and braces
-    ∷ codes "f\"{a # }\"\n}\""
+    codes "f\"{}\""  -- f"{}"
+    ∷ codes "f\"}\""  -- f"}"
+    ∷ codes "f\"{{\""  -- f"{{"
+    ∷ codes "f\"{{{x}}}\""  -- f"{{{x}}}" : the third brace opens a field
+    ∷ codes "f\"{d[\"import\"]}\""  -- f"{d["import"]}" : the string's own quote in a field
+    ∷ codes "t'{x:{w}}'"  -- t'{x:{w}}' : a field in a specification
+    ∷ codes "f\"{x!r:>{w}}\""  -- f"{x!r:>{w}}"
+    ∷ codes "f\"\\N{DASH}\""  -- f"\N{DASH}" : a name, and no field
+    ∷ codes "f\"\\N{{ {x}\""  -- f"\N{{ {x}" : no field opens before the next `}`
+    ∷ codes "rf\"\\N{a}\""  -- rf"\N{a}" : with `r` there are no names, and a field
+    ∷ codes "f\"\\{a}\""  -- f"\{a}" : the backslash stands for itself before a brace
+    ∷ codes "f'{\n1}'"  -- f'{\n1}' : a line end in a field of a short string
+    ∷ codes "f\"a\\\nb\""  -- 'f"a\\\nb"' : a line end after a backslash in a literal part
+    ∷ codes "f\"\"\"{x:\"\"}\"\"\""  -- f"""{x:""}""" : two quotes in a specification, and then the three that close the string
+    ∷ codes "f\"{\"\"}\""  -- f"{""}" : an empty string in a field
+    ∷ codes "f\"{a # }\"\n}\""  -- 'f"{a # }"\n}"' : a comment in a field goes to the line's end, over quotes and braces
     ∷ []
 
 strings_are : AreStrings strings
@@ -105,8 +89,7 @@ unfolding ended pieces_outside
 string_ends text is =
     let found = fields_reached (piece string text ∷ []) [] [] (is, λ prefix q spell begun quotes. refl, refl, tt) refl tt in
     ap (λ t. ended (field_steps_from (Some field_text_start) t)) (sym (append-nil text))
-    ∙ ap ended (steps_of NoLimit field_text_start (field_state [] found.done [] found.mode found.held) (text ++ []) found.goes)
-    ∙ ap Some found.pieces_are
+    ∙ ap ended (steps_of NoLimit field_text_start (field_state [] found.done [] found.mode found.held) (text ++ []) found.goes) ∙ ap Some found.pieces_are
 
 -- f"{{" f"}}" : two strings
 two_strings : ReadsIn fielded (piece string (codes "f\"{{\"") ∷ piece space (codes " ") ∷ piece string (codes "f\"}}\"") ∷ []) (codes "f\"{{\" f\"}}\"")

@@ -20,11 +20,6 @@ use Rattle.py_lines.proofs.Lexings.Existence.{IsLineOf, lexical, reading_live}
 use Rattle.py_lines.proofs.Lexings.LineEnds.{none_both}
 use Rattle.py_lines.proofs.Lexings.Prefixes.{same_fault}
 
--- the fault of a text that dies at a character stays where it is
-goes_on_faulty : (kind : FaultKind) (characters rest : List ℕ) (offset : ℕ) → IsCharacterFault kind characters offset → IsCharacterFault kind (characters ++ rest) offset
-goes_on_faulty kind characters rest offset fault =
-    search (fault, fault.dies, sym (append_assoc fault.before (fault.c ∷ fault.dies.after) rest) ∙ ap (λ t. t ++ rest) fault.dies.spell)
-
 -- the same prefix of a text that goes on ends a line, and is the longest
 prefix_on : (kind : FaultKind) (characters rest : List ℕ) (offset : ℕ) (pieces : List Piece) → IsCharacterFault kind characters offset → IsReadPrefix pieces characters → IsReadPrefix pieces (characters ++ rest)
 prefix_on kind characters rest offset pieces fault prefix = record {
@@ -47,15 +42,13 @@ prefix_on kind characters rest offset pieces fault prefix = record {
 
 -- the line of a fault stays
 line_on : (characters tail rest : List ℕ) (fault : Fault) → IsLexicalFault characters tail fault → IsLineOf fault (characters ++ rest)
-line_on characters tail rest fault refused =
-    let found = field_fault_prefix fault.kind characters tail fault.offset refused.place in
-    record {
-      prefix = found.prefix;
-      rest = found.rest ++ rest;
-      spell = sym (append_assoc found.prefix found.rest rest) ∙ ap (λ t. t ++ rest) found.spell;
-      place = found.place;
-      line = refused.line found.prefix found.rest found.spell found.place;
-    }
+line_on characters tail rest fault refused = let found = field_fault_prefix fault.kind characters tail fault.offset refused.place in record {
+  prefix = found.prefix;
+  rest = found.rest ++ rest;
+  spell = sym (append_assoc found.prefix found.rest rest) ∙ ap (λ t. t ++ rest) found.spell;
+  place = found.place;
+  line = refused.line found.prefix found.rest found.spell found.place;
+}
 
 -- a text that goes on has the fault too, and after the same lines
 abbrev GoesOn : List ℕ → List ℕ → Fault → List ℕ → Type 0
@@ -66,7 +59,8 @@ by_character : (text more : List ℕ) (fault : Fault) (d : Decides text fault) �
 by_character text more fault d stays =
     let w = decoding (text ++ more) in
     let on = goes_on d.characters (d.tail ++ more) w.characters w.tail d.decodes.are w.decodes.are w.decodes.bad (sym (append_assoc (encode_utf8_all d.characters) d.tail more) ∙ ap (λ t. t ++ more) d.decodes.spell ∙ sym w.decodes.spell) in
-    let later = goes_on_faulty fault.kind d.characters on.rest fault.offset stays in (
+    let later : IsCharacterFault fault.kind (d.characters ++ on.rest) fault.offset
+    = search (stays, stays.dies, sym (append_assoc stays.before (stays.c ∷ stays.dies.after) on.rest) ∙ ap (λ t. t ++ on.rest) stays.dies.spell) in (
       record {
         characters = d.characters ++ on.rest;
         tail = w.tail;
@@ -78,21 +72,20 @@ by_character text more fault d stays =
     )
 
 by_bytes : (text more : List ℕ) (fault : Fault) (d : Decides text fault) → fault.kind ≡ faults.BadUtf8 → ((after : List ℕ) → StartsWithNoChar (d.tail ++ after)) → GoesOn text more fault d.characters
-by_bytes text more fault d is hopeless =
-    let at = undecodable fault.kind d.characters d.tail fault.offset is d.refused.place in (
-      record {
-        characters = d.characters;
-        tail = d.tail ++ more;
-        decodes = record { are = d.decodes.are; spell = sym (append_assoc (encode_utf8_all d.characters) d.tail more) ∙ ap (λ t. t ++ more) d.decodes.spell; bad = hopeless more };
-        refused = record {
-          unread = λ nothing. absurd (at.bad (none_both d.tail more nothing).0);
-          place = at_bytes (record { is = is; bad = λ nothing. at.bad (none_both d.tail more nothing).0; live = at.live; place = at.place });
-          line = d.refused.line;
-        };
-        stays = inr (is, λ after. subst StartsWithNoChar (sym (append_assoc d.tail more after)) (hopeless (more ++ after)));
-      },
-      λ pieces prefix. prefix,
-    )
+by_bytes text more fault d is hopeless = let at = undecodable fault.kind d.characters d.tail fault.offset is d.refused.place in (
+  record {
+    characters = d.characters;
+    tail = d.tail ++ more;
+    decodes = record { are = d.decodes.are; spell = sym (append_assoc (encode_utf8_all d.characters) d.tail more) ∙ ap (λ t. t ++ more) d.decodes.spell; bad = hopeless more };
+    refused = record {
+      unread = λ nothing. absurd (at.bad (none_both d.tail more nothing).0);
+      place = at_bytes (record { is = is; bad = λ nothing. at.bad (none_both d.tail more nothing).0; live = at.live; place = at.place });
+      line = d.refused.line;
+    };
+    stays = inr (is, λ after. subst StartsWithNoChar (sym (append_assoc d.tail more after)) (hopeless (more ++ after)));
+  },
+  λ pieces prefix. prefix,
+)
 
 continued : (text more : List ℕ) (fault : Fault) (d : Decides text fault) → GoesOn text more fault d.characters
 continued text more fault d = ⊎_elim (by_character text more fault d) (λ stays. by_bytes text more fault d stays.0 stays.1) d.stays

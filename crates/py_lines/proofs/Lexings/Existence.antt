@@ -4,7 +4,7 @@ use Rattle.std.proofs.lemmas.Bool.{cases_Bool, and_from}
 use Rattle.py_lines.specs.Piece.{Piece}
 use Rattle.py_lines.specs.Balance as brackets
 use Rattle.py_lines.specs.LogicalLine.{byte_len, line_ends}
-use Rattle.py_lines.specs.Reading.{Decodes, IsBalancedReading}
+use Rattle.py_lines.specs.Reading.{IsBalancedReading}
 use Rattle.py_lines.specs.Faults.{IsLive, IsCharacterFault, IsFaultAt, at_character, at_bytes, at_end, IsReadOrFaulty, IsLexicalFault}
 use Rattle.py_lines.specs.Given.{AreFirstLines}
 use Rattle.py_lines.specs.declared.fault.FaultKind.TheVariants as faults
@@ -68,8 +68,7 @@ lexical characters tail fault at is = record {
 pub with_line : (characters tail : List ℕ) (kind : FaultKind) (offset : ℕ) → IsFaultAt kind characters tail offset → (fault : Fault) × IsLexicalFault characters tail fault
 with_line characters tail kind offset at =
     let p = field_fault_prefix kind characters tail offset at in
-    let fault : Fault = record { kind = kind; offset = offset; line = 1 + line_ends p.prefix } in
-    (fault, lexical characters tail fault at (search p))
+    let fault : Fault = record { kind = kind; offset = offset; line = 1 + line_ends p.prefix } in (fault, lexical characters tail fault at (search p))
 
 -- every text is read or has a fault
 pub read_or_faulty : (characters tail : List ℕ) → IsReadOrFaulty characters tail
@@ -78,27 +77,23 @@ read_or_faulty characters tail = go tail (live_or_faulty characters [] field_tex
     go : (t : List ℕ) → IsLiveOrFaulty characters → IsReadOrFaulty characters t
     go t (inr (kind, offset, at)) = inr (kind, offset, at_character at)
     go (d ∷ ds) (inl live) = inr (faults.BadUtf8, byte_len characters, at_bytes (record { is = refl; bad = λ (h : d ∷ ds ≡ []). cc; live = live; place = refl }))
-    go [] (inl live) =
-        let run = live_goes characters live in
+    go [] (inl live) = let run = live_goes characters live in
         ⊎_elim (λ reading. inl (refl, (field_pieces run.0, reading))) (λ fault. inr (fault.0, fault.1, at_end fault.2)) (read_or_open characters run.0 run.1 run.2)
 
--- no line comes before the start of a text of these characters
-pub first_at : (text characters tail : List ℕ) (place line : ℕ) → Decodes text characters tail → place ≡ 0 → line ≡ 1 → AreFirstLines text place line []
-first_at text characters tail place line decodes first begun = record {
-  characters = characters;
-  tail = tail;
+-- no line comes before the start of a text
+pub first_none : (text : List ℕ) → AreFirstLines text 0 1 []
+first_none text = let of = decoding text in record {
+  characters = of.characters;
+  tail = of.tail;
   pieces = [];
-  rest = characters;
-  decodes = decodes;
+  rest = of.characters;
+  decodes = of.decodes;
   spell = refl;
   fit = tt;
   balanced = brackets.none [] refl;
   shallow = tt;
   ended = inl (inl refl, λ none. refl);
-  here = first;
-  number = begun;
+  here = refl;
+  number = refl;
   cut = refl;
 }
-
-pub first_none : (text : List ℕ) → AreFirstLines text 0 1 []
-first_none text = let of = decoding text in first_at text of.characters of.tail 0 1 of.decodes refl refl

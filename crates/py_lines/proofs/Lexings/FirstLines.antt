@@ -37,10 +37,8 @@ use Rattle.py_lines.proofs.Lexings.Prefixes.{some_lexing_of}
 -- the same pieces, with LF after the CR at their end, are a reading of their own
 fed_reading : (body : List Piece) (last : Piece) → last.text ≡ 13 ∷ [] → depth_through 0 body ≡ 0 → IsBalancedReading (body ++ last ∷ []) (spelled (body ++ last ∷ [])) → IsBalancedReading (body ++ piece line_end (13 ∷ 10 ∷ []) ∷ []) (spelled (body ++ piece line_end (13 ∷ 10 ∷ []) ∷ []))
 fed_reading body last text deep reading =
-    let all = body ++ last ∷ [] in
-    let other = piece line_end (13 ∷ 10 ∷ []) in
-    let level = balanced_first body (last ∷ []) reading.balanced deep in
-    record {
+    let all = body ++ last ∷ [] in let other = piece line_end (13 ∷ 10 ∷ []) in
+    let level = balanced_first body (last ∷ []) reading.balanced deep in record {
       reads = record { spell = refl; fit = fed_line fielded body last text reading.reads.fit };
       balanced = balance.both (body ++ other ∷ []) body (other ∷ []) refl level (balance.one (other ∷ []) other refl refl);
       shallow = shallow-push 0 body other (IsShallow-parts 0 body (last ∷ []) reading.shallow).0 (λ opens. absurd (both_ways _ refl opens)) (λ at. absurd (cc));
@@ -58,9 +56,7 @@ module _ (characters tail more : List ℕ) (pieces : List Piece) (settled : IsSe
     module _ (deep : depth_through 0 body ≡ 0) (cr : ends is_return last.text ≡ true) (later : List ℕ) (feeds : after ≡ 10 ∷ later) where
       -- a longer prefix would end a line, if LF were known
       not_known : (cs : List ℕ) → settled.rest ≡ 10 ∷ cs → ⊥
-      not_known cs left =
-          let others = body ++ piece line_end (13 ∷ 10 ∷ []) ∷ [] in
-          let text = returned_text last.text end cr in
+      not_known cs left = let others = body ++ piece line_end (13 ∷ 10 ∷ []) ∷ [] in let text = returned_text last.text end cr in
           let whole : spelled pieces ≡ spelled body ++ 13 ∷ [] = ap spelled is ∙ spelled-push body last.class last.text ∙ ap (λ x. spelled body ++ x) text in
           let longer : spelled others ≡ spelled pieces ++ 10 ∷ [] = spelled-push body line_end (13 ∷ 10 ∷ []) ∙ sym (append_assoc (spelled body) (13 ∷ []) (10 ∷ [])) ∙ ap (λ x. x ++ 10 ∷ []) (sym whole) in
           let spell : spelled others ++ cs ≡ characters = ap (λ x. x ++ cs) longer ∙ append_assoc (spelled pieces) (10 ∷ []) cs ∙ ap (λ x. spelled pieces ++ x) (sym left) ∙ settled.spell in
@@ -71,11 +67,9 @@ module _ (characters tail more : List ℕ) (pieces : List Piece) (settled : IsSe
       -- nor does it stand in the bytes that begin no character, or after all that are known
       not_next : (d : List ℕ) → d ≡ tail → settled.rest ≡ [] → ⊥
       not_next [] known left = both_ways _ (settled.ended.1 (ap (λ x. x ++ tail) left ∙ sym known)) (ap (λ (l : List Piece). ends is_return (spelled l)) is ∙ ends-last is_return body last end ∙ cr)
-      not_next (d ∷ ds) known left =
-          let one = encode_ascii 10 (omega arith) in
+      not_next (d ∷ ds) known left = let one = encode_ascii 10 (omega arith) in
           let bytes : ((10 ∷ []) ++ encode_utf8_all later) ++ t ≡ (d ∷ ds) ++ more = ap (λ x. (x ++ encode_utf8_all later) ++ t) (sym one) ∙ ap (λ x. encode_utf8_all x ++ t) (sym feeds) ∙ same ∙ ap (λ x. (encode_utf8_all x ++ tail) ++ more) left ∙ ap (λ x. x ++ more) (sym known) in
-          let first : d ≡ 10 = cc in
-          bad 10 ds refl (sym known ∙ ap (λ (n : ℕ). n ∷ ds) first ∙ ap (λ x. x ++ ds) (sym one))
+          let first : d ≡ 10 = cc in bad 10 ds refl (sym known ∙ ap (λ (n : ℕ). n ∷ ds) first ∙ ap (λ x. x ++ ds) (sym one))
 
       never_fed : ⊥
       never_fed = by settled.rest refl
@@ -85,9 +79,7 @@ module _ (characters tail more : List ℕ) (pieces : List Piece) (settled : IsSe
 
           by : (left : List ℕ) → settled.rest ≡ left → ⊥
           by [] left = not_next tail refl left
-          by (c ∷ cs) left =
-              let first : 10 ∷ later ≡ c ∷ (cs ++ on.rest) = sym feeds ∙ on.split ∙ ap (λ x. x ++ on.rest) left in
-              let ten : c ≡ 10 = cc in
+          by (c ∷ cs) left = let first : 10 ∷ later ≡ c ∷ (cs ++ on.rest) = sym feeds ∙ on.split ∙ ap (λ x. x ++ on.rest) left in let ten : c ≡ 10 = cc in
               not_known cs (left ∙ ap (λ (n : ℕ). n ∷ cs) ten)
 
   settled_fits : AreReadBefore pieces after
@@ -105,16 +97,14 @@ module _ (characters tail more : List ℕ) (pieces : List Piece) (settled : IsSe
 
 -- the bytes of the settled pieces, and those after them
 spelled_first : (text more : List ℕ) (pieces : List Piece) (rest characters tail : List ℕ) → spelled pieces ++ rest ≡ characters → encode_utf8_all characters ++ tail ≡ text → encode_utf8_all (spelled pieces) ++ ((encode_utf8_all rest ++ tail) ++ more) ≡ text ++ more
-spelled_first text more pieces rest characters tail spell bytes =
-    sym (append_assoc (encode_utf8_all (spelled pieces)) (encode_utf8_all rest ++ tail) more)
+spelled_first text more pieces rest characters tail spell bytes = sym (append_assoc (encode_utf8_all (spelled pieces)) (encode_utf8_all rest ++ tail) more)
     ∙ ap (λ x. x ++ more) (sym (append_assoc (encode_utf8_all (spelled pieces)) (encode_utf8_all rest) tail) ∙ ap (λ x. x ++ tail) (sym (encodes-append (spelled pieces) rest) ∙ ap encode_utf8_all spell) ∙ bytes)
 
 -- pieces that end a line for good do so where the text goes on
 still_ends : (pieces : List Piece) (rest tail more after t : List ℕ) → encode_utf8_all after ++ t ≡ (encode_utf8_all rest ++ tail) ++ more → EndsForGood pieces (rest ++ tail) → EndsForGood pieces (after ++ t)
 still_ends pieces rest tail more after t same ended = (
   ended.0,
-  λ none.
-      let parts = none_both after t none in
+  λ none. let parts = none_both after t none in
       let bytes : length (encode_utf8_all rest) + length tail + length more ≡ 0 = omega (arith, ap length same, ap byte_len parts.0, ap length parts.1, length-append (encode_utf8_all after) t, length-append (encode_utf8_all rest ++ tail) more, length-append (encode_utf8_all rest) tail) in
       ended.1 (nil_from_length (rest ++ tail) (omega (arith, bytes, length-append rest tail, length-le-encodes rest))),
 )
@@ -140,18 +130,10 @@ begins_with pieces others after rest fit reading read spell few = go (either (sp
         by mid (sym at) (compare_pieces pieces others mid [] (before_mid mid is) read.reads.fit (sym at ∙ sym (append-nil (spelled others))))
     go (Either.longer c k later at left) = absurd (omega (arith, few, ap length at, length-append (spelled others) (c ∷ k)))
 
--- so its lines are the first ones
-pub lines_begin : (pieces others : List Piece) (after rest : List ℕ) (lines all : List LogicalLine) → EndsLine pieces → lines ≡ lines_of pieces → all ≡ lines_of others → AreReadBefore pieces after → IsBalancedReading pieces (spelled pieces) → IsBalancedReading others (spelled others) → spelled pieces ++ after ≡ spelled others ++ rest → length (spelled pieces) ≤ length (spelled others) → (later : List LogicalLine) × (all ≡ lines ++ later)
-lines_begin pieces others after rest lines all ended cut whole fit reading read spell few =
-    let begun = begins_with pieces others after rest fit reading read spell few in
-    let first = lines_of-more pieces begun.0 ended in
-    (first.0, whole ∙ ap lines_of begun.1 ∙ first.1 ∙ ap (λ l. l ++ first.0) (sym cut))
-
 -- settled lines are the first of every text that goes on
 pub settled_first : (text more : List ℕ) (lines : List LogicalLine) (s : IsSettled text lines) → (f : AreFirstLines (text ++ more) (byte_len (spelled s.pieces)) (1 + line_ends (spelled s.pieces)) lines) × EndsForGood f.pieces (f.rest ++ f.tail)
 settled_first text more lines s =
-    let prefix = s.prefix in
-    let whole = decoding (text ++ more) in
+    let prefix = s.prefix in let whole = decoding (text ++ more) in
     let parts = all_scalars-parts (spelled s.pieces) prefix.rest (ap all_scalars prefix.spell ∙ s.decodes.are) in
     let on = goes_on (spelled s.pieces) ((encode_utf8_all prefix.rest ++ s.tail) ++ more) whole.characters whole.tail parts.0 whole.decodes.are whole.decodes.bad (spelled_first text more s.pieces prefix.rest s.characters s.tail prefix.spell s.decodes.spell ∙ sym whole.decodes.spell) in
     let good = still_ends s.pieces prefix.rest s.tail more on.rest whole.tail on.left prefix.ended in (
@@ -191,17 +173,14 @@ first_reading text place line lines f = ended_reading f.pieces f.rest f.fit f.ba
 
 -- where nothing follows them, or they reach to the text's end, they are all its lines
 all_before : (text : List ℕ) (place line : ℕ) (lines : List LogicalLine) (f : AreFirstLines text place line lines) → f.rest ++ f.tail ≡ [] → IsLexed text lines None
-all_before text place line lines f none =
-    let parts = none_both f.rest f.tail none in
-    search (
-      f,
-      subst (λ t. Decodes text f.characters t) parts.1 f.decodes,
-      subst (IsBalancedReading f.pieces) (sym (append-nil (spelled f.pieces)) ∙ ap (λ t. spelled f.pieces ++ t) (sym parts.0) ∙ f.spell) (first_reading text place line lines f),
-    )
+all_before text place line lines f none = let parts = none_both f.rest f.tail none in search (
+  f,
+  subst (λ t. Decodes text f.characters t) parts.1 f.decodes,
+  subst (IsBalancedReading f.pieces) (sym (append-nil (spelled f.pieces)) ∙ ap (λ t. spelled f.pieces ++ t) (sym parts.0) ∙ f.spell) (first_reading text place line lines f),
+)
 
 pub all_first : (text : List ℕ) (place line : ℕ) (lines : List LogicalLine) → AreFirstLines text place line lines → place ≡ length text → IsLexed text lines None
-all_first text place line lines f ends =
-    all_before text place line lines f (nil_from_length (f.rest ++ f.tail)
+all_first text place line lines f ends = all_before text place line lines f (nil_from_length (f.rest ++ f.tail)
     (omega (arith, f.here, ends, ap byte_len f.spell, byte_len-append (spelled f.pieces) f.rest, ap length f.decodes.spell, length-append (encode_utf8_all f.characters) f.tail, length-append f.rest f.tail, length-le-encodes f.rest)))
 
 -- of two prefixes of a text, the one of no more bytes has no more characters
@@ -218,13 +197,12 @@ module _ (text : List ℕ) (place line : ℕ) (lines : List LogicalLine) (f : Ar
   reading = first_reading text place line lines f
 
   begins_pieces : (characters tail : List ℕ) (others : List Piece) (rest : List ℕ) (all : List LogicalLine) → Decodes text characters tail → spelled others ++ rest ≡ characters → IsBalancedReading others (spelled others) → all ≡ lines_of others → (spelled f.pieces ++ f.rest ≡ characters → f.tail ≡ tail → length (spelled f.pieces) ≤ length (spelled others)) → (more : List LogicalLine) × (all ≡ lines ++ more)
-  begins_pieces characters tail others rest all decodes spell read cut bound =
-      let same = decoded text f.characters characters f.tail tail f.decodes decodes in
-      lines_begin f.pieces others f.rest rest lines all ended f.cut cut f.fit reading read (f.spell ∙ same.0 ∙ sym spell) (bound (f.spell ∙ same.0) same.1)
+  begins_pieces characters tail others rest all decodes spell read cut bound = let same = decoded text f.characters characters f.tail tail f.decodes decodes in
+      let begun = begins_with f.pieces others f.rest rest f.fit reading read (f.spell ∙ same.0 ∙ sym spell) (bound (f.spell ∙ same.0) same.1) in
+      let first = lines_of-more f.pieces begun.0 ended in (first.0, cut ∙ ap lines_of begun.1 ∙ first.1 ∙ ap (λ l. l ++ first.0) (sym f.cut))
 
   begins_so : (all : List LogicalLine) (end : Option Fault) → IsLexed text all end → (more : List LogicalLine) × (all ≡ lines ++ more)
-  begins_so all None lexed =
-      let whole : spelled lexed.pieces ≡ lexed.characters = lexed.reading.reads.spell in
+  begins_so all None lexed = let whole : spelled lexed.pieces ≡ lexed.characters = lexed.reading.reads.spell in
       begins_pieces lexed.characters [] lexed.pieces [] all lexed.decodes (append-nil (spelled lexed.pieces) ∙ whole) (subst (IsBalancedReading lexed.pieces) (sym whole) lexed.reading) lexed.cut
       (λ spell same. omega (arith, ap length (spell ∙ sym whole), length-append (spelled f.pieces) f.rest))
   begins_so all (Some fault) lexed = begins_pieces lexed.characters lexed.tail lexed.pieces lexed.prefix.rest all lexed.decodes lexed.prefix.spell lexed.prefix.reading lexed.cut (λ spell same. lexed.prefix.longest f.pieces f.rest spell reading ended)
@@ -236,18 +214,13 @@ module _ (text : List ℕ) (place line : ℕ) (lines : List LogicalLine) (f : Ar
   begins_first here number all g within = begins_pieces g.characters g.tail g.pieces g.rest all g.decodes g.spell (first_reading text here number all g) g.cut (λ spell same. fewer (spelled f.pieces) f.rest (spelled g.pieces) g.rest (spell ∙ sym g.spell) (omega (arith, f.here, g.here, within)))
 
   begins_lexing : BeginsLexing text lines
-  begins_lexing =
-      let all = some_lexing_of text in
-      let first = begins_so all.0 all.1 all.2 in
+  begins_lexing = let all = some_lexing_of text in let first = begins_so all.0 all.1 all.2 in
       record { more = first.0; end = all.1; lexed = subst (λ l. IsLexed text l all.1) first.1 all.2 }
 
 -- lines that a reader has given begin the lexing of its text
 pub given_begin : (reader : Reader) (lines : List LogicalLine) → HasGiven reader lines → BeginsLexing reader.text lines
-given_begin reader lines given =
-    let f = given.first in
-    ⊎_elim (λ ended. begins_lexing reader.text reader.place reader.line lines f ended.0)
-    (λ none.
-    let lexed = all_before reader.text reader.place reader.line lines f none in
+given_begin reader lines given = let f = given.first in ⊎_elim (λ ended. begins_lexing reader.text reader.place reader.line lines f ended.0)
+    (λ none. let lexed = all_before reader.text reader.place reader.line lines f none in
     record { more = []; end = None; lexed = subst (λ l. IsLexed reader.text l None) (sym (append-nil lines)) lexed }) f.ended
 
 -- a piece has a character

@@ -1,7 +1,7 @@
 -- Pieces that end a line: what they are read before, how deep they are, and how long.
 use Rattle.std.proofs.Common.{◌≡◌, ℕ, ◌+◌, List, [], ◌∷◌, ◌++◌, length, refl, sym, ap, ◌∙◌, subst, inl, inr, length-append, Bool, true, false, ◌&&◌, append-nil}
 use Rattle.std.proofs.lemmas.Bool.{both_ways, and_right, and_from, eq-eqb}
-use Rattle.py_lines.specs.Piece.{Class, operator, line_end, Piece, spelled, ends, begins, is_mark_class}
+use Rattle.py_lines.specs.Piece.{line_end, Piece, spelled, ends, begins, is_mark_class}
 use Rattle.py_lines.specs.Balance.{IsBalanced, depth_after, depth_through}
 use Rattle.py_lines.specs.Fields.{fielded, InClass, AreReadBefore, IsShallow}
 use Rattle.py_lines.specs.Reading.{EndsLine, IsBalancedReading}
@@ -9,6 +9,7 @@ use Rattle.py_lines.specs.LogicalLine.{is_line_end_class}
 use Rattle.py_lines.specs.Private.LineScan.{EndsNoLine}
 use Rattle.py_lines.proofs.Pieces.PieceLists.{piece, spelled-append, AreReadIn-append, AreReadIn-first, AreReadIn-second, follows_any}
 use Rattle.py_lines.proofs.Pieces.OpenBrackets.{depth_through-append}
+use Rattle.py_lines.proofs.LogicalLines.Cuts.{line_depth}
 use Rattle.py_lines.specs.Character.{is_return, is_line_feed}
 use Rattle.py_lines.specs.PieceGrammar.{Grammar, InClassIn, IsLineEnd, feed, return_feed, return, MayPrecedeIn, AreReadIn}
 use Rattle.py_lines.proofs.Fields.OneReading.{read_before, read_nothing}
@@ -21,9 +22,8 @@ line_text text (return same) = (13, [], same)
 
 -- the last characters of a text are those of its second part
 pub ends-append : (p : ℕ → Bool) (xs : List ℕ) (c : ℕ) (ys : List ℕ) → ends p (xs ++ c ∷ ys) ≡ ends p (c ∷ ys)
-ends-append p [] c ys = refl
-ends-append p (x ∷ []) c ys = refl
 ends-append p (x ∷ y ∷ xs) c ys = ends-append p (y ∷ xs) c ys
+ends-append p xs c ys = refl
 
 pub ends-last : (p : ℕ → Bool) (body : List Piece) (last : Piece) → IsLineEnd last.text → ends p (spelled (body ++ last ∷ [])) ≡ ends p last.text
 ends-last p body last holds =
@@ -51,10 +51,8 @@ module _ (grammar : Grammar) where
 
   -- pieces that end a line, before another rest
   pub read_on : (body : List Piece) (last : Piece) (rest after : List ℕ) → last.class ≡ line_end → AreReadIn grammar (body ++ last ∷ []) rest → ends is_return last.text && begins is_line_feed after ≡ false → AreReadIn grammar (body ++ last ∷ []) after
-  read_on body last rest after is fit apart =
-      let first = AreReadIn-first grammar body (last ∷ []) rest fit in
-      let text = line_text last.text (line_end_of body last rest is fit) in
-      let spell : last.text ++ [] ≡ text.0 ∷ text.1 = append-nil last.text ∙ text.2 in
+  read_on body last rest after is fit apart = let first = AreReadIn-first grammar body (last ∷ []) rest fit in
+      let text = line_text last.text (line_end_of body last rest is fit) in let spell : last.text ++ [] ≡ text.0 ∷ text.1 = append-nil last.text ∙ text.2 in
       AreReadIn-append grammar body (last ∷ []) after
       (subst (AreReadIn grammar body) (ap (λ t. t ++ after) (sym spell)) (read_before grammar body text.0 (text.1 ++ rest) (text.1 ++ after) (subst (AreReadIn grammar body) (ap (λ t. t ++ rest) spell) first)))
       ((AreReadIn-second grammar body (last ∷ []) rest fit).0, subst (λ x. MayPrecedeIn grammar x last.text after) (sym is) apart, refl, tt)
@@ -62,8 +60,7 @@ module _ (grammar : Grammar) where
 
   -- the same pieces, with LF after the CR at their end
   pub fed_line : (body : List Piece) (last : Piece) → last.text ≡ 13 ∷ [] → AreReadIn grammar (body ++ last ∷ []) [] → AreReadIn grammar (body ++ piece line_end (13 ∷ 10 ∷ []) ∷ []) []
-  fed_line body last text fit =
-      AreReadIn-append grammar body (piece line_end (13 ∷ 10 ∷ []) ∷ []) []
+  fed_line body last text fit = AreReadIn-append grammar body (piece line_end (13 ∷ 10 ∷ []) ∷ []) []
       (read_before grammar body 13 [] (10 ∷ []) (subst (AreReadIn grammar body) (append-nil (last.text ++ []) ∙ append-nil last.text ∙ text) (AreReadIn-first grammar body (last ∷ []) [] fit)))
       (return_feed refl, and_right _ _ refl, refl, tt) (follows_any body line_end (13 ∷ 10 ∷ []) refl)
 
@@ -76,8 +73,7 @@ pub ends-line : (p : ℕ → Bool) (body : List Piece) (last : Piece) → last.c
 ends-line p body last is holds = ends-last p body last (subst (λ k. InClass k last.text) is holds)
 
 -- pieces that are read before a rest are a reading of their own
-pub ended_reading : (base : List Piece) (rest : List ℕ) → AreReadBefore base rest → IsBalanced base → IsShallow 0 base
-    → IsBalancedReading base (spelled base)
+pub ended_reading : (base : List Piece) (rest : List ℕ) → AreReadBefore base rest → IsBalanced base → IsShallow 0 base → IsBalancedReading base (spelled base)
 ended_reading base rest fit balanced shallow =
     record { reads = record { spell = refl; fit = read_nothing fielded base rest fit }; balanced = balanced; shallow = shallow }
 
@@ -86,16 +82,10 @@ pub no_end_in : (d : ℕ) (k : List Piece) (w : Piece) (ws : List Piece) → End
 no_end_in d [] w ws none deep is = both_ways _ none.0 (and_from _ _ (ap is_line_end_class is) (eq-eqb d 0 deep))
 no_end_in d (p ∷ k) w ws none deep is = no_end_in (depth_after d p) k w ws none.1 deep is
 
-depth_line : (body : List Piece) (last : Piece) → last.class ≡ line_end → depth_through 0 body ≡ 0 → depth_through 0 (body ++ last ∷ []) ≡ 0
-depth_line body last is deep = depth_through-append 0 body (last ∷ []) ∙ ap (λ (d : ℕ). depth_after d last) deep ∙ go last.class is last.text
-  where
-    go : (class : Class) → class ≡ line_end → (text : List ℕ) → depth_after 0 (piece class text) ≡ 0
-    go operator h text = absurd (cc)
-    go class h text = refl
-
 pub depth_prefix : (prefix : List Piece) → EndsLine prefix → depth_through 0 prefix ≡ 0
 depth_prefix prefix (inl none) = ap (depth_through 0) none
-depth_prefix prefix (inr (body, last, is, class, deep)) = ap (depth_through 0) is ∙ depth_line body last class deep
+depth_prefix prefix (inr (body, last, is, class, deep)) =
+    ap (depth_through 0) is ∙ depth_through-append 0 body (last ∷ []) ∙ ap (λ (d : ℕ). depth_after d last) deep ∙ line_depth last 0 (ap is_line_end_class class)
 
 -- the length of pieces, part by part
 pub length_line : (body : List Piece) (p : Piece) (ps : List Piece) → length (spelled (body ++ p ∷ ps)) ≡ length (spelled body) + (length p.text + length (spelled ps))

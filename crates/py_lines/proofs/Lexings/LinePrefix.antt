@@ -14,11 +14,10 @@ use Rattle.py_lines.specs.Fields.{InClass, AreReadBefore}
 use Rattle.py_lines.specs.Settled.{EndsForGood, IsSettledPrefix}
 use Rattle.py_lines.specs.Lexed.{IsLexedToFault}
 use Rattle.py_lines.specs.Private.Mode as modes
-use Rattle.py_lines.specs.Private.Machine.{Move}
+use Rattle.py_lines.specs.Private.Machine.{Move, class_of, move_of}
 use Rattle.py_lines.specs.declared.fault.FaultKind.TheVariants as faults
 use Rattle.py_lines.specs.declared.fault.Fault.{Fault}
 use Rattle.py_lines.specs.Private.LineScan.{EndsNoLine}
-use Rattle.py_lines.specs.Private.Machine.{class_of, move_of}
 use Rattle.py_lines.specs.Private.FieldMachine.{FieldMode, plain, plain_move, Level, FieldScanned, field_state, field_fresh, field_text_start, field_closed, field_move, field_moved, field_steps_from}
 use Rattle.py_lines.proofs.Text.Splits.{Either, either}
 use Rattle.py_lines.proofs.Pieces.PieceLists.{piece, spelled-append, spelled-push, AreReadBefore-second}
@@ -62,12 +61,10 @@ stays_return body last done openers held (c ∷ cs) u class is steps =
     let parts = same_from_push done body (piece line_end held) last is in
     let from = field_state [] done openers (plain modes.Return) held in
     cond_both (is_line_feed c) _ _ (λ (v : Move). field_steps_from (field_moved from c (plain_move v)) cs ≡ Some u → Stays body last (outer_pieces u))
-    (λ h closed_runs.
-    let line : Piece = piece line_end (held ++ c ∷ []) in
+    (λ h closed_runs. let line : Piece = piece line_end (held ++ c ∷ []) in
     let more = stays_done body line (field_fresh [] (done ++ line ∷ []) openers) cs u refl (ap (λ l. l ++ line ∷ []) parts.0) closed_runs in
     let longer : length last.text ≤ length more.line.text
-    = omega (arith, ap (λ (p : Piece). length p.text) parts.1, length-append held (c ∷ []), more.longer) in
-    search (more, longer))
+    = omega (arith, ap (λ (p : Piece). length p.text) parts.1, length-append held (c ∷ []), more.longer) in search (more, longer))
     (λ h open_runs. stays_done body last (field_fresh [] (done ++ piece line_end held ∷ []) openers) (c ∷ cs) u class is open_runs) steps
 
 last_class : (done body : List Piece) (p last : Piece) → done ++ p ∷ [] ≡ body ++ last ∷ [] → last.class ≡ line_end → is_line_end_class p.class ≡ true
@@ -92,8 +89,7 @@ reading_stays pieces more before u body last steps spell reading is class =
     let from : List Level → FieldScanned = λ ls. field_state ls found.to.done found.to.openers found.to.mode found.to.held in
     let on : field_steps_from (Some found.to) more ≡ Some u =
     ap (λ o. field_steps_from o more) (sym found.steps) ∙ sym (steps-append (Some field_text_start) (spelled pieces) more)
-    ∙ ap (field_steps_from (Some field_text_start)) spell ∙ steps in
-    line_stays found.to.mode found.to.done found.to.openers found.to.held more u body last
+    ∙ ap (field_steps_from (Some field_text_start)) spell ∙ steps in line_stays found.to.mode found.to.done found.to.openers found.to.held more u body last
     (subst (λ ls. field_steps_from (Some (from ls)) more ≡ Some u) found.final.outside on) (found.pieces_are ∙ is) class
 
 -- where a list begins with another, what follows that
@@ -108,13 +104,10 @@ within prefix others rivals body last all pieces ended none is deep stays = go (
     same = sym pieces ∙ stays.is
 
     go : Either prefix body (stays.line ∷ stays.others) → length (spelled rivals) ≤ length (spelled prefix)
-    go (Either.shorter k one) =
-        let two = second_is prefix others body k (stays.line ∷ stays.others) same one in
+    go (Either.shorter k one) = let two = second_is prefix others body k (stays.line ∷ stays.others) same one in
         let level : depth_through 0 k ≡ 0 = ap (λ (d : ℕ). depth_through d k) (sym (depth_prefix prefix ended)) ∙ sym (depth_through-append 0 prefix k) ∙ ap (depth_through 0) (sym one) ∙ deep in
         absurd (no_end_in 0 k stays.line stays.others (subst (EndsNoLine 0) two none) level stays.class)
-    go (Either.longer p k after one two) =
-        let line : p ≡ stays.line = cc in
-        let whole = one ∙ ap (λ q. body ++ q ∷ k) line in
+    go (Either.longer p k after one two) = let line : p ≡ stays.line = cc in let whole = one ∙ ap (λ q. body ++ q ∷ k) line in
         let mine : length (spelled prefix) ≡ length (spelled body) + (length stays.line.text + length (spelled k)) = ap (λ l. length (spelled l)) whole ∙ length_line body stays.line k in
         let theirs : length (spelled rivals) ≡ length (spelled body) + (length last.text + 0) = ap (λ l. length (spelled l)) is ∙ length_line body last [] in
         omega (arith, mine, theirs, stays.longer)
@@ -123,14 +116,13 @@ within prefix others rivals body last all pieces ended none is deep stays = go (
 pub prefix_is : (before later characters : List ℕ) (u : FieldScanned) (prefix others : List Piece) → RunsTo before u → before ++ later ≡ characters
     → ((c : ℕ) (after : List ℕ) → later ≡ c ∷ after → ¬ (IsLive (before ++ c ∷ []))) → outer_pieces u ≡ prefix ++ others
     → IsBalancedReading prefix (spelled prefix) → EndsLine prefix → EndsNoLine 0 others → IsReadPrefix prefix characters
-prefix_is before later characters u prefix others steps spell dead pieces reading ended none =
-    record {
-      rest = spelled others ++ later;
-      spell = sym (append_assoc (spelled prefix) (spelled others) later) ∙ ap (λ t. t ++ later) (sym (spelled-append prefix others) ∙ ap spelled (sym pieces) ∙ runs_spell before u steps) ∙ spell;
-      reading = reading;
-      ended = ended;
-      longest = longest;
-    }
+prefix_is before later characters u prefix others steps spell dead pieces reading ended none = record {
+  rest = spelled others ++ later;
+  spell = sym (append_assoc (spelled prefix) (spelled others) later) ∙ ap (λ t. t ++ later) (sym (spelled-append prefix others) ∙ ap spelled (sym pieces) ∙ runs_spell before u steps) ∙ spell;
+  reading = reading;
+  ended = ended;
+  longest = longest;
+}
   where
     -- no longer prefix ends a line
     longest : (rivals : List Piece) (after : List ℕ) → spelled rivals ++ after ≡ characters → IsBalancedReading rivals (spelled rivals) → EndsLine rivals → length (spelled rivals) ≤ length (spelled prefix)
@@ -171,9 +163,8 @@ settled_at characters tail u base others rest steps pieces reading good yet spel
         let holds = (AreReadBefore-second body (last ∷ []) [] (subst (λ l. AreReadBefore l []) is reads.reads.fit)).0 in
         let some = line_first last class holds in
         let left : last.text ++ after ≡ 13 ∷ [] = append_cancel_left (spelled body) (last.text ++ after) (13 ∷ []) (sym (append_assoc (spelled body) last.text after) ∙ ap (λ t. t ++ after) (sym (spelled-push body last.class last.text) ∙ ap spelled (sym is)) ∙ spells ∙ sym whole ∙ ap spelled at ∙ spelled-push body line.class line.text ∙ ap (λ t. spelled body ++ t) cr) in
-        let first : some.0 ∷ (some.1 ++ after) ≡ 13 ∷ [] = ap (λ t. t ++ after) (sym some.2) ∙ left in
-        let none = none_both some.1 after (cc) in
-        let text : last.text ≡ 13 ∷ [] = some.2 ∙ cc in
+        let first : some.0 ∷ (some.1 ++ after) ≡ 13 ∷ [] = ap (λ t. t ++ after) (sym some.2) ∙ left in let at_first : some.0 ≡ 13 = cc in let none_after : some.1 ++ after ≡ [] = cc in
+        let none = none_both some.1 after none_after in let text : last.text ≡ 13 ∷ [] = some.2 ∙ (λ i. at_first i ∷ none.0 i) in
         both_ways _ (settles (ap (λ t. t ++ tail) none.1 ∙ bare)) (ap (λ l. ends is_return (spelled l)) is ∙ ends-line is_return body last class holds ∙ ap (ends is_return) text ∙ return_returns)
 
     bounded : (rivals : List Piece) (after : List ℕ) (body : List Piece) (last : Piece) → spelled rivals ++ after ≡ characters
@@ -188,11 +179,9 @@ settled_at characters tail u base others rest steps pieces reading good yet spel
         same = append_assoc base local (piece line_end text ∷ []) ∙ ap (λ l. base ++ l) (sym split_at) ∙ sym pieces ∙ stays.is
 
         go : Either (base ++ local) body (stays.line ∷ stays.others) → length (spelled rivals) ≤ length (spelled base)
-        go (Either.longer p k others_after one two) =
-            let line : p ≡ stays.line = cc in
+        go (Either.longer p k others_after one two) = let line : p ≡ stays.line = cc in
             within base local rivals body last (base ++ local) refl good.0 free is deep (search (stays, one ∙ ap (λ q. body ++ q ∷ k) line))
-        go (Either.shorter k one) =
-            let two = second_is (base ++ local) (piece line_end text ∷ []) body k (stays.line ∷ stays.others) same one in
+        go (Either.shorter k one) = let two = second_is (base ++ local) (piece line_end text ∷ []) body k (stays.line ∷ stays.others) same one in
             let (line, nothing) = one_of (piece line_end text) stays.line k stays.others two in
             absurd (at_return rivals after body last stays.line spells is reads class settles (stays.is ∙ ap (λ l. body ++ stays.line ∷ l) nothing) (ap (λ (p : Piece). p.text) line ∙ cr) bare)
 

@@ -19,8 +19,7 @@ follows_lines (p ∷ ps) rest h = h
 pub read_together : (lines rest : List Piece) → EndsLine lines → IsBalancedReading lines (spelled lines) → IsBalancedReading rest (spelled rest) → MayFollowLines lines rest → IsBalancedReading (lines ++ rest) (spelled (lines ++ rest))
 read_together lines rest (inl none) first second follows = subst (λ (l : List Piece). IsBalancedReading (l ++ rest) (spelled (l ++ rest))) (sym none) second
 read_together lines rest (inr (body, last, is, class, level)) first second follows =
-    let fit = subst (λ (l : List Piece). AreReadBefore l []) is first.reads.fit in
-    let holds = (AreReadBefore-second body (last ∷ []) [] fit).0 in
+    let fit = subst (λ (l : List Piece). AreReadBefore l []) is first.reads.fit in let holds = (AreReadBefore-second body (last ∷ []) [] fit).0 in
     let uncut : ends is_return last.text && begins is_line_feed (spelled rest ++ []) ≡ false =
     ap (λ t. ends is_return last.text && begins is_line_feed t) (append-nil (spelled rest))
     ∙ ap (λ b. b && begins is_line_feed (spelled rest)) (sym (ap (λ l. ends is_return (spelled l)) is ∙ ends-line is_return body last class holds)) ∙ follows.uncut in

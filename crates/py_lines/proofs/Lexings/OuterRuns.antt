@@ -13,8 +13,7 @@ use Rattle.py_lines.proofs.FieldMachine.WholeRuns.{RunsTo, runs_sound}
 -- those that are finished are among those that are found later
 pub found_on : (cs : List ℕ) (t u : FieldScanned) → field_steps_from (Some t) cs ≡ Some u → (ps : List Piece) × (outer_pieces u ≡ outer_done t ++ ps)
 found_on cs t u steps =
-    let kept = outer_runs cs t u steps in
-    let last = closed_on (outer_mode u) (outer_done u) (outer_held u) in
+    let kept = outer_runs cs t u steps in let last = closed_on (outer_mode u) (outer_done u) (outer_held u) in
     (kept.0 ++ last.0, last.1 ∙ ap (λ l. l ++ last.0) kept.1 ∙ append_assoc (outer_done t) kept.0 last.0)
 
 -- the open piece spells the text after the finished ones

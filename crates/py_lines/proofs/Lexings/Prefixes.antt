@@ -56,26 +56,16 @@ module _ (Good : List ℕ → List ℕ → Type 0) (decide : (xs ys : List ℕ) 
         rest = best.rest;
         spell = best.spell;
         good = best.good;
-        longest = λ others after same is few.
-            ⊎_elim (λ (less : length others < suc n). best.longest others after same is (omega (arith, less)))
+        longest = λ others after same is few. ⊎_elim (λ (less : length others < suc n). best.longest others after same is (omega (arith, less)))
             (λ (all : suc n ≤ length others).
             let cut = same_prefix others (take (suc n) characters) after (drop (suc n) characters) (same ∙ sym whole) (omega (arith, few, all, ap length (sym same), length-append others after, length-take (suc n) characters)) in
             absurd (bad (subst (Good (take (suc n) characters)) cut.1 (subst (λ t. Good t after) cut.0 is)))) (cases_lt (length others) (suc n));
       }
 
--- whether a text is read
-abbrev IsRead : List ℕ → Type 0
-IsRead xs = (pieces : List Piece) × IsBalancedReading pieces xs
-
-pub read_or_not : (xs : List ℕ) → IsRead xs ⊎ ¬ (IsRead xs)
-read_or_not xs = ⊎_elim (λ whole. inl whole.1) (λ fault. inr (λ is. fault_unread fault.0 xs [] fault.1 fault.2 refl is.0 is.1)) (read_or_faulty xs [])
-
 -- whether pieces end a line
 last_of : (p : Piece) (ps : List Piece) → (body : List Piece) × (last : Piece) × (p ∷ ps ≡ body ++ last ∷ [])
 last_of p [] = ([], p, refl)
-last_of p (q ∷ ps) =
-    let others = last_of q ps in
-    (p ∷ others.0, others.1, ap (λ l. p ∷ l) others.2)
+last_of p (q ∷ ps) = let others = last_of q ps in (p ∷ others.0, others.1, ap (λ l. p ∷ l) others.2)
 
 line_end_class : (class : Class) → (class ≡ line_end) ⊎ ¬ (class ≡ line_end)
 line_end_class line_end = inl refl
@@ -90,8 +80,7 @@ ends_line_or_not (p ∷ ps) = go (last_of p ps)
       where
         back : EndsLine (p ∷ ps) → (last.class ≡ line_end) × (depth_through 0 body ≡ 0)
         back (inl none) = absurd (cc)
-        back (inr (front, end, so, class, deep)) =
-            let same = same_from_push body front last end (sym is ∙ so) in
+        back (inr (front, end, so, class, deep)) = let same = same_from_push body front last end (sym is ∙ so) in
             (ap (λ (x : Piece). x.class) same.1 ∙ class, ap (depth_through 0) same.0 ∙ deep)
 
         by : (last.class ≡ line_end) ⊎ ¬ (last.class ≡ line_end) → (depth_through 0 body == 0 ≡ true) ⊎ (depth_through 0 body == 0 ≡ false) → EndsLine (p ∷ ps) ⊎ ¬ (EndsLine (p ∷ ps))
@@ -110,40 +99,27 @@ ends_for_good_or_not pieces rest = go rest (ends_line_or_not pieces) (cases_Bool
 
 -- the longest prefix that is read and ends so
 good_or_not : (EndSo : List Piece → List ℕ → Type 0) → ((pieces : List Piece) (rest : List ℕ) → EndSo pieces rest ⊎ ¬ (EndSo pieces rest)) → (xs ys : List ℕ) → ((pieces : List Piece) × IsBalancedReading pieces xs × EndSo pieces ys) ⊎ ¬ ((pieces : List Piece) × IsBalancedReading pieces xs × EndSo pieces ys)
-good_or_not EndSo decide xs ys = go (read_or_not xs)
+good_or_not EndSo decide xs ys = go (read_or_faulty xs [])
   where
-    go : IsRead xs ⊎ ¬ (IsRead xs) → ((pieces : List Piece) × IsBalancedReading pieces xs × EndSo pieces ys) ⊎ ¬ ((pieces : List Piece) × IsBalancedReading pieces xs × EndSo pieces ys)
-    go (inr unread) = inr (λ is. unread (is.0, is.1))
-    go (inl (pieces, reading)) =
-        ⊎_elim (λ (ended : EndSo pieces ys). inl (pieces, reading, ended))
+    go : IsReadOrFaulty xs [] → ((pieces : List Piece) × IsBalancedReading pieces xs × EndSo pieces ys) ⊎ ¬ ((pieces : List Piece) × IsBalancedReading pieces xs × EndSo pieces ys)
+    go (inr (kind, offset, fault)) = inr (λ is. fault_unread kind xs [] offset fault refl is.0 is.1)
+    go (inl (whole, (pieces, reading))) = ⊎_elim (λ (ended : EndSo pieces ys). inl (pieces, reading, ended))
         (λ (other : ¬ (EndSo pieces ys)). inr (λ is. other (subst (λ (l : List Piece). EndSo l ys) (one_fielded_reading is.0 pieces xs is.1.reads reading.reads) is.2))) (decide pieces ys)
 
 longest_exists : (EndSo : List Piece → List ℕ → Type 0) → ((pieces : List Piece) (rest : List ℕ) → EndSo pieces rest ⊎ ¬ (EndSo pieces rest)) → (characters : List ℕ) → EndSo [] characters → (pieces : List Piece) × IsLongest EndSo pieces characters
 longest_exists EndSo decide characters none =
-    let found = longest_up_to _ (good_or_not EndSo decide) characters ([], nothing_read, none) (length characters) in
-    let pieces = found.good.0 in
-    let reading = found.good.1 in
-    let same : spelled pieces ≡ found.first = reading.reads.spell in (
+    let found = longest_up_to _ (good_or_not EndSo decide) characters ([], record { reads = record { spell = refl; fit = tt }; balanced = balance.none [] refl; shallow = tt }, none) (length characters) in
+    let pieces = found.good.0 in let reading = found.good.1 in let same : spelled pieces ≡ found.first = reading.reads.spell in (
       pieces,
       record {
         rest = found.rest;
         spell = ap (λ t. t ++ found.rest) same ∙ found.spell;
         reading = subst (IsBalancedReading pieces) (sym same) reading;
         ended = found.good.2;
-        longest = λ others after spell read ended.
-            subst (λ t. length (spelled others) ≤ length t) (sym same)
+        longest = λ others after spell read ended. subst (λ t. length (spelled others) ≤ length t) (sym same)
             (found.longest (spelled others) after spell (others, read, ended) (omega (arith, ap length (sym spell) ∙ length-append (spelled others) after)));
       },
     )
-  where
-    nothing_read : IsBalancedReading [] []
-    nothing_read = record { reads = record { spell = refl; fit = tt }; balanced = balance.none [] refl; shallow = tt }
-
-pub read_prefix_exists : (characters : List ℕ) → (pieces : List Piece) × IsReadPrefix pieces characters
-read_prefix_exists characters = longest_exists _ (λ pieces rest. ends_line_or_not pieces) characters (inl refl)
-
-pub settled_prefix_exists : (characters tail : List ℕ) → (pieces : List Piece) × IsSettledPrefix pieces characters tail
-settled_prefix_exists characters tail = longest_exists _ (λ pieces rest. ends_for_good_or_not pieces (rest ++ tail)) characters (inl refl, λ none. refl)
 
 -- and it is one
 pub one_longest : (EndSo : List Piece → List ℕ → Type 0) (pieces others : List Piece) (characters : List ℕ) → IsLongest EndSo pieces characters → IsLongest EndSo others characters → pieces ≡ others
@@ -166,17 +142,13 @@ some_lexing_of text = go (read_or_faulty (decoding text).characters (decoding te
     go : IsReadOrFaulty characters tail → (lines : List LogicalLine) × (end : Option Fault) × IsLexed text lines end
     go (inl (whole, (pieces, reading))) =
         (lines_of pieces, None, record { characters = characters; pieces = pieces; decodes = subst (Decodes text characters) whole (decoding text).decodes; reading = reading; cut = refl })
-    go (inr (kind, offset, at)) =
-        let (fault, is) = with_line characters tail kind offset at in
-        let prefix = read_prefix_exists characters in
+    go (inr (kind, offset, at)) = let (fault, is) = with_line characters tail kind offset at in let prefix : (pieces : List Piece) × IsReadPrefix pieces characters = longest_exists _ (λ pieces rest. ends_line_or_not pieces) characters (inl refl) in
         (lines_of prefix.0, Some fault, record { characters = characters; tail = tail; pieces = prefix.0; decodes = (decoding text).decodes; prefix = prefix.1; refused = is; cut = refl })
 
 -- the known bytes of every text settle some lines
 pub some_settled : (text : List ℕ) → (lines : List LogicalLine) × IsSettled text lines
-some_settled text =
-    let of = decoding text in
-    let prefix = settled_prefix_exists of.characters of.tail in
-    (lines_of prefix.0, search (of, prefix.1))
+some_settled text = let of = decoding text in let prefix : (pieces : List Piece) × IsSettledPrefix pieces of.characters of.tail
+    = longest_exists _ (λ pieces rest. ends_for_good_or_not pieces (rest ++ of.tail)) of.characters (inl refl, λ none. refl) in (lines_of prefix.0, search (of, prefix.1))
 
 never_both : (text : List ℕ) (lines others : List LogicalLine) (fault : Fault) → IsLexedWhole text lines → IsLexedToFault text others fault → ⊥
 never_both text lines others fault r s =

@@ -64,8 +64,7 @@ low_encodes passes [] low all = (refl, refl)
 low_encodes passes (c ∷ cs) low all =
     let parts = and_parts (passes c) (list_all passes cs) all in
     let others = low_encodes passes cs low parts.1 in (
-      ap (λ t. t ++ encode_utf8_all cs) (encode_ascii c (low c parts.0))
-          ∙ ap (λ t. c ∷ t) others.0,
+      ap (λ t. t ++ encode_utf8_all cs) (encode_ascii c (low c parts.0)) ∙ ap (λ t. c ∷ t) others.0,
       and_from _ _ (low_scalar c (omega (arith, low c parts.0))) others.1,
     )
 

@@ -31,10 +31,9 @@ start_by class.LineFeed c = Start.LineEnd
 start_by class.Return c = Start.Open Mode.Return
 start_by class.Hash c = Start.Open Mode.Comment
 start_by class.Backslash c = Start.Open Mode.Backslash
-start_by class.Wide c = Start.Nothing
-start_by class.Other c = Start.Nothing
+start_by _ c = Start.Nothing
 
-pub nothing_low : (c : ℕ) → begins_nothing c ≡ true → c < 128
+nothing_low : (c : ℕ) → begins_nothing c ≡ true → c < 128
 unfolding begins_nothing
 nothing_low c h = ltb-true c 128 (and_parts (nat_lt c 128) _ h).0
 
@@ -75,24 +74,15 @@ unfolding start_of is_space is_operator is_line_feed is_return is_quote is_hash 
 high_start c high =
     let none : (ds : List ℕ) → list_any (nat_le 128) ds ≡ false → is_one_of ds c ≡ false
     = λ ds low. excluded (nat_le 128) (is_one_of ds) c (none_of (nat_le 128) ds c low) (le-leb 128 c high) in
-    rw (
-      high_word c high,
-      high_spelling c high,
-      none (codes " \t" ++ 0x0C ∷ []) refl,
-      none (codes "+-*/%@&|^~<>=!()[]{},:.;") refl,
-      none (codes "\n") refl,
-      none (codes "\r") refl,
-      none (codes "'\"") refl,
-      none (codes "#") refl,
-      none (codes "\\") refl,
-    ) refl
+    rw (high_word c high, high_spelling c high, none (codes " \t" ++ 0x0C ∷ []) refl, none (codes "+-*/%@&|^~<>=!()[]{},:.;") refl)
+    (rw (none (codes "\n") refl, none (codes "\r") refl, none (codes "'\"") refl, none (codes "#") refl, none (codes "\\") refl) refl)
 
 -- bytes of one class are bytes of wider characters, those of the others ASCII
 abbrev InRange : Class → ℕ → Type 0
 InRange class.Wide b = 128 ≤ b
 InRange k b = b < 128
 
-in_range : (k : Class) (b : ℕ) → is_of_class k b ≡ true → InRange k b
+pub in_range : (k : Class) (b : ℕ) → is_of_class k b ≡ true → InRange k b
 unfolding is_space is_quote is_line_feed is_return is_hash is_backslash
 in_range k b h = grind (arith, nat_tests, word_byte_low b, opening_operator b, closing-operator b, operator_ascii b, nothing_low b)
 
@@ -116,9 +106,7 @@ begins_by k c h = grind (arith, opening_operator c, closing-operator c, starts_b
 -- what bytes begin with is of the class of the first of them
 first_by : (k : Class) (bytes : List ℕ) (c : ℕ) → BeginsWith bytes c → is_of_class k (slice_index bytes 0) ≡ true → is_of_class k c ≡ true
 first_by class.Wide bytes c first h =
-    ⊎_elim
-    (λ low. absurd (omega (arith, low, leb-true 128 _ h, byte_from_char bytes _ c (sym first.spell) low)))
-    (λ high. le-leb 128 c high) (cases_lt c 128)
+    ⊎_elim (λ low. absurd (omega (arith, low, leb-true 128 _ h, byte_from_char bytes _ c (sym first.spell) low))) (λ high. le-leb 128 c high) (cases_lt c 128)
 first_by k bytes c first h =
     ap (is_of_class k) (char_from_byte bytes _ c (sym first.spell) (in_range k (slice_index bytes 0) h)
     (omega (arith, first_size first, len_utf8_bounds c))) ∙ h

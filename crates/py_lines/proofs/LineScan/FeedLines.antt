@@ -2,28 +2,25 @@
 use Rattle.std.proofs.Common.{◌≡◌, ℕ, zero, suc, ◌+◌, ◌-◌, ◌<◌, ◌≤◌, ◌==◌, false, ⊎_elim, inl, inr, List, [], ◌∷◌, ◌++◌, length, take, drop, slice_index, refl, sym, ap, ◌∙◌, subst, arith, length-drop, get_or-drop}
 use Rattle.std.proofs.Math.Path.{transport}
 use Rattle.std.proofs.lemmas.Bool.{cases_lt, ne_eqb, or_cases}
-use Rattle.py_lines.specs.Character.{is_line_feed, is_operator, is_space}
+use Rattle.py_lines.specs.Character.{is_line_feed}
 use Rattle.py_lines.specs.declared.frames.Frame.{Frame}
 use Rattle.py_lines.specs.declared.passing.Passing.{Passing}
 use Rattle.py_lines.specs.declared.scan.Scan.{Scan}
 use Rattle.py_lines.specs.Private.LineEnds.{BeginsOuterEnd}
 use Rattle.py_lines.specs.Private.Marks.{ArePlain, EndInFeed, is_plain}
 use Rattle.py_lines.specs.Private.Passing.{EndsAfter, FindsSpecial, IsCounted, lines_with}
-use Rattle.py_lines.specs.Private.Run.{is_ascii_word}
 use Rattle.py_lines.specs.Private.Scan.{Takes}
 use Rattle.py_lines.proofs.FieldScans.LineEnds.{feed_breaks}
 use Rattle.py_lines.proofs.FieldScans.PlainCode.{over_code}
 use Rattle.py_lines.proofs.FieldScans.Taking.{free_at}
 use Rattle.py_lines.proofs.LineScan.AsciiRuns.{all_pass}
 use Rattle.py_lines.proofs.LineScan.WholeLines.{HasPassedLines, HavePassed, ends_there, goes_on, here, left}
+use Rattle.py_lines.proofs.PassedPieces.LineFeeds.{lines_again}
 use Rattle.py_lines.proofs.PassedPieces.Items.{break_ends, break_over}
 use Rattle.py_lines.proofs.PassedPieces.Passed.{cut, cut-length}
 use Rattle.py_lines.proofs.PassedPieces.PlainBytes.{PlainTo, plain_run}
+use Rattle.py_lines.proofs.SpecialBytes.Places.{ends_special}
 use Rattle.py_lines.proofs.Text.CharacterTests.{feed_is}
-
-feed_special : is_plain 10 ≡ false
-unfolding is_plain is_ascii_word is_space is_operator
-feed_special = refl
 
 -- over plain bytes and LF
 module _ (bytes : List ℕ) (lines all at : ℕ) (more : all ≤ at) (within : at < length bytes) (plain : ArePlain bytes all at)
@@ -54,25 +51,20 @@ module _ (bytes : List ℕ) (lines all at : ℕ) (more : all ≤ at) (within : a
       let new : Scan = free_at (over_code (here on) run).frames (all - lines + (length run + 1)) in
       let there : at + 1 ≡ lines + new.stop = omega (arith, size, more, on.before) in
       ends_there on (length run) 1 (at + 1) new (subst (λ xs. EndsAfter (here on) xs (length run) 1 new) seen
-      (break_ends p 10 after feed_special 1 feed_breaks.0 begins (ap (λ (fs : List Frame). length fs == 0) p.frames))) there
+      (break_ends p 10 after ends_special.0 1 feed_breaks.0 begins (ap (λ (fs : List Frame). length fs == 0) p.frames))) there
   one_feed (f ∷ fs) on =
       let p = plain_to on in
       let some : suc (length fs) == 0 ≡ false = ne_eqb (suc (length fs)) 0 (λ none. omega (arith, none)) in
       goes_on on (f ∷ fs) (length run + 1) (at + 1) (omega (arith, size, more)) on.outside
       (transport (λ i. Takes (here on) (seen i) (length run + 1) (free_at (p.frames i) (all - lines + (length run + 1))))
-      (break_over p 10 after feed_special 1 feed_breaks.0 begins (ap (λ (fs : List Frame). length fs == 0) p.frames ∙ some)))
-
-lines_again : (fs : List Frame) (lines mid to : ℕ) → lines_with fs (lines_with fs lines mid) to ≡ lines_with fs lines to
-lines_again [] lines mid to = refl
-lines_again (f ∷ fs) lines mid to = refl
+      (break_over p 10 after ends_special.0 1 feed_breaks.0 begins (ap (λ (fs : List Frame). length fs == 0) p.frames ∙ some)))
 
 -- and so on, where the bytes up to `at` are plain
 module _ {bytes : List ℕ} (fs : List Frame) {from to : ℕ} (ends : EndInFeed bytes from to) where
   feeds_from : (n lines all at : ℕ) → at + n + 1 ≡ to → from ≤ at → all ≤ at → ArePlain bytes all at → HavePassed bytes fs lines all
       → HavePassed bytes fs (lines_with fs lines to) to
   feeds_from zero lines all at is first more plain on =
-      let last : at ≡ to - 1 = omega (arith, is) in
-      let there : at + 1 ≡ to = omega (arith, is) in
+      let last : at ≡ to - 1 = omega (arith, is) in let there : at + 1 ≡ to = omega (arith, is) in
       let feed = ap (λ n. is_line_feed (slice_index bytes n)) last ∙ ends.last in
       subst (λ n. HavePassed bytes fs (lines_with fs lines n) n) there
       (one_feed bytes lines all at more (omega (arith, is, ends.within)) plain (feed_is _ feed) fs on)
@@ -80,8 +72,7 @@ module _ {bytes : List ℕ} (fs : List Frame) {from to : ℕ} (ends : EndInFeed 
       let next : at + 1 + n + 1 ≡ to = omega (arith, is) in
       elim (or_cases (is_plain (slice_index bytes at)) _ (ends.each at first (omega (arith, is)))) [
         | inl other ↦
-            feeds_from n lines all (at + 1) next (omega (arith, first)) (omega (arith, more)) (λ i after upto within. ⊎_elim
-            (λ less. plain i after less within)
+            feeds_from n lines all (at + 1) next (omega (arith, first)) (omega (arith, more)) (λ i after upto within. ⊎_elim (λ less. plain i after less within)
             (λ later. let same : i ≡ at = omega (arith, later, upto) in ap (λ n. is_plain (slice_index bytes n)) same ∙ other) (cases_lt i at)) on
         | inr feed ↦
             subst (λ k. HavePassed bytes fs k to) (lines_again fs lines (at + 1) to)
@@ -108,8 +99,7 @@ pub finds_on : {bytes : List ℕ} {fs : List Frame} {p q : Passing} {at : ℕ} �
     → FindsSpecial bytes fs p at q → FindsOn bytes fs p at q
 finds_on {bytes} {fs} {p} {q} have counted finds = elim finds.passes [
   | inl same ↦
-      let all = ap (λ (r : Passing). r.all) (sym same) in
-      let lines = ap (λ (r : Passing). r.lines) (sym same) in
+      let all = ap (λ (r : Passing). r.all) (sym same) in let lines = ap (λ (r : Passing). r.lines) (sym same) in
       record {
         on = record {
           have = transport (λ i. HavePassed bytes fs (lines i) (all i)) have;
@@ -121,11 +111,7 @@ finds_on {bytes} {fs} {p} {q} have counted finds = elim finds.passes [
   | inr (ends, more, same) ↦
       let lines = ap (λ (r : Passing). r.lines) (sym same) in
       record {
-        on = record {
-          have = subst (λ n. HavePassed bytes fs n q.all) lines (feeds_passed fs ends p.lines have);
-          counted = more ∙ counted;
-          next = finds.next;
-        };
+        on = record { have = subst (λ n. HavePassed bytes fs n q.all) lines (feeds_passed fs ends p.lines have); counted = more ∙ counted; next = finds.next };
         further = omega (arith, ends.further, lines, lines_more fs p.lines q.all (omega (arith, have.before, ends.further)));
       }
 ]

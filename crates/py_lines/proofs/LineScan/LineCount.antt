@@ -16,9 +16,7 @@ EndsNoLine-push d (q ∷ ps) p none last = (none.0, EndsNoLine-push (depth_after
 -- a text has no more line ends than characters
 pub line_ends-le : (cs : List ℕ) → line_ends cs ≤ length cs
 line_ends-le [] = omega arith
-line_ends-le (c ∷ cs) =
-    let one = cond_both (ends_line c cs) 1 0 (λ n. n ≤ 1) (λ h. omega arith) (λ h. omega arith) in
-    omega (arith, one, line_ends-le cs)
+line_ends-le (c ∷ cs) = let one = cond_both (ends_line c cs) 1 0 (λ n. n ≤ 1) (λ h. omega arith) (λ h. omega arith) in omega (arith, one, line_ends-le cs)
 
 pub few_first : (cs : List ℕ) (n : ℕ) → line_ends (take n cs) ≤ n
 few_first cs n = omega (arith, line_ends-le (take n cs), length-take n cs)

@@ -1,5 +1,5 @@
 -- The scan of a line's characters, one after another: where it has come, the machine has, and where the line ends with one.
-use Rattle.std.proofs.Common.{◌≡◌, ℕ, ◌<◌, true, false, ◌&&◌, ◌==◌, List, [], ◌∷◌, ◌++◌, length, refl, sym, ap, ◌∙◌, arith, lit<, rules, ◌+◌, inl, inr, ◌⊎◌, Option, None, Some, subst, append-nil, append_assoc}
+use Rattle.std.proofs.Common.{◌≡◌, ℕ, ◌<◌, true, false, ◌&&◌, ◌==◌, List, [], ◌∷◌, ◌++◌, length, refl, sym, ap, ◌∙◌, arith, lit<, ◌+◌, inl, inr, ◌⊎◌, Option, None, Some, subst, append-nil, append_assoc}
 use Rattle.std.proofs.lemmas.Bool.{both_ways, and_parts, and_right, eqb-true, false_from_ne_true}
 use Rattle.std.proofs.lemmas.Str.{encode_ascii, encodes_same}
 use Rattle.py_lines.specs.Character.{is_line_feed, is_mark, is_return}
@@ -81,8 +81,8 @@ both_ends held c is feeds =
 
 -- where a line begins, nothing is read, and the scan stands before all of it
 begun_follows : (m : Mode) → begins_line m ≡ true → Follows (opened_at (first_open m)) (line_begun m)
-begun_follows modes.Start start = search (rules, [])
-begun_follows modes.Free start = search (rules, [])
+begun_follows modes.Start start = record { mode = refl; holds = refl; no_list = tt; quote = tt; start = refl; frames = ([], refl, refl, refl); stop = refl }
+begun_follows modes.Free start = record { mode = refl; holds = refl; no_list = tt; quote = tt; start = refl; frames = ([], refl, refl, refl); stop = refl }
 begun_follows m start = absurd (both_ways _ refl start)
 
 pub begun_reached : {m : Mode} {scan : Scan} → HasBegun m scan → begins_line m ≡ true → (text : List ℕ) → Reached m text scan text
@@ -111,18 +111,14 @@ module _ (t : FieldScanned) (read : List ℕ) (c : ℕ) (sound : IsFieldSound tw
       where
         by : (o : Option (List ℕ)) → after_operator [] (field_pieces t) c o ≡ Some next → EndsNoLine 0 (outer_done next)
         by None e = absurd (cc)
-        by (Some os) e =
-            subst (λ x. EndsNoLine 0 (outer_done x)) (some_is _ next e) (EndsNoLine-push 0 (field_pieces t) (piece operator (c ∷ [])) one refl)
+        by (Some os) e = subst (λ x. EndsNoLine 0 (outer_done x)) (some_is _ next e) (EndsNoLine-push 0 (field_pieces t) (piece operator (c ∷ [])) one refl)
     begun_one_line starts.LineEnd so next is one going =
-        subst (λ x. EndsNoLine 0 (outer_done x)) (some_is _ next is)
-        (EndsNoLine-push 0 (field_pieces t) (piece line_end (c ∷ [])) one
-        (ap (λ n. n == 0) (closed_depth t.mode t.done t.held ∙ depth_is) ∙ sym (and-true (frames t == 0))
-        ∙ ap (λ b. (frames t == 0) && b) (sym so) ∙ going))
+        subst (λ x. EndsNoLine 0 (outer_done x)) (some_is _ next is) (EndsNoLine-push 0 (field_pieces t) (piece line_end (c ∷ [])) one
+        (ap (λ n. n == 0) (closed_depth t.mode t.done t.held ∙ depth_is) ∙ sym (and-true (frames t == 0)) ∙ ap (λ b. (frames t == 0) && b) (sym so) ∙ going))
     begun_one_line starts.Nothing so next is one going = absurd (cc)
 
     closed_line : EndsNoLine 0 (outer_done t) → has_returned t ≡ false → EndsNoLine 0 (field_pieces t)
-    closed_line one open_yet =
-        closed_one_line t.mode t.done t.held (alone one) (ap (λ n. is_return_at t.mode && (n == 0)) depth_is ∙ open_yet)
+    closed_line one open_yet = closed_one_line t.mode t.done t.held (alone one) (ap (λ n. is_return_at t.mode && (n == 0)) depth_is ∙ open_yet)
 
   -- where no line ended before it, and none ends with it, none has ended after it
   more_one_line : (next : FieldScanned) → field_step t c ≡ Some next → EndsNoLine 0 (outer_done t) → has_returned t ≡ false → ends_line t c ≡ false
@@ -132,8 +128,7 @@ module _ (t : FieldScanned) (read : List ℕ) (c : ℕ) (sound : IsFieldSound tw
       by : OuterStep t c next → EndsNoLine 0 (outer_done next)
       by (OuterStep.outer_stays same) = subst (EndsNoLine 0) (sym same) one
       by (OuterStep.outer_closes none move is) =
-          subst (λ x. EndsNoLine 0 (outer_done x)) (sym is)
-          (EndsNoLine-push 0 t.done (piece (field_class_of t.mode) (t.held ++ c ∷ [])) (alone none one)
+          subst (λ x. EndsNoLine 0 (outer_done x)) (sym is) (EndsNoLine-push 0 t.done (piece (field_class_of t.mode) (t.held ++ c ∷ [])) (alone none one)
           (ap (λ b. b && (depth_through 0 t.done == 0)) (line_class t.mode) ∙ ap (λ n. is_return_at t.mode && (n == 0)) (depth_is none) ∙ open_yet))
       by (OuterStep.outer_breaks none move is) =
           begun_one_line none (start_of c) (starts_so c) next is (closed_line none one open_yet)
@@ -161,16 +156,9 @@ unmarked (p ∷ ps) rest t fit goes = no_mark p.class p.text (spelled ps) fit.0 
         → field_steps_from (Some (line_begun modes.Free)) (text ++ others) ≡ Some t → is_mark_class class ≡ false
     no_mark mark text others (c, same, marks) goes =
         let none : field_steps_from (Some (line_begun modes.Free)) (text ++ others) ≡ None =
-        ap (λ x. field_steps_from (Some (line_begun modes.Free)) (x ++ others)) same
-        ∙ ap (λ o. field_steps_from o others) (mark_stuck c marks) in
+        ap (λ x. field_steps_from (Some (line_begun modes.Free)) (x ++ others)) same ∙ ap (λ o. field_steps_from o others) (mark_stuck c marks) in
         absurd (let clash = sym none ∙ goes in cc)
     no_mark class text others holds goes = refl
-
--- what may follow a line that CR ends, which the machine holds yet
-returned_fit : (done : List Piece) (held more : List ℕ) → AreReadBefore done (held ++ more) → held ≡ 13 ∷ [] → begins is_line_feed more ≡ false
-    → AreReadBefore (done ++ piece line_end held ∷ []) more
-returned_fit done held more fit text none =
-    AreReadIn-push fielded done line_end held more fit (return text) (and_right _ _ none) (follows_any done line_end held refl)
 
 -- how many bytes the line end has that ends there
 abbrev line_end_size : FieldMode → ℕ
@@ -199,13 +187,13 @@ pub record IsReturned (t : FieldScanned) : Type 0 where
   pub held : t.held ≡ 13 ∷ []
 
 -- how a line ends with a character: CR closes with it, or a line end begins
-abbrev EndsSo : ℕ → FieldMode → FieldMove → Type 0
+abbrev pub EndsSo : ℕ → FieldMode → FieldMove → Type 0
 EndsSo c n v = ((n ≡ plain modes.Return) × (v ≡ closes)) ⊎ ((v ≡ breaks) × (is_line_feed c ≡ true))
 
-ends_so : (c : ℕ) (n : FieldMode) (v : FieldMove) → is_line_ending n v c ≡ true → EndsSo c n v
+pub ends_so : (c : ℕ) (n : FieldMode) (v : FieldMove) → is_line_ending n v c ≡ true → EndsSo c n v
 ends_so c (plain modes.Return) closes is = inl (refl, refl)
 ends_so c n breaks is = inr (refl, sym (line_ending_breaks n c) ∙ is)
-ends_so c n v is = absurd (grind arith)
+ends_so c n v is = absurd (both_ways _ refl is)
 
 -- the pieces of the line that it ends
 record LineWith (m : FieldMode) (next : FieldScanned) : Type 0 where
@@ -232,8 +220,7 @@ line_with outer done openers m held read c next sound none bare one step ends =
         record {
           body = done;
           text = held ++ c ∷ [];
-          is = sym (some_is _ next (moved_to is closes closing))
-              ∙ ap (λ n. field_fresh [] (done ++ piece (field_class_of n) (held ++ c ∷ []) ∷ []) []) returns;
+          is = sym (some_is _ next (moved_to is closes closing)) ∙ ap (λ n. field_fresh [] (done ++ piece (field_class_of n) (held ++ c ∷ []) ∷ []) []) returns;
           one_line = lines;
           size = ap line_end_size returns
               ∙ both_ends held c (holds_return alone read there returns) (return_feeds held c (ap (λ n. field_move n held c) (sym returns) ∙ closing));
@@ -312,8 +299,7 @@ module _ {m : Mode} {read : List ℕ} (way : IsUnderWay m read) where
     pub returned_at : has_returned t ≡ true → IsReturned t
     returned_at is =
         let parts = and_parts (is_return_at t.mode) (frames t == 0) is in
-        let (none, bare) = framed t.outer t.openers (eqb-true _ 0 parts.1) in
-        let mode = return_at t.mode parts.0 in
+        let (none, bare) = framed t.outer t.openers (eqb-true _ 0 parts.1) in let mode = return_at t.mode parts.0 in
         record { outside = none; bare = bare; mode = mode; held = holds_return t read way_sound mode }
 
     pub returned : {scan : Scan} {rest : List ℕ} → scan.stop ≡ here t → has_returned t ≡ true
@@ -322,7 +308,8 @@ module _ {m : Mode} {read : List ℕ} (way : IsUnderWay m read) where
         let r = returned_at is in
         at_end m read rest 1 t.done t.held (return_list t.outer t.done t.openers t.mode t.held read way_sound r.outside r.bare r.mode)
         (subst (λ o. EndsNoLine 0 (outer_list o t.done)) r.outside way_one_line) (one_low 13 (lit< tt) ∙ ap byte_len (sym r.held))
-        (λ after is_rest. returned_fit t.done t.held after (way_sound.list.fit after) r.held (follows after is_rest)) t way_runs.0 (at ∙ way_here)
+        (λ after is_rest. AreReadIn-push fielded t.done line_end t.held after (way_sound.list.fit after) (return r.held)
+        (and_right _ _ (follows after is_rest)) (follows_any t.done line_end t.held refl)) t way_runs.0 (at ∙ way_here)
 
     -- or it ends with a character
     ended : (c : ℕ) (next : FieldScanned) → room_step t c ≡ Some next → {scan : Scan} → ends_line t c ≡ true → scan.stop ≡ here next → (rest : List ℕ)
@@ -335,8 +322,7 @@ module _ {m : Mode} {read : List ℕ} (way : IsUnderWay m read) where
       where
         by : LineWith t.mode next → IsFieldSound two_hundred next (read ++ c ∷ []) → IsAtLineEnd m scan (read ++ c ∷ []) rest (line_end_size t.mode)
         by l sound =
-            let all = read ++ c ∷ [] in
-            let pieces = l.body ++ piece line_end l.text ∷ [] in
+            let all = read ++ c ∷ [] in let pieces = l.body ++ piece line_end l.text ∷ [] in
             let there : IsFieldSound two_hundred (field_fresh [] pieces []) all = subst (λ x. IsFieldSound two_hundred x all) l.is sound in
             at_end m all rest (line_end_size t.mode) l.body l.text
             (subst (EndsList two_hundred [] [] pieces) there.spell (list_ends two_hundred [] pieces [] (plain modes.Free) [] all there refl))
@@ -344,8 +330,7 @@ module _ {m : Mode} {read : List ℕ} (way : IsUnderWay m read) where
             (runs_both (line_begun m) read (c ∷ []) t next way_runs (runs_one t c next step)).0 (stop ∙ ap byte_len sound.spell)
 
 -- more characters, none of which ends the line
-abbrev pub way_on : {m : Mode} {read : List ℕ} (way : IsUnderWay m read) (run : List ℕ) (to : FieldScanned) → Goes way.field run to
-    → IsUnderWay m (read ++ run)
+abbrev pub way_on : {m : Mode} {read : List ℕ} (way : IsUnderWay m read) (run : List ℕ) (to : FieldScanned) → Goes way.field run to → IsUnderWay m (read ++ run)
 way_on {m} {read} way run to goes = record { field = to; goes = goes-append (line_begun m) way.field to read run way.goes goes }
 
 -- characters whose first byte is no LF begin with no LF
@@ -397,8 +382,7 @@ two_bytes body last read fit class spell returns = by (line_end_of fielded body 
 
     by : IsLineEnd last.text → byte_len last.text ≡ 2
     by (feed is) =
-        absurd (both_ways _ (ap (ends is_return) (sym (whole 10 is).0)
-        ∙ no_cut body (spelled (last ∷ []) ++ []) (AreReadBefore-first body (last ∷ []) [] fit)
+        absurd (both_ways _ (ap (ends is_return) (sym (whole 10 is).0) ∙ no_cut body (spelled (last ∷ []) ++ []) (AreReadBefore-first body (last ∷ []) [] fit)
         (ap (λ t. begins is_line_feed ((t ++ []) ++ [])) is)) returns)
     by (return_feed is) = ap byte_len is ∙ sym (both_ends (13 ∷ []) 10 refl refl)
     by (return is) = absurd (omega (arith, (whole 13 is).1))
@@ -416,8 +400,7 @@ fed {m} {read} {new} way start open_yet run to next (inl none) goes ends step st
     subst (λ r. IsAtLineEnd m new (read ++ (r ++ 10 ∷ [])) rest (length r + 1)) (sym none)
     (subst (λ n. IsAtLineEnd m new (read ++ 10 ∷ []) rest n) (one_at way.field.mode other) at)
 fed {m} {read} {new} way start open_yet run to next (inr one) goes ends step stop rest =
-    let after = way_on way (13 ∷ []) to (subst (λ r. Goes way.field r to) one goes) in
-    let at = ended after start 10 next step ends stop in
+    let at = ended (way_on way (13 ∷ []) to (subst (λ r. Goes way.field r to) one goes)) start 10 next step ends stop in
     let alone = at [] in
     let size : line_end_size to.mode ≡ 2 = alone.are.size
     ∙ two_bytes alone.body alone.last (read ++ 13 ∷ []) (alone.fit [] refl) alone.are.class alone.spell (ends-last is_return read 13) in
@@ -435,7 +418,5 @@ line_fed {m} {read} {new = new} way start open_yet e after apart =
 pub line_returned : {m : Mode} {read bytes : List ℕ} {len : ℕ} {new : Scan} (way : IsUnderWay m read) → begins_line m ≡ true
     → EndsWithReturn way.field bytes len new → IsLineBefore m new (read ++ 13 ∷ []) len
 line_returned {m} {read} {new = new} way start e after apart =
-    let on = way_on way (13 ∷ []) e.to e.goes in
-    subst (λ n. IsAtLineEnd m new (read ++ 13 ∷ []) (encode_utf8_all after) n) (sym e.size)
-    (returned on start e.stop e.returned
+    subst (λ n. IsAtLineEnd m new (read ++ 13 ∷ []) (encode_utf8_all after) n) (sym e.size) (returned (way_on way (13 ∷ []) e.to e.goes) start e.stop e.returned
     (λ a spells. ap (begins is_line_feed) (encodes_same a after spells) ∙ apart (ends-last is_return read 13 ∙ return_returns)))

@@ -31,8 +31,7 @@ pub record Stands (whole : List ℕ) (scan : Scan) (rest : List ℕ) : Type 0 wh
   pub there : rest ≡ drop scan.stop whole
   pub quote : HasQuote scan.mode
 
-pub stands_reached : (m : Mode) (whole : List ℕ) (scan : Scan) (rest : List ℕ) → begins_line m ≡ true → Reached m whole scan rest
-    → Stands whole scan rest
+pub stands_reached : (m : Mode) (whole : List ℕ) (scan : Scan) (rest : List ℕ) → begins_line m ≡ true → Reached m whole scan rest → Stands whole scan rest
 stands_reached m whole scan rest start r = let end = rests_end r.way start r.rests in record {
   room = omega (arith, end, ap length r.spell, length-append (encode_utf8_all r.read) rest);
   there = sym (drop_at (encode_utf8_all r.read) rest scan.stop (sym end)) ∙ ap (drop scan.stop) r.spell;
@@ -77,7 +76,6 @@ comes_along {first} {bytes} {scan} way further goes = let on = gone way goes in 
 -- where nothing is left, nothing is pending
 none_pending : (m : OpenMode) → is_pending m [] ≡ true
 none_pending (opens.Fields h regions.Literal false) = refl
-none_pending (opens.Fields h region named) = refl
 none_pending m = refl
 
 -- Where the scan leaves bytes that don't tell yet: the machine goes over their characters, as the state that the scan keeps count of does.
@@ -122,8 +120,7 @@ module _ {first : Scan} {text : List ℕ} {old : Scan} {before : List ℕ} (way 
         let (n, all, begins, at) = way in
         let first_over = comes (progress.Going len) going (goes n all begins at) in (
           λ m whole start r.
-              let o = goes m whole start r in
-              let over = comes (progress.Going len) going o in
+              let o = goes m whole start r in let over = comes (progress.Going len) going o in
               reached_more o over.run (drop len before) new over.to over.goes over.rests over.spell over.scalars,
           first_over.some,
           omega (arith, first_over.size, ap length first_over.spell, length-append (encode_utf8_all first_over.run) (drop len before)),
@@ -145,8 +142,7 @@ module _ {first : Scan} {text : List ℕ} {old : Scan} {before : List ℕ} (way 
     stops_wrong {line_fault = line_fault} wrong = let (n, all, begins, at) = way in record {
       further = omega (arith, further, ap (λ (s : Scan). s.stop) (comes (progress.Wrong line_fault) wrong (goes n all begins at)).1);
       scans = λ m whole start r.
-          let o = goes m whole start r in
-          let (w, kept) = comes (progress.Wrong line_fault) wrong o in
+          let o = goes m whole start r in let (w, kept) = comes (progress.Wrong line_fault) wrong o in
           scans_over o new (stops.Wrong line_fault) w.run (encode_utf8 w.c ++ w.after) w.scalars w.spell (record {
             way = way_on o.way w.run w.to w.goes;
             c = w.c;
@@ -165,8 +161,7 @@ module _ {first : Scan} {text : List ℕ} {old : Scan} {before : List ℕ} (way 
   stops_left over pending = record {
     further = further;
     scans = λ m whole start r.
-        let o = goes m whole start r in
-        let (all, alone) = over o.rests.as_if o.rests.follows in
+        let o = goes m whole start r in let (all, alone) = over o.rests.as_if o.rests.follows in
         let past = goes_past o.way o.rests.as_if before all.run all.rest all.to o.rests.stands all.scalars all.spell all.goes alone in
         scans_over o old stops.TextEnd all.run all.rest all.scalars all.spell (record {
           way = past.way;
@@ -183,8 +178,7 @@ module _ {first : Scan} {text : List ℕ} {old : Scan} {before : List ℕ} (way 
 
   pub stops_waiting : (p : Progress) (new : Scan) → Steps old before p new → p ≡ progress.Waits → StopsSo text first stops.TextEnd new
   stops_waiting p new steps waits =
-      let (n, all, begins, at) = way in
-      let o = goes n all begins at in
+      let (n, all, begins, at) = way in let o = goes n all begins at in
       let told = waiting o.rests.as_if o.rests.follows in
       subst (StopsSo text first stops.TextEnd) (sym told.3) (stops_left (λ t follows. let more = waiting t follows in (more.0, more.1)) told.2)
     where

@@ -7,9 +7,6 @@ use Rattle.py_lines.specs.Piece.{begins}
 use Rattle.py_lines.specs.Private.Run.{IsRunOf, is_text_byte, IsWholePlainString}
 use Rattle.py_lines.proofs.LineScan.AsciiRuns.{all_pass, full_take}
 
-split_at : (body : List ℕ) (n : ℕ) → n < length body → take n body ++ slice_index body n ∷ drop (suc n) body ≡ body
-split_at body n within = ap (λ t. take n body ++ t) (sym (drop-cons body n 0 within)) ∙ take-append-drop n body
-
 pub text_whole : (bytes : List ℕ) (n : ℕ) → begins is_quote bytes ≡ true
     → IsRunOf (is_text_byte (slice_index bytes 0)) (take (length bytes - 1) (drop 1 bytes)) n
     → 0 < n → 1 + n < length bytes → slice_index bytes (1 + n) ≡ slice_index bytes 0 → IsWholePlainString bytes (1 + n + 1)
@@ -22,7 +19,7 @@ text_whole (q ∷ body) n begins_so run some within closing =
       run = take n body;
       after = drop (suc n) body;
       spell = ap (λ (c : ℕ). q ∷ (take n body ++ c ∷ drop (suc n) body)) (sym closing ∙ ap (slice_index (q ∷ body)) (sym last))
-          ∙ ap (λ t. q ∷ t) (split_at body n further);
+          ∙ ap (λ t. q ∷ t) (ap (λ t. take n body ++ t) (sym (drop-cons body n 0 further)) ∙ take-append-drop n body);
       size = omega (arith, length-take-le n body own.within);
       quote = begins_so;
       full = full_take body n some further;
@@ -31,5 +28,4 @@ text_whole (q ∷ body) n begins_so run some within closing =
 
 -- its length
 pub text_size : (bytes : List ℕ) (len : ℕ) → IsWholePlainString bytes len → (0 < len) × (len ≤ length bytes)
-text_size bytes len is =
-    (omega (arith, is.size), omega (arith, is.size, ap length is.spell, length-append is.run (is.q ∷ is.after)))
+text_size bytes len is = (omega (arith, is.size), omega (arith, is.size, ap length is.spell, length-append is.run (is.q ∷ is.after)))

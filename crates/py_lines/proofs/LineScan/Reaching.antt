@@ -50,11 +50,7 @@ reached_over {m} {text} {bytes} {old} r new len takes =
     by [] spell scalars follows = record {
       read = r.read;
       way = r.way;
-      rests = record {
-        as_if = r.rests.as_if;
-        follows = follows;
-        stands = subst (λ b. StandsAs b r.way.field r.rests.as_if) (sym spell) r.rests.stands;
-      };
+      rests = record { as_if = r.rests.as_if; follows = follows; stands = subst (λ b. StandsAs b r.way.field r.rests.as_if) (sym spell) r.rests.stands };
       spell = ap (λ b. encode_utf8_all r.read ++ b) spell ∙ r.spell;
       scalars = r.scalars;
     }
@@ -65,8 +61,7 @@ reached_over {m} {text} {bytes} {old} r new len takes =
 -- a run of characters was held
 pub reached_run : {m : Mode} {text mid : List ℕ} {old : Scan} (r : Reached m text old mid) (new : Scan) (rest : List ℕ)
     → HoldsRun old mid rest new → Reached m text new rest
-reached_run {m} {text} r new rest (len, holds, is) =
-    subst (Reached m text new) (sym is) (reached_over r new len (λ t follows. (holds t follows).0))
+reached_run {m} {text} r new rest (len, holds, is) = subst (Reached m text new) (sym is) (reached_over r new len (λ t follows. (holds t follows).0))
 
 -- the scan stops after more characters of a line
 pub scans_over : {m : Mode} {whole before : List ℕ} {old : Scan} (o : Reached m whole old before) (new : Scan) (stop : Stop) (run rest : List ℕ)
@@ -80,11 +75,8 @@ scans_over {whole = whole} {before = before} o new stop run rest scalars spell i
 }
 
 -- bytes of a line end are its characters
-pub feed_bytes : (run : List ℕ) → (run ≡ []) ⊎ (run ≡ 13 ∷ [])
-    → (all_scalars (run ++ 10 ∷ []) ≡ true) × (encode_utf8_all (run ++ 10 ∷ []) ≡ run ++ 10 ∷ [])
-feed_bytes run which =
-    let low = low_encodes is_low (run ++ 10 ∷ []) low_is (⊎_elim (λ is. rw is refl) (λ is. rw is refl) which) in
-    (low.1, low.0)
+pub feed_bytes : (run : List ℕ) → (run ≡ []) ⊎ (run ≡ 13 ∷ []) → (all_scalars (run ++ 10 ∷ []) ≡ true) × (encode_utf8_all (run ++ 10 ∷ []) ≡ run ++ 10 ∷ [])
+feed_bytes run which = let low = low_encodes is_low (run ++ 10 ∷ []) low_is (⊎_elim (λ is. rw is refl) (λ is. rw is refl) which) in (low.1, low.0)
 
 pub return_bytes : encode_utf8_all (13 ∷ []) ≡ 13 ∷ []
 return_bytes = (low_encodes is_low (13 ∷ []) low_is refl).0
@@ -105,12 +97,9 @@ ends_there {m} {whole} {before} {old} start o new len comes = ⊎_elim with_feed
 
     with_feed : EndsWithFeed o.way.field before len new → EndsThere m whole before old new len
     with_feed e =
-        let all = e.run ++ 10 ∷ [] in
-        let bytes = feed_bytes e.run e.first in
-        let open_yet = stands_open before o.way.field o.rests.as_if (follows_open old o.rests.as_if o.rests.follows) o.rests.stands in
-        let no_return = ap (ends is_return) (sym (append_assoc o.read e.run (10 ∷ [])))
-        ∙ ends-last is_return (o.read ++ e.run) 10 ∙ feed_unreturned in
-        let line = line_fed o.way start open_yet e in
+        let all = e.run ++ 10 ∷ [] in let bytes = feed_bytes e.run e.first in
+        let no_return = ap (ends is_return) (sym (append_assoc o.read e.run (10 ∷ []))) ∙ ends-last is_return (o.read ++ e.run) 10 ∙ feed_unreturned in
+        let line = line_fed o.way start (stands_open before o.way.field o.rests.as_if (follows_open old o.rests.as_if o.rests.follows) o.rests.stands) e in
         record {
           scans = scans_over o new (stops.LineEnd len) all e.rest bytes.0
               (ap (λ t. t ++ e.rest) bytes.1 ∙ append_assoc e.run (10 ∷ []) e.rest ∙ e.spell) (line, inl no_return);

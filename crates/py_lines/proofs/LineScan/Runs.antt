@@ -28,8 +28,7 @@ ascii_or_high m c rest quote h =
     ⊎_elim
     (λ (low : slice_index (encode_utf8 c ++ rest) 0 < 128). subst (λ (n : ℕ). stays m n ≡ true) (sym (char_from_byte (encode_utf8 c ++ rest) rest c refl low some)) h)
     (λ (high : 128 ≤ slice_index (encode_utf8 c ++ rest) 0).
-    ⊎_elim
-    (λ (low : c < 128). absurd (omega (arith, high, low, byte_from_char (encode_utf8 c ++ rest) rest c refl low)))
+    ⊎_elim (λ (low : c < 128). absurd (omega (arith, high, low, byte_from_char (encode_utf8 c ++ rest) rest c refl low)))
     (λ (more : 128 ≤ c). stays-high m _ c quote high more h) (cases_lt c 128)) (cases_lt (slice_index (encode_utf8 c ++ rest) 0) 128)
 
 characters_stay : (m : OpenMode) (cs : List ℕ) → HasQuote m

@@ -34,8 +34,7 @@ begins_any (p ∷ ps) last rest = tt
 pub base_of : (n : ℕ) (base : List Piece) (rest : List ℕ) → AreReadBefore base rest → EndsLine base → n ≡ byte_len (spelled base) → Base n base
 base_of n base rest fit (inl none) size = Base.bare none (ap first_mode (size ∙ ap (λ l. byte_len (spelled l)) none))
 base_of n base rest fit (inr (body, last, is, class, level)) size =
-    let second = AreReadBefore-second body (last ∷ []) rest (subst (λ l. AreReadBefore l rest) is fit) in
-    let text = line_first last class second.0 in
+    let text = line_first last class (AreReadBefore-second body (last ∷ []) rest (subst (λ l. AreReadBefore l rest) is fit)).0 in
     let total : byte_len (spelled base) ≡ byte_len (spelled body) + byte_len (last.text ++ []) = ap (λ l. byte_len (spelled l)) is
     ∙ ap byte_len (spelled-append body (last ∷ [])) ∙ byte_len-append (spelled body) (last.text ++ []) in
     let bytes : 0 < byte_len (last.text ++ []) = omega (arith, length-le-encodes (last.text ++ []), ap length (append-nil last.text ∙ text.2)) in

@@ -55,15 +55,9 @@ line_push (t ∷ texts) read line after are some whole = record {
 some_line : {m : Mode} {scan : Scan} {read rest : List ℕ} {len : ℕ} → IsAtLineEnd m scan read rest len → (after : List ℕ)
     → encode_utf8_all after ≡ rest → 0 < length read
 some_line at after is =
-    let second = AreReadBefore-second at.body (at.last ∷ []) after (at.fit after is) in
-    let text = line_first at.last at.are.class second.0 in
-    omega (
-      arith,
-      ap length (sym at.spell),
-      ap length (spelled-push at.body at.last.class at.last.text),
-      length-append (spelled at.body) at.last.text,
-      ap length text.2,
-    )
+    let text = ap length (line_first at.last at.are.class (AreReadBefore-second at.body (at.last ∷ []) after (at.fit after is)).0).2 in
+    let spell = ap length (sym at.spell ∙ spelled-push at.body at.last.class at.last.text) in
+    omega (arith, text, spell, length-append (spelled at.body) at.last.text)
 
 -- the next line
 pub record NextLine (bytes : List ℕ) (len to : ℕ) : Type 0 where
@@ -73,14 +67,11 @@ pub record NextLine (bytes : List ℕ) (len to : ℕ) : Type 0 where
 pub next_line : (bytes : List ℕ) (len size to : ℕ) (new : Scan) → BeginWithLines bytes len
     → ScansIn modes.Free (drop len bytes) new (stops.LineEnd size) → to ≡ len + new.stop → NextLine bytes len to
 next_line bytes len size to new are s place =
-    let line = s.read in
-    let text = encode_utf8_all line in
-    let at = s.stops.0 [] (λ returns. refl) in
-    let some = some_line at [] refl in
+    let line = s.read in let text = encode_utf8_all line in
+    let at = s.stops.0 [] (λ returns. refl) in let some = some_line at [] refl in
     let there : len + length text ≡ to = omega (arith, place, at.stop) in
     let rest : s.rest ≡ drop to bytes =
-    sym (drop_at text s.rest (length text) refl) ∙ ap (drop (length text)) s.spell ∙ drop-drop (length text) len bytes
-    ∙ ap (λ n. drop n bytes) there in
+    sym (drop_at text s.rest (length text) refl) ∙ ap (drop (length text)) s.spell ∙ drop-drop (length text) len bytes ∙ ap (λ n. drop n bytes) there in
     let within : length text + length s.rest ≡ length (drop len bytes) = omega (arith, ap length s.spell, length-append text s.rest) in
     record {
       further = omega (arith, there, some, length-le-encodes line);
@@ -115,8 +106,7 @@ bytes_whole bytes len found = by found.texts found.whole
   where
     by : (texts : List (List ℕ)) → AreWholeLines texts found.read (drop len bytes) → EndsWhole (take len bytes) (drop len bytes)
     by [] are = inl (ap (ends is_return) (sym found.spell ∙ ap encode_utf8_all are))
-    by (t ∷ texts) are =
-        rw (sym (ends-encoded found.read) ∙ ap (ends is_return) found.spell) at (lines_whole t texts found.read (drop len bytes) are)
+    by (t ∷ texts) are = rw (sym (ends-encoded found.read) ∙ ap (ends is_return) found.spell) at (lines_whole t texts found.read (drop len bytes) are)
 
 -- so the line ends of both parts are those of all
 uncut : (read rest : List ℕ) → EndsWhole read rest → ends is_return read && begins is_line_feed rest ≡ false
@@ -162,14 +152,11 @@ module _ {bytes : List ℕ} {fs : List Frame} {lines all : ℕ} (on : HavePassed
   -- the line goes on
   pub goes_on : (c : List Frame) (d to : ℕ) → all + d ≡ to → has_field c ≡ false → Takes here (drop all bytes) d (free_at c (all - lines + d))
       → HavePassed bytes c lines to
-  goes_on c d to is outside takes =
-      record { are = on.are; before = omega (arith, is, on.before); outside = outside; reached = reached_on c d to is takes }
+  goes_on c d to is outside takes = record { are = on.are; before = omega (arith, is, on.before); outside = outside; reached = reached_on c d to is takes }
 
   -- or it ends
-  pub ends_there : (before len to : ℕ) (new : Scan) → EndsAfter here (drop all bytes) before len new → to ≡ lines + new.stop
-      → HavePassed bytes [] to to
-  ends_there before len to new ends is =
-      begins_next bytes to (next_line bytes lines len to new on.are (ends_over refl on.reached new before len ends) is).lines
+  pub ends_there : (before len to : ℕ) (new : Scan) → EndsAfter here (drop all bytes) before len new → to ≡ lines + new.stop → HavePassed bytes [] to to
+  ends_there before len to new ends is = begins_next bytes to (next_line bytes lines len to new on.are (ends_over refl on.reached new before len ends) is).lines
 
 -- and the next byte that isn't plain stands at `at`
 pub record HasPassedLines (bytes : List ℕ) (fs : List Frame) (at : ℕ) (p : Passing) : Type 0 where
@@ -178,17 +165,15 @@ pub record HasPassedLines (bytes : List ℕ) (fs : List Frame) (at : ℕ) (p : P
   pub next : FindsNext bytes p.all at p.marks
 
 -- the line ends of the lines that were passed are all that were counted, but for those of the next line
-pub ends_of_lines : {bytes : List ℕ} {fs : List Frame} {at : ℕ} {p : Passing} → HasPassedLines bytes fs at p → (q : Passing) → q ≡ p → (last : ℕ)
-    → last + line_ends (drop (q.all - q.lines) (drop q.lines bytes)) ≡ line_ends (drop q.lines bytes)
-    → q.ends ≡ line_ends (take q.lines bytes) + last
-ends_of_lines {bytes} {p = p} on q same = rw same (λ last is.
+pub ends_of_lines : {bytes : List ℕ} {fs : List Frame} {at : ℕ} {p : Passing} → HasPassedLines bytes fs at p → (last : ℕ)
+    → last + line_ends (drop (p.all - p.lines) (drop p.lines bytes)) ≡ line_ends (drop p.lines bytes) → p.ends ≡ line_ends (take p.lines bytes) + last
+ends_of_lines {bytes} {p = p} on last is =
     let there : p.lines + (p.all - p.lines) ≡ p.all = omega (arith, on.have.before) in
     let rest = ap line_ends (drop-drop (p.all - p.lines) p.lines bytes ∙ ap (λ n. drop n bytes) there) in
-    omega (arith, on.counted, is, rest, lines_parted bytes p.lines on.have.are))
+    omega (arith, on.counted, is, rest, lines_parted bytes p.lines on.have.are)
 
 -- where something is not passed, all is as before
-pub unpassed : {bytes : List ℕ} {fs c : List Frame} {at : ℕ} {p q : Passing} → HasPassedLines bytes fs at p → (q ≡ p) × (c ≡ fs)
-    → HasPassedLines bytes c at q
+pub unpassed : {bytes : List ℕ} {fs c : List Frame} {at : ℕ} {p q : Passing} → HasPassedLines bytes fs at p → (q ≡ p) × (c ≡ fs) → HasPassedLines bytes c at q
 unpassed on (same, frames) = rw (same, frames) on
 
 -- how much is left of the bytes, and of those that are no lines yet
@@ -223,10 +208,9 @@ module _ {bytes : List ℕ} {fs : List Frame} {at : ℕ} {p : Passing} (on : Has
 
   passes_line_end : {c : List Frame} {q : Passing} {len : ℕ} → EndsLineSo bytes at p fs len q c → PassesOn bytes p c q
   passes_line_end {q = q} {len} so =
-      let ends = so.over (p.all - p.lines) (here have) (stands have) in
       let place : q.all ≡ p.lines + (p.all - p.lines + (q.all - p.all)) = omega (arith, have.before, next.after, so.all) in
       record {
-        have = rw (so.frames, so.lines) (ends_there have (at - p.all) len q.all _ ends place);
+        have = rw (so.frames, so.lines) (ends_there have (at - p.all) len q.all _ (so.over (p.all - p.lines) (here have) (stands have)) place);
         counted = so.counted ∙ on.counted;
         marked = so.marked;
         smaller = omega (arith, have.before, next.after, so.all, so.some, so.within, so.lines);
@@ -259,18 +243,26 @@ module _ {bytes : List ℕ} {fs : List Frame} {at : ℕ} {p : Passing} (on : Has
     begun : p.all + k ≡ lines + old.stop
     begun = omega (arith, ap (λ (s : Scan). s.stop) set, there.before)
 
-    pub items_end : {new : Scan} {stop : Stop} {len : ℕ} → stop ≡ stops.LineEnd len → StopsSo rest old stop new
-        → NextLine bytes lines (lines + new.stop)
+    pub items_end : {new : Scan} {stop : Stop} {len : ℕ} → stop ≡ stops.LineEnd len → StopsSo rest old stop new → NextLine bytes lines (lines + new.stop)
     items_end {new} {len = len} is so =
-        next_line bytes lines len (lines + new.stop) new there.are
-        (subst (ScansIn modes.Free line new) is (so.scans modes.Free line refl reached_word)) refl
+        next_line bytes lines len (lines + new.stop) new there.are (subst (ScansIn modes.Free line new) is (so.scans modes.Free line refl reached_word)) refl
+
+    -- what was taken lies within the bytes
+    pub end_within : {new : Scan} {stop : Stop} {len : ℕ} → stop ≡ stops.LineEnd len → StopsSo rest old stop new
+        → (p.all ≤ lines + new.stop) × (lines + new.stop ≤ length bytes)
+    end_within is so = (omega (arith, begun, so.further), (items_end is so).lines.within)
+
+    pub items_within : {new : Scan} → ComesToCode rest old new → (p.all ≤ lines + new.stop) × (lines + new.stop ≤ length bytes)
+    items_within so = let size = ap length (take_rest bytes (p.all + k)) ∙ length-drop (p.all + k) bytes in (
+      omega (arith, begun, so.stop),
+      omega (arith, begun, so.stop, so.some, so.within, size),
+    )
 
     pub passes_end : {new : Scan} {stop : Stop} {len : ℕ} {c : List Frame} {q : Passing} → stop ≡ stops.LineEnd len
         → StopsSo rest old stop new → c ≡ [] → q ≡ passed_to p (lines + new.stop) q.ends q.marks → IsCounted bytes q
         → HasMarks bytes (lines + new.stop) q.marks → PassesOn bytes p c (record q { lines = q.all })
     passes_end {new} {c = c} {q} is so none to counted marked =
-        let ends = items_end is so in
-        let all : lines + new.stop ≡ q.all = ap (λ (p : Passing). p.all) (sym to) in
+        let ends = items_end is so in let all : lines + new.stop ≡ q.all = ap (λ (p : Passing). p.all) (sym to) in
         record {
           have = subst (λ n. HavePassed bytes c n n) all (rw none (begins_next bytes _ ends.lines));
           counted = counted;

@@ -8,29 +8,26 @@ use Rattle.std.proofs.lemmas.Str.{byte_from_char, char_from_byte, encodes-append
 use Rattle.std.proofs.lemmas.List.{length-append}
 use Rattle.unicode_ident.specs.Ident.{is_xid_start}
 use Rattle.unicode_ident.proofs.IdentLemmas.{is_xid_start-is_xid_continue}
-use Rattle.py_lines.specs.Character.{is_mark, is_space, is_word_character, is_word_start, is_quote, is_line_feed, is_return, is_hash, is_digit, is_operator}
+use Rattle.py_lines.specs.Character.{is_mark, is_space, is_word_character, is_word_start, is_quote, is_line_feed, is_return, is_hash, is_digit}
 use Rattle.py_lines.specs.Piece.{Class, mark, space, word, string, operator, comment, join, line_end, is_mark_class, Piece, begins, begins_marked, spelled}
 use Rattle.py_lines.specs.PieceGrammar.{joined, is_prefix, IsPrefix, IsNoneOr, feed, return_feed, return}
 use Rattle.py_lines.specs.FieldStrings.{is_field_prefix, quotes_of}
 use Rattle.py_lines.specs.Fields.{fielded, InClass, AreReadBefore}
 use Rattle.py_lines.specs.Private.Mode as modes
-use Rattle.py_lines.specs.Private.Machine.{Start, start_of}
-use Rattle.py_lines.specs.Private.Machine.{Start as starts}
+use Rattle.py_lines.specs.Private.Machine.{Start, start_of, Start as starts}
 use Rattle.py_lines.specs.declared.class.Class.{Class as ByteClass}
 use Rattle.py_lines.specs.declared.class.Class.TheVariants as class
 use Rattle.py_lines.specs.Private.Marks.{is_of_class}
 use Rattle.py_lines.specs.Private.Run.{is_ascii_word, is_wide_word}
 use Rattle.py_lines.specs.Private.LineTokens.{BeginWithPiece}
-use Rattle.py_lines.proofs.Text.CharacterTests.{operator_ascii, prefix_word, the_one, feed_is, return_is}
+use Rattle.py_lines.proofs.Text.CharacterTests.{operator_ascii, prefix_word, the_one}
 use Rattle.py_lines.proofs.Machine.Starts.{start-mark, start-word, start-space, start-operator, start-feed, start-return, start-quote, start-hash, start-slash}
 use Rattle.py_lines.proofs.Fields.Elsewhere.{quotes_begin}
 use Rattle.py_lines.proofs.Fields.Prefixes.{field_letters}
-use Rattle.py_lines.proofs.LineScan.AsciiRuns.{space_low, quote_ascii, word_byte_continues, word_byte_low, is_low, low_is}
-use Rattle.py_lines.proofs.LineScan.ClassStarts.{nothing_low, start_by, starts_by}
+use Rattle.py_lines.proofs.LineScan.AsciiRuns.{space_low, quote_ascii, word_byte_continues, is_low, low_is}
+use Rattle.py_lines.proofs.LineScan.ClassStarts.{in_range, start_by, starts_by}
 use Rattle.py_lines.proofs.FieldScans.Ends.{slash_only}
 use Rattle.py_lines.proofs.LineTokens.Spellings.{fielded_spelling, prefix_low}
-use Rattle.py_lines.proofs.Machine.LiveTexts.{closing-operator}
-use Rattle.py_lines.proofs.FieldMachine.PieceRuns.{opening_operator}
 
 -- a string: its prefix, if it has one, its first quote, and the rest
 pub record IsQuoted (text : List ℕ) : Type 0 where
@@ -63,8 +60,7 @@ as_word a bs h = ⊎_elim (λ plain. prefix_word a bs plain) with_fields (or_cas
   where
     with_fields : is_field_prefix (a ∷ bs) ≡ true → (is_word_start a ≡ true) × (list_all is_word_character bs ≡ true)
     with_fields is =
-        let l = field_letters (a ∷ bs) is in
-        let first : l.first ≡ a = cc in
+        let l = field_letters (a ∷ bs) is in let first : l.first ≡ a = cc in
         (ap is_word_start (sym first) ∙ l.starts, (and_parts (is_word_character a) (list_all is_word_character bs) l.all).1)
 
 -- a prefix is a word
@@ -100,10 +96,8 @@ pub record BeginsSo (p : Class) (text : List ℕ) : Type 0 where
   pub so : OfStart (start_of first) p
   pub low : IsWordOrLow p first
 
-by_start : (p : Class) (text : List ℕ) (c : ℕ) (cs : List ℕ) (s : Start) → text ≡ c ∷ cs → start_of c ≡ s → OfStart s p → IsWordOrLow p c
-    → BeginsSo p text
-by_start p text c cs s is starts of low =
-    record { first = c; others = cs; is = is; so = subst (λ (t : Start). OfStart t p) (sym starts) of; low = low }
+by_start : (p : Class) (text : List ℕ) (c : ℕ) (cs : List ℕ) (s : Start) → text ≡ c ∷ cs → start_of c ≡ s → OfStart s p → IsWordOrLow p c → BeginsSo p text
+by_start p text c cs s is starts of low = record { first = c; others = cs; is = is; so = subst (λ (t : Start). OfStart t p) (sym starts) of; low = low }
 
 pub hash_is : (c : ℕ) → is_hash c ≡ true → c ≡ 35
 unfolding is_hash
@@ -120,8 +114,7 @@ begins_so string text unmarked is = by_prefix (quoted text is)
   where
     by_prefix : IsQuoted text → BeginsSo string text
     by_prefix q = ⊎_elim (λ none. by_start string text q.quote q.body _ (q.spell ∙ ap (λ t. t ++ q.quote ∷ q.body) none) (start-quote q.quote q.opens)
-        refl (inr (quote_ascii q.quote q.opens)))
-        (λ is.
+        refl (inr (quote_ascii q.quote q.opens))) (λ is.
         let (first, others, shape, starts, low, run) = prefix_is_word q.prefix is in
         by_start string text first (others ++ q.quote ∷ q.body) _ (q.spell ∙ ap (λ t. t ++ q.quote ∷ q.body) shape)
         (start-word first starts) (inr refl) (inr low)) q.begun
@@ -183,21 +176,10 @@ class_told bytes p k b so = go k so
     at j low h = subst (λ (t : Start). OfStart t p.class) (ap start_of (f.low low) ∙ starts_by j c low h) f.begun.so
 
     go : (j : ByteClass) → is_of_class j c ≡ true → OfByte j p.class
-    go class.Word h = at class.Word (word_byte_low c h) h
     go class.Wide h = ⊎_elim (λ is. is.0) (λ low. absurd (omega (arith, low, f.high (grind (arith, nat_tests))))) f.begun.low
-    go class.Space h = at class.Space (space_low c h) h
-    go class.Operator h = at class.Operator (operator_ascii c (and_parts (is_operator c) _ h).0) h
-    go class.Opening h = at class.Opening (operator_ascii c (opening_operator c h)) h
-    go class.Closing h = at class.Closing (operator_ascii c (closing-operator c h)) h
-    go class.Quote h = at class.Quote (quote_ascii c h) h
-    go class.LineFeed h = at class.LineFeed (omega (arith, feed_is c h)) h
-    go class.Return h = at class.Return (omega (arith, return_is c h)) h
-    go class.Hash h = at class.Hash (omega (arith, hash_is c h)) h
-    go class.Backslash h = at class.Backslash (omega (arith, slash_only c h)) h
-    go class.Other h = at class.Other (nothing_low c h) h
+    go j h = at j (in_range j c h) h
 
-pub class_is : {bytes : List ℕ} {p : Piece} {j k : ByteClass} → BeginWithPiece bytes p → is_of_class j (slice_index bytes 0) ≡ true → j ≡ k
-    → OfByte k p.class
+pub class_is : {bytes : List ℕ} {p : Piece} {j k : ByteClass} → BeginWithPiece bytes p → is_of_class j (slice_index bytes 0) ≡ true → j ≡ k → OfByte k p.class
 class_is {bytes = bytes} {p = p} {j = j} b so is = subst (λ (i : ByteClass). OfByte i p.class) is (class_told bytes p j b so)
 
 -- what begins a word goes on with one, if it isn't ASCII
@@ -225,8 +207,6 @@ word_ends others after fit unmarked none = go (spelled others) refl none
   where
     go : (text : List ℕ) → spelled others ≡ text → begins is_word_character (text ++ after) ≡ false → begins is_wide_word text ≡ false
     go [] is none = refl
-    go (c ∷ cs) is none = ⊎_elim
-        (λ (low : c < 128).
+    go (c ∷ cs) is none = ⊎_elim (λ (low : c < 128).
         let ascii : is_ascii_word c ≡ false = sym (word_byte_continues c low) ∙ none in
-        rw ascii (grind (arith, nat_tests))) (λ (high : 128 ≤ c). absurd (both_ways _ none (next_high others after c cs fit unmarked is high)))
-        (cases_lt c 128)
+        rw ascii (grind (arith, nat_tests))) (λ (high : 128 ≤ c). absurd (both_ways _ none (next_high others after c cs fit unmarked is high))) (cases_lt c 128)

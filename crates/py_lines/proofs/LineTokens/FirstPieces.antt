@@ -1,6 +1,5 @@
 -- The piece that bytes begin with, where it is no string, as its line takes it: how long it is, and what tells a word from a prefix.
-use Rattle.std.proofs.Common.{◌≡◌, ℕ, zero, suc, ◌≤◌, Bool, true, false, List, [], ◌∷◌, ◌++◌, length, refl, ap, ◌∙◌, arith, min, zero-add, ⊎_elim}
-use Rattle.std.proofs.Common.{◌+◌, ◌<◌, ◌⊎◌, inl, inr, ◌&&◌, drop, slice_index, sym, subst, take, append_assoc}
+use Rattle.std.proofs.Common.{◌≡◌, ℕ, zero, suc, ◌≤◌, Bool, true, false, List, [], ◌∷◌, ◌++◌, length, refl, ap, ◌∙◌, arith, min, zero-add, ⊎_elim, ◌+◌, ◌<◌, ◌⊎◌, inl, inr, ◌&&◌, drop, slice_index, sym, subst, take, append_assoc}
 use Rattle.std.specs.Prelude.{encode_utf8_all, not, codes, nat_le}
 use Rattle.std.specs.List.{list_all, list_any}
 use Rattle.std.specs.Char.{is_ascii_digit}
@@ -51,8 +50,7 @@ run_length passes (x ∷ xs) ys (suc n) run all ends =
 
 -- so a run of characters is a run of their bytes
 pub encoded_length : (passes : ℕ → Bool) (cs rest : List ℕ) (n : ℕ) → IsEvenAbove passes
-    → IsRunOf passes (encode_utf8_all cs ++ encode_utf8_all rest) n → list_all passes cs ≡ true → begins passes rest ≡ false
-    → n ≡ length (encode_utf8_all cs)
+    → IsRunOf passes (encode_utf8_all cs ++ encode_utf8_all rest) n → list_all passes cs ≡ true → begins passes rest ≡ false → n ≡ length (encode_utf8_all cs)
 encoded_length passes cs rest n even run all ends =
     run_length passes (encode_utf8_all cs) (encode_utf8_all rest) n run (encoded_passes passes even cs all) (encoded_begins passes even rest ∙ ends)
 
@@ -112,8 +110,7 @@ module _ {bytes : List ℕ} {p : Piece} (b : BeginWithPiece bytes p) where
 
   -- space is taken as what adds nothing to its line
   pub spaces : (n : ℕ) → p.class ≡ space → IsRunOf is_space bytes n → n ≡ byte_len p.text
-  spaces n is run =
-      run_taken is_space n (low_even is_space space_low) run (in_class space is).3 (begins-prefix is_space rest b.text.after (precedes space is))
+  spaces n is run = run_taken is_space n (low_even is_space space_low) run (in_class space is).3 (begins-prefix is_space rest b.text.after (precedes space is))
 
   pub space_taken : (n : ℕ) → p.class ≡ space → IsRunOf is_space bytes n → IsTakenFor p (record { role = Role.none; len = n; line_ends = 0 })
   unfolding is_space is_break
@@ -124,8 +121,7 @@ module _ {bytes : List ℕ} {p : Piece} (b : BeginWithPiece bytes p) where
   -- the bytes after the first, which is ASCII
   pub after_first : (c : ℕ) (cs : List ℕ) → p.text ≡ c ∷ cs → c < 128 → bytes ≡ c ∷ (encode_utf8_all cs ++ encode_utf8_all rest)
   after_first c cs is low =
-      spelled_bytes bytes p b ∙ ap (λ t. encode_utf8_all t ++ encode_utf8_all rest) is
-      ∙ ap (λ t. (t ++ encode_utf8_all cs) ++ encode_utf8_all rest) (one c low)
+      spelled_bytes bytes p b ∙ ap (λ t. encode_utf8_all t ++ encode_utf8_all rest) is ∙ ap (λ t. (t ++ encode_utf8_all cs) ++ encode_utf8_all rest) (one c low)
 
   pub longer : (c : ℕ) (cs : List ℕ) (n : ℕ) → p.text ≡ c ∷ cs → c < 128 → n ≡ byte_len cs → 1 + n ≡ byte_len p.text
   longer c cs n is low same =
@@ -134,13 +130,10 @@ module _ {bytes : List ℕ} {p : Piece} (b : BeginWithPiece bytes p) where
 
   pub operator_taken : p.class ≡ operator → IsTakenFor p (record { role = Role.token_of (kind.Op (slice_index bytes 0)); len = 1; line_ends = 0 })
   operator_taken is =
-      let shape = in_class operator is in
-      let c : ℕ = shape.0 in
+      let shape = in_class operator is in let c : ℕ = shape.0 in
       let low = operator_ascii c shape.2 in
-      taken operator is
-      (ap (λ d. Role.token_of (kind.Op d)) (ap (λ t. slice_index t 0) (after_first c [] shape.1 low) ∙ ap first_or_zero (sym shape.1)))
-      (longer c [] 0 shape.1 low refl)
-      (unbroken p.text (ap (list_all is_comment_byte) shape.1 ∙ and_from _ true (ap not (operator-no_break c shape.2)) refl))
+      taken operator is (ap (λ d. Role.token_of (kind.Op d)) (ap (λ t. slice_index t 0) (after_first c [] shape.1 low) ∙ ap first_or_zero (sym shape.1)))
+      (longer c [] 0 shape.1 low refl) (unbroken p.text (ap (list_all is_comment_byte) shape.1 ∙ and_from _ true (ap not (operator-no_break c shape.2)) refl))
 
   comment_ends : (text after : List ℕ) → (text ++ after ≡ []) ⊎ (begins is_break (text ++ after) ≡ true) → begins is_comment_byte text ≡ false
   comment_ends [] after h = refl
@@ -151,8 +144,7 @@ module _ {bytes : List ℕ} {p : Piece} (b : BeginWithPiece bytes p) where
       → IsTakenFor p (record { role = Role.token_of kind.Remark; len = 1 + n; line_ends = 0 })
   unfolding is_break
   comment_taken n is run =
-      let shape = in_class comment is in
-      let body : List ℕ = shape.1 in
+      let shape = in_class comment is in let body : List ℕ = shape.1 in
       let text : p.text ≡ 35 ∷ body = shape.2 ∙ ap (λ (c : ℕ). c ∷ body) (hash_is shape.0 shape.3) in
       taken comment is refl (longer 35 body n text (omega arith) (encoded_length is_comment_byte body rest n comment_even
       (subst (λ (t : List ℕ). IsRunOf is_comment_byte t n) (rest_is bytes 1 ∙ ap (drop 1) (after_first 35 body text (omega arith))) run)
@@ -161,8 +153,7 @@ module _ {bytes : List ℕ} {p : Piece} (b : BeginWithPiece bytes p) where
 
   pub line_end_taken : p.class ≡ line_end → IsTakenFor p (record { role = Role.none; len = line_end_len bytes; line_ends = 1 })
   line_end_taken is =
-      taken line_end is refl
-      (ap line_end_len (spelled_bytes bytes p b) ∙ end_len p.text rest b.text.after (in_class line_end is) (precedes line_end is))
+      taken line_end is refl (ap line_end_len (spelled_bytes bytes p b) ∙ end_len p.text rest b.text.after (in_class line_end is) (precedes line_end is))
       (one_end p.text (in_class line_end is))
 
   -- a join, and the line end in it
@@ -183,8 +174,7 @@ module _ {bytes : List ℕ} {p : Piece} (b : BeginWithPiece bytes p) where
   join_taken is =
       let j = joined is in
       let uncut : ends is_return j.end && begins is_line_feed (rest ++ b.text.after) ≡ false
-      = ap (λ t. t && begins is_line_feed (rest ++ b.text.after)) (sym (ends_later 92 j.end j.is) ∙ ap (ends is_return) (sym j.text))
-      ∙ precedes join is in
+      = ap (λ t. t && begins is_line_feed (rest ++ b.text.after)) (sym (ends_later 92 j.end j.is) ∙ ap (ends is_return) (sym j.text)) ∙ precedes join is in
       taken join is refl (longer 92 j.end _ j.text (omega arith) (ap line_end_len j.later ∙ end_len j.end rest b.text.after j.is uncut))
       (one_end j.end j.is ∙ sym (ap line_ends j.text ∙ zero-add (line_ends j.end)))
 
@@ -205,8 +195,7 @@ unfolding is_quote is_ascii_word
 quote_not_wide q h = none_of is_wide_word (codes "'\"") q refl h
 
 -- what begins the bytes after so many
-pub begins_at : (passes : ℕ → Bool) (bytes : List ℕ) (n : ℕ) → begins passes (drop n bytes) ≡ true
-    → (n < length bytes) × (passes (slice_index bytes n) ≡ true)
+pub begins_at : (passes : ℕ → Bool) (bytes : List ℕ) (n : ℕ) → begins passes (drop n bytes) ≡ true → (n < length bytes) × (passes (slice_index bytes n) ≡ true)
 begins_at passes [] zero h = absurd (both_ways _ refl h)
 begins_at passes [] (suc n) h = absurd (both_ways _ refl h)
 begins_at passes (b ∷ bs) zero h = (omega arith, h)
@@ -220,8 +209,7 @@ run_within passes bytes ahead n k is run least = record {
   each = λ i less. ap passes (same i (omega (arith, less, least))) ∙ run.each i (omega (arith, less, least));
   ends = λ less.
       let whole : k ≡ n = omega (arith, less, least) in
-      ap passes (same k less ∙ ap (slice_index ahead) whole)
-      ∙ run.ends (omega (arith, less, whole, ap length is, length-take (length bytes) ahead));
+      ap passes (same k less ∙ ap (slice_index ahead) whole) ∙ run.ends (omega (arith, less, whole, ap length is, length-take (length bytes) ahead));
 }
   where
     same : (i : ℕ) → i < length bytes → slice_index bytes i ≡ slice_index ahead i
@@ -236,8 +224,7 @@ pub cut_at : (bytes xs ys : List ℕ) (n : ℕ) → bytes ≡ xs ++ ys → n ≡
 cut_at bytes xs ys n is size = rw (is, size) (take-append_seam xs ys, drop-append_seam xs ys)
 
 -- the spelling of the word
-prefix_told : (prefix : List ℕ) (c : ℕ) (cs : List ℕ) → prefix ≡ c ∷ cs
-    → begins_string (word_spelling (encode_utf8_all prefix)) ≡ fielded.is_prefix prefix
+prefix_told : (prefix : List ℕ) (c : ℕ) (cs : List ℕ) → prefix ≡ c ∷ cs → begins_string (word_spelling (encode_utf8_all prefix)) ≡ fielded.is_prefix prefix
 prefix_told prefix c cs is = prefix_encoded prefix ∙ rw is (sym (fielded_spelling c cs))
 
 digit_told : (b c : ℕ) → (b < 128 → c ≡ b) → (128 ≤ b → 128 ≤ c) → is_ascii_digit b ≡ is_digit c
@@ -256,14 +243,12 @@ module _ {bytes : List ℕ} {p : Piece} (b : BeginWithPiece bytes p) where
   text_wide is = let shape = in_class b word is in ap (list_all is_wide_word) shape.2 ∙ word_wide shape.0 shape.1 shape.3 shape.4
 
   word_len : (n : ℕ) → p.class ≡ word → IsRunOf is_wide_word bytes n → n ≡ byte_len p.text
-  word_len n is run =
-      run_taken b is_wide_word n wide_even run (text_wide is) (word_ends b.others b.text.after b.text.fit.3 b.text.fit.2 (precedes b word is).0)
+  word_len n is run = run_taken b is_wide_word n wide_even run (text_wide is) (word_ends b.others b.text.after b.text.fit.3 b.text.fit.2 (precedes b word is).0)
 
   -- which is no prefix before a quote
   word_no_prefix : (n : ℕ) → p.class ≡ word → IsRunOf is_wide_word bytes n → EndsPrefix bytes n → ⊥
   word_no_prefix n is run (within, quote, told) =
-      let shape = in_class b word is in
-      let rest = spelled b.others in
+      let shape = in_class b word is in let rest = spelled b.others in
       let (front, later) = cut_at bytes (encode_utf8_all p.text) (encode_utf8_all rest) n (spelled_bytes bytes p b) (word_len n is run) in
       let quotes : begins is_quote rest ≡ true
       = sym (encoded_begins is_quote (low_even is_quote quote_ascii) rest) ∙ ap (begins is_quote) (sym later ∙ drop-cons bytes n 0 within) ∙ quote in
@@ -292,8 +277,7 @@ module _ {bytes : List ℕ} {p : Piece} (b : BeginWithPiece bytes p) where
 
       no_prefix : q.prefix ≡ [] → ⊥
       no_prefix none =
-          both_ways _ (quote_not_wide q.quote q.opens)
-          (ap (begins is_wide_word) (sym (bytes_are ∙ ap (λ t. encode_utf8_all t ++ q.quote ∷ after) none)) ∙ wide)
+          both_ways _ (quote_not_wide q.quote q.opens) (ap (begins is_wide_word) (sym (bytes_are ∙ ap (λ t. encode_utf8_all t ++ q.quote ∷ after) none)) ∙ wide)
 
       some : fielded.is_prefix q.prefix ≡ true → EndsPrefix bytes n
       some begun =
@@ -314,8 +298,7 @@ module _ {bytes : List ℕ} {p : Piece} (b : BeginWithPiece bytes p) where
       → k ≡ word_kind (is_ascii_digit (slice_index bytes 0)) → IsTakenFor p (record { role = Role.token_of k; len = n; line_ends = 0 })
   word_taken n k wide run other told =
       let is = ⊎_elim (λ is. is) (λ is. absurd (other (string_prefix n is wide run))) (word_or_string wide) in
-      let shape = in_class b word is in
-      let f = first_of bytes p b in
+      let shape = in_class b word is in let f = first_of bytes p b in
       let first : f.begun.first ≡ shape.0 = cc (sym f.begun.is ∙ shape.2) in
       let digit : is_ascii_digit (slice_index bytes 0) ≡ begins is_digit p.text
       = digit_told (slice_index bytes 0) shape.0 (λ low. sym first ∙ f.low low) (λ high. subst (λ c. 128 ≤ c) first (f.high high))

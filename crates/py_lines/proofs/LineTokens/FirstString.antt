@@ -44,8 +44,7 @@ use Rattle.py_lines.proofs.Text.Utf8Prefixes.{all_scalars-parts, prefix_chars}
 
 -- so many bytes are its text
 pub string_within : (bytes : List ℕ) (p : Piece) → BeginWithPiece bytes p → byte_len p.text ≤ length bytes
-string_within bytes p b =
-    omega (arith, ap length (spelled_bytes bytes p b), length-append (encode_utf8_all p.text) (encode_utf8_all (spelled b.others)))
+string_within bytes p b = omega (arith, ap length (spelled_bytes bytes p b), length-append (encode_utf8_all p.text) (encode_utf8_all (spelled b.others)))
 
 -- and as many has the first piece, as it was read
 pub first_within : {bytes : List ℕ} {x : FirstPiece} → (p : Piece) × BeginWithPiece bytes p → IsFirstPiece bytes x → x.len ≤ length bytes
@@ -58,8 +57,7 @@ item_at t x [] d w some goes one = absurd (omega (arith, some))
 item_at t x (c ∷ []) d w some (open_yet, next, step, on, same) (n, again, stays, others) =
     subst (λ (y : FieldScanned). is_break_move (field_move y.mode y.held d) ≡ false) (some_is n next (sym again ∙ step) ∙ same) stays
 item_at t x (c ∷ e ∷ z) d w some (open_yet, next, step, on, goes) (n, again, stays, others) =
-    item_at next x (e ∷ z) d w (omega arith) goes
-    (subst (λ (y : FieldScanned). IsOneItem y (e ∷ (z ++ d ∷ w))) (some_is n next (sym again ∙ step)) others)
+    item_at next x (e ∷ z) d w (omega arith) goes (subst (λ (y : FieldScanned). IsOneItem y (e ∷ (z ++ d ∷ w))) (some_is n next (sym again ∙ step)) others)
 
 -- nor between those that are held
 open_at : (t x : FieldScanned) (z v : List ℕ) → 0 < length z → Goes t z x → KeepsOpen t (z ++ v) → x.outer ≡ [] → is_shut x.mode ≡ false
@@ -118,8 +116,7 @@ as_long text (p ∷ ps) qs all some =
 no_stop : {bytes text read : List ℕ} (b : BeginsString bytes text) (way : IsUnderWay modes.Free read) (d : ℕ) (z : List ℕ) → text ≡ read ++ d ∷ z
     → 0 < length read → way.field.outer ≡ [] → field_move way.field.mode way.field.held d ≡ breaks → ⊥
 no_stop {text = text} {read = read} b way d z at some none move =
-    let t = way.field in
-    let found = field_pieces t in
+    let t = way.field in let found = field_pieces t in
     let spell : spelled found ≡ read = ap spelled (sym (outer_alone t none).3) ∙ outer_spells two_hundred t read (way_sound way refl) in
     let o = goes_one b t d z (runs_left b t read (d ∷ z) way.goes at) in
     let starts = ap (λ ls. field_started ls found t.openers d (start_of d)) (sym none) ∙ sym (ap (field_moved t d) move) ∙ o.step in
@@ -145,8 +142,7 @@ at_start bytes begun =
     record {
       reached = reached;
       within = λ p is begin.
-          let none : reached.read ≡ []
-          = no_bytes reached.read (omega (arith, ap length reached.spell, length-append (encode_utf8_all reached.read) bytes)) in
+          let none : reached.read ≡ [] = no_bytes reached.read (omega (arith, ap length reached.spell, length-append (encode_utf8_all reached.read) bytes)) in
           (p.text, ap (λ t. t ++ p.text) (sym none), (begins_string bytes p is begin).some);
     }
 
@@ -225,8 +221,7 @@ module _ {bytes : List ℕ} {scan : Scan} {rest : List ℕ} (at : InFirst bytes 
     held_within run after spell keeps_open = by (meets run after spell)
       where
         beyond_it : (v : List ℕ) → run ≡ z ++ v → ⊥
-        beyond_it v beyond =
-            both_ways _ (open_at way.field to z v some goes_there (subst (KeepsOpen way.field) beyond keeps_open) b.outside) (shut_there b).0
+        beyond_it v beyond = both_ways _ (open_at way.field to z v some goes_there (subst (KeepsOpen way.field) beyond keeps_open) b.outside) (shut_there b).0
 
         by : Either run z b.more → IsWithin (read ++ run) p.text
         by (Either.shorter [] before) = absurd (beyond_it [] (sym (before ∙ append-nil run) ∙ sym (append-nil z)))
@@ -235,37 +230,23 @@ module _ {bytes : List ℕ} {scan : Scan} {rest : List ℕ} (at : InFirst bytes 
 
     -- what else may come of a step is that nothing follows
     ends_there : (new : Scan) → b.more ≡ [] → new.stop ≡ scan.stop → new.stop + length rest ≡ byte_len p.text
-    ends_there new none same = omega (
-      arith,
-      same,
-      rests_end way refl at.reached.rests,
-      ap byte_len text_is,
-      ap length (encodes-append read z),
-      length-append (encode_utf8_all read) (encode_utf8_all z),
-      ap length rest_is,
-      ap (λ m. byte_len (z ++ m)) none,
-      ap byte_len (append-nil z),
-    )
+    ends_there new none same =
+        let all = ap byte_len text_is ∙ ap length (encodes-append read z) ∙ length-append (encode_utf8_all read) (encode_utf8_all z) in
+        let left = ap length (sym rest_is) ∙ ap (λ m. byte_len (z ++ m)) none ∙ ap byte_len (append-nil z) in
+        omega (arith, same, rests_end way refl at.reached.rests, all, left)
 
     waits_there : (all : GoesOverAll way.field rest) → b.more ≡ []
     waits_there all =
         let (y, same, spells) = cut all.run all.rest all.spell in
         let (k, before) = item_within all.run all.rest all.spell all.one in
-        nil_from_length b.more (omega (
-          arith,
-          ap length same,
-          length-append z b.more,
-          length-append all.run y,
-          ap length before,
-          length-append all.run k,
-          length-le-encodes y,
-          ap length (spells ∙ (text_none all.rest (y, ((all_scalars-parts all.run y (ap all_scalars (sym same) ∙ scalars)).1, spells)) all.none)),
-        ))
+        let whole = ap length same ∙ length-append all.run y in
+        let none = ap length (spells ∙ (text_none all.rest (y, ((all_scalars-parts all.run y (ap all_scalars (sym same) ∙ scalars)).1, spells)) all.none)) in
+        let taken = ap length before ∙ length-append all.run k in
+        nil_from_length b.more (omega (arith, whole, none, taken, length-append z b.more, length-le-encodes y))
 
     not_wrong : (f : LineFault) → IsWrongIn way.field rest f → ⊥
     not_wrong f w =
-        let spell = ap (λ t. t ++ w.after) (encodes-append w.run (w.c ∷ []))
-        ∙ append_assoc (encode_utf8_all w.run) (encode_utf8_all (w.c ∷ [])) w.after
+        let spell = ap (λ t. t ++ w.after) (encodes-append w.run (w.c ∷ [])) ∙ append_assoc (encode_utf8_all w.run) (encode_utf8_all (w.c ∷ [])) w.after
         ∙ ap (λ t. encode_utf8_all w.run ++ (t ++ w.after)) (append-nil (encode_utf8 w.c)) ∙ w.spell in
         let (k, before) = item_within (w.run ++ w.c ∷ []) w.after spell w.one in
         let (open_yet, next, step, goes_yet, on) = later w.run (w.c ∷ k) w.to (before ∙ append_assoc w.run (w.c ∷ []) k) w.goes in
@@ -277,8 +258,7 @@ module _ {bytes : List ℕ} {scan : Scan} {rest : List ℕ} (at : InFirst bytes 
     unfolding is_line_feed
     cut_return [] v d y is full two follows = absurd (omega (arith, full))
     cut_return (c ∷ []) v d y is full two follows =
-        let first : c ≡ 13 = cc in
-        let second : d ≡ 10 = cc in
+        let first : c ≡ 13 = cc in let second : d ≡ 10 = cc in
         both_ways _ b.uncut (and_from _ _ (ap (ends is_return) is ∙ ends-last is_return read c ∙ ap is_return first ∙ return_returns)
         (ap (λ t. begins is_line_feed (t ++ b.after)) follows ∙ ap is_line_feed second))
     cut_return (c ∷ e ∷ w) v d y is full two follows = absurd (omega (arith, ap length two, length-append w (d ∷ v)))
@@ -369,11 +349,7 @@ first_run {bytes} {old} {new} {mid} {rest} at (len, holds, left) =
         way = r.way;
         spell = ap (λ t. encode_utf8_all r.read ++ t) spell ∙ r.spell;
         scalars = r.scalars;
-        rests = record {
-          as_if = r.rests.as_if;
-          follows = follows;
-          stands = subst (λ t. StandsAs t r.way.field r.rests.as_if) (sym spell) r.rests.stands;
-        };
+        rests = record { as_if = r.rests.as_if; follows = follows; stands = subst (λ t. StandsAs t r.way.field r.rests.as_if) (sym spell) r.rests.stands };
       };
       within = at.within;
     }
@@ -392,5 +368,4 @@ step_comes {scan = scan} {rest = rest} at some q new steps = comes_real scan new
 
 pub item_over : {bytes : List ℕ} {scan : Scan} {rest : List ℕ} (at : InFirst bytes scan rest) → 0 < length rest → (q : Progress) (len : ℕ)
     → (new : Scan) → Steps scan rest q new → q ≡ progress.Going len → GoesOver at.reached.way.field rest len new
-item_over {scan = scan} {rest = rest} at some q len new steps is =
-    step_comes at some (progress.Going len) new (subst (λ x. Steps scan rest x new) is steps)
+item_over {scan = scan} {rest = rest} at some q len new steps is = step_comes at some (progress.Going len) new (subst (λ x. Steps scan rest x new) is steps)

@@ -1,8 +1,7 @@
 -- How a line begins, with its mark and its indentation, and how its pieces are read one after another.
 use mir.Val.{bool_byte}
-use Rattle.std.proofs.Common.{◌≡◌, ℕ, ◌+◌, ◌-◌, ◌<◌, ◌≤◌, Bool, true, false, cond, ◌||◌, List, [], ◌∷◌, ◌++◌, length, take, drop, refl, sym, ap, ◌∙◌}
-use Rattle.std.proofs.Common.{subst, append_assoc, append-nil, arith, length-drop, zero, suc, ◌⊎◌, inl, inr, ⊎_elim, zero-add, add-zero, slice_index}
-use Rattle.std.specs.Prelude.{encode_utf8_all, if◌then◌else◌, nat_eq}
+use Rattle.std.proofs.Common.{◌≡◌, ℕ, ◌+◌, ◌-◌, ◌<◌, ◌≤◌, Bool, true, false, cond, ◌||◌, List, [], ◌∷◌, ◌++◌, length, take, drop, refl, sym, ap, ◌∙◌, subst, append_assoc, append-nil, arith, length-drop, zero, suc, ◌⊎◌, inl, inr, ⊎_elim, zero-add, add-zero, slice_index}
+use Rattle.std.specs.Prelude.{encode_utf8_all, if◌then◌else◌, nat_eq, nat_lt}
 use Rattle.std.specs.List.{list_any, starts_with}
 use Rattle.std.proofs.Math.Bool.{or-false, or_assoc}
 use Rattle.std.proofs.Math.Seq.{drop-append_seam}
@@ -13,18 +12,15 @@ use Rattle.std.proofs.lemmas.Bool.Decides.{Decides-eqb}
 use Rattle.std.proofs.lemmas.Slice.Eq.{starts_is}
 use Rattle.std.proofs.Math.Utf8.{encode}
 use Rattle.py_lines.specs.Character.{is_digit, is_mark, is_space, is_line_feed, is_return}
-use Rattle.py_lines.specs.Piece.{Class, mark, word, Piece, begins, spelled, space, begins_marked, is_mark_class}
+use Rattle.py_lines.specs.Piece.{Class, line_end, mark, word, Piece, begins, spelled, space, begins_marked, is_mark_class}
 use Rattle.py_lines.specs.Balance.{depth_after}
-use Rattle.py_lines.specs.LogicalLine.{byte_len, is_code_class, is_comment_class, line_ends, tokens_of_piece, indent_of, kind_of, space_len}
-use Rattle.py_lines.specs.LogicalLine.{tokens_from}
+use Rattle.py_lines.specs.LogicalLine.{byte_len, end_len_of, is_code_class, is_comment_class, is_line_end_class, line_ends, tokens_of_piece, indent_of, kind_of, space_len, tokens_from}
 use Rattle.py_lines.specs.Fields.{AreReadBefore, InClass}
 use Rattle.py_lines.specs.declared.line_tokens.LineTokens.{LineTokens}
 use Rattle.py_lines.specs.declared.unit.UnitKind.{UnitKind}
 use Rattle.py_lines.specs.declared.unit.UnitKind.TheVariants as unit_kind
 use Rattle.py_lines.specs.declared.class.Class.TheVariants as class
-use Rattle.py_lines.specs.Private.LineTokens.{mark_bytes, mark_len}
-use Rattle.py_lines.specs.Private.LineTokens.{AreTextAt, AreTokensOf, BeginWithPiece, HaveReadOf, ReadsPiece, kind_on, kind_with, role_of}
-use Rattle.py_lines.specs.Private.LineTokens.{Role, token_in, token_of, word_kind, AreLineText, FirstPiece, HaveRead}
+use Rattle.py_lines.specs.Private.LineTokens.{mark_bytes, mark_len, AreTextAt, AreTokensOf, BeginWithPiece, HaveReadOf, ReadsPiece, kind_on, kind_with, role_of, Role, token_in, token_of, word_kind, AreLineText, FirstPiece, HaveRead}
 use Rattle.py_lines.specs.Private.Run.{IsRunOf}
 use Rattle.py_lines.proofs.FieldScans.TextLengths.{rest_is, rest_of}
 use Rattle.py_lines.proofs.Text.Utf8Prefixes.{all_scalars-parts, prefix_chars}
@@ -34,7 +30,7 @@ use Rattle.py_lines.proofs.LineScan.LineCount.{line_ends-bytes}
 use Rattle.py_lines.proofs.Text.CharacterTests.{mark_is}
 use Rattle.py_lines.proofs.LogicalLines.NextLine.{line_ends-spelled}
 use Rattle.py_lines.proofs.LineTokens.FirstCharacters.{begins_so, class_told, first_of, unmarked_first}
-use Rattle.py_lines.proofs.LineTokens.FirstPieces.{space_taken, spaces}
+use Rattle.py_lines.proofs.LineTokens.FirstPieces.{line_end_taken, space_taken, spaces}
 
 -- what a line holds, with code or without, and with comments or without: with one more piece, and with more of them
 abbrev kind_by : Bool → Bool → UnitKind
@@ -62,8 +58,7 @@ kinds_on a b (p ∷ ps) =
     ∙ ap (λ k. kind_on k ps) (kinds a b p.class p.text)
 
 -- a piece's token is that of its part in the line
-own_token : (class : Class) (text : List ℕ) (start stop line : ℕ)
-    → token_in (role_of class text) start stop line ≡ tokens_of_piece start stop line class text
+own_token : (class : Class) (text : List ℕ) (start stop line : ℕ) → token_in (role_of class text) start stop line ≡ tokens_of_piece start stop line class text
 own_token mark text start stop line = refl
 own_token class text start stop line = refl
 
@@ -93,6 +88,15 @@ line_ends-first : (p : Piece) (ps : List Piece) (after : List ℕ) → AreReadBe
     → line_ends (spelled (p ∷ ps)) ≡ line_ends p.text + line_ends (spelled ps)
 line_ends-first p ps after fit = omega (arith, line_ends-spelled (p ∷ ps) after fit, line_ends-spelled ps after fit.3)
 
+-- the line end of these pieces is that of those after the first
+abbrev KeepsEnd : List Piece → Type 0
+KeepsEnd [] = Unit {0}
+KeepsEnd (p ∷ qs) = end_len_of qs ≡ end_len_of (p ∷ qs)
+
+no_line_end : (p : Piece) (qs : List Piece) → is_line_end_class p.class ≡ false → KeepsEnd (p ∷ qs)
+no_line_end p [] inside = rw inside refl
+no_line_end p (q ∷ qs) inside = refl
+
 -- a piece of space
 abbrev space_of : List ℕ → Piece
 space_of cs = record { class = space; text = cs }
@@ -109,13 +113,12 @@ module _ {text : List ℕ} {pieces : List Piece} {first start line : ℕ} {t : L
   has_next (p ∷ qs) h inside = (p, begins_next p qs h)
 
   pub read_next : {len ends : ℕ} {u : LineTokens} (left : List Piece) → AreLineText text pieces → HaveReadOf text pieces left first start line t
-      → start < length text → ReadsPiece (rest_of text start) t start line len ends u → IsReadNext text pieces first start line len ends u
-  read_next [] is h inside r = absurd (omega (arith, inside, ap length h.are.spell, length-drop start text))
-  read_next {len = len} (p ∷ qs) is h inside r =
+      → start < length text → KeepsEnd left → ReadsPiece (rest_of text start) t start line len ends u → IsReadNext text pieces first start line len ends u
+  read_next [] is h inside kept r = absurd (omega (arith, inside, ap length h.are.spell, length-drop start text))
+  read_next {len = len} (p ∷ qs) is h inside kept r =
       let lines : line_ends (spelled (p ∷ qs)) ≡ line_ends p.text + line_ends (spelled qs) = line_ends-first p qs h.are.after h.are.fit in
       let some : 0 < byte_len p.text = omega (arith, piece_some p.class p.text h.are.fit.0, length-le-encodes p.text) in
-      let taken = r.is p (begins_next p qs h) in
-      let size = ap (λ (y : FirstPiece). y.len) taken in
+      let taken = r.is p (begins_next p qs h) in let size = ap (λ (y : FirstPiece). y.len) taken in
       let counted = ap (λ (y : FirstPiece). y.line_ends) taken in
       record {
         some = omega (arith, some, size);
@@ -126,8 +129,8 @@ module _ {text : List ℕ} {pieces : List Piece} {first start line : ℕ} {t : L
           unmarked = h.are.fit.2;
           depth = depth_after h.depth p;
           are = subst (λ (l : List ℕ). AreTextAt (depth_after h.depth p) l qs)
-              (drop-drop (byte_len p.text) start text ∙ ap (λ (n : ℕ). drop (start + n) text) (sym size))
-              (text_after h.depth (drop start text) p qs h.are);
+              (drop-drop (byte_len p.text) start text ∙ ap (λ (n : ℕ). drop (start + n) text) (sym size)) (text_after h.depth (drop start text) p qs h.are);
+          ends = kept ∙ h.ends;
           lines = omega (arith, h.lines, lines, counted);
           kind = h.kind ∙ ap (λ k. kind_on k qs) (sym (r.adds.kind ∙ ap (λ (y : FirstPiece). kind_with t.kind y.role) taken));
           indent = r.adds.indent ∙ h.indent;
@@ -138,15 +141,33 @@ module _ {text : List ℕ} {pieces : List Piece} {first start line : ℕ} {t : L
         };
       }
 
+  -- before the line end the next piece is none
+  pub before_end : (left : List Piece) → HaveReadOf text pieces left first start line t → start + end_len_of left < length text → KeepsEnd left
+  before_end [] h inside = _
+  before_end (p ∷ []) h inside = by_class (is_line_end_class p.class) refl
+    where
+      by_class : (is : Bool) → is_line_end_class p.class ≡ is → 0 ≡ end_len_of (p ∷ [])
+      by_class false inside = rw inside refl
+      by_class true ends =
+          let whole : end_len_of (p ∷ []) ≡ byte_len p.text = rw ends refl in
+          absurd (omega (arith, inside, whole, ap length h.are.spell, ap byte_len (append-nil p.text), length-drop start text))
+  before_end (p ∷ q ∷ qs) h inside = refl
+
+  -- nor is space
+  space_keeps : (left : List Piece) → HaveReadOf text pieces left first start line t → is_space (slice_index (rest_of text start) 0) ≡ true → KeepsEnd left
+  space_keeps [] h at = _
+  space_keeps (p ∷ qs) h at = no_line_end p qs (ap is_line_end_class (class_told _ p class.Space (begins_next p qs h) at))
+
   -- space is passed
   past_space : (left : List Piece) (n : ℕ) → AreLineText text pieces → HaveReadOf text pieces left first start line t
       → IsRunOf is_space (rest_of text start) n → (others : List Piece) × HaveReadOf text pieces others first (start + n) line t
   past_space left zero is h run = (left, subst (λ (k : ℕ). HaveReadOf text pieces left first k line t) (sym (add-zero start)) h)
   past_space left (suc n) is h run =
       let inside : start < length text = omega (arith, run.within, ap length (rest_is text start), length-drop start text) in
-      let next : IsReadNext text pieces first start line (suc n) 0 t = read_next left is h inside (record {
+      let spaces = run.each 0 (omega arith) in
+      let next : IsReadNext text pieces first start line (suc n) 0 t = read_next left is h inside (space_keeps left h spaces) (record {
         role = Role.none;
-        is = λ p begin. space_taken begin (suc n) (class_told _ p class.Space begin (run.each 0 (omega arith))) run;
+        is = λ p begin. space_taken begin (suc n) (class_told _ p class.Space begin spaces) run;
         adds = record { kind = refl; indent = refl; tokens = sym (append-nil _) };
       }) in
       (next.left, subst (λ (l : ℕ). HaveReadOf text pieces next.left first (start + suc n) l t) (add-zero line) next.more)
@@ -161,6 +182,7 @@ module _ {text : List ℕ} {pieces : List Piece} {first start line : ℕ} {t : L
       unmarked = h.are.fit.2;
       depth = h.depth;
       are = subst (λ l. AreTextAt h.depth l qs) (drop-drop 1 start text) (text_after h.depth (drop start text) (space_of (32 ∷ [])) qs h.are);
+      ends = no_line_end (space_of (32 ∷ [])) qs refl ∙ h.ends;
       lines = omega (arith, h.lines);
       kind = h.kind;
       indent = h.indent;
@@ -181,6 +203,7 @@ module _ {text : List ℕ} {pieces : List Piece} {first start line : ℕ} {t : L
             fit = ((d, ds, refl, h.are.fit.0.3), h.are.fit.1, h.are.fit.2, h.are.fit.3);
             shallow = (h.are.shallow.0, λ no. absurd (cc), h.are.shallow.2);
           };
+          ends = sym (no_line_end (space_of (d ∷ ds)) qs refl) ∙ no_line_end (space_of (32 ∷ d ∷ ds)) qs refl ∙ h.ends;
           lines = omega (arith, h.lines);
           kind = h.kind;
           indent = h.indent;
@@ -189,21 +212,17 @@ module _ {text : List ℕ} {pieces : List Piece} {first start line : ℕ} {t : L
       )
 
   -- and one byte, where it is a space
-  pub past_byte : (left : List Piece) (is : Bool) → HaveReadOf text pieces left first start line t
-      → is ≡ starts_with nat_eq (rest_of text start) (32 ∷ [])
+  pub past_byte : (left : List Piece) (is : Bool) → HaveReadOf text pieces left first start line t → is ≡ starts_with nat_eq (rest_of text start) (32 ∷ [])
       → (others : List Piece) × HaveReadOf text pieces others first (start + bool_byte is) line t
   unfolding is_space
   past_byte left false h starts = (left, subst (λ n. HaveReadOf text pieces left first n line t) (sym (add-zero start)) h)
-  past_byte [] true h starts =
-      absurd (both_ways _ (ap (λ l. starts_with nat_eq l (32 ∷ [])) (rest_is text start ∙ sym h.are.spell)) (sym starts))
+  past_byte [] true h starts = absurd (both_ways _ (ap (λ l. starts_with nat_eq l (32 ∷ [])) (rest_is text start ∙ sym h.are.spell)) (sym starts))
   past_byte (p ∷ qs) true h starts =
       let begin = begins_next p qs h in
       let at = ap (λ l. slice_index l 0) ((starts_is Decides-eqb (rest_of text start) (32 ∷ []) _ starts).0 refl) in
-      let f = first_of _ p begin in
-      let spaces = class_told _ p class.Space begin (ap is_space at) in
+      let f = first_of _ p begin in let spaces = class_told _ p class.Space begin (ap is_space at) in
       let is = f.begun.is ∙ ap (λ c. c ∷ f.begun.others) (f.low (omega (arith, at)) ∙ at) in
-      less_space f.begun.others qs
-      (subst (λ q. HaveReadOf text pieces (q ∷ qs) first start line t) (λ i. record { class = spaces i; text = is i }) h)
+      less_space f.begun.others qs (subst (λ q. HaveReadOf text pieces (q ∷ qs) first start line t) (λ i. record { class = spaces i; text = is i }) h)
 
 -- which lies within the text
 pub byte_within : (text : List ℕ) (start : ℕ) (is : Bool) → start ≤ length text → (is ≡ true → 1 ≤ length (rest_of text start))
@@ -222,21 +241,59 @@ left_ahead bytes len start within less =
     = omega (arith, ap length is, length-take-le (len - start) (drop start bytes) (omega (arith, length-drop start bytes))) in
     ap (λ k. take k (rest_of bytes start)) size ∙ ap (take (len - start)) (rest_is bytes start) ∙ sym is
 
--- a line that is read to its end
-pub whole_read : {text : List ℕ} {pieces : List Piece} {first start line : ℕ} {t : LineTokens} (left : List Piece)
-    → HaveReadOf text pieces left first start line t → length text ≤ start → AreTokensOf pieces first t × (line ≡ first + line_ends (spelled pieces))
-whole_read {line = line} [] h end =
-    (record { kind = sym h.kind; indent = h.indent; tokens = sym (h.tokens ∙ append-nil _) }, sym (add-zero line) ∙ h.lines)
-whole_read {text = text} {start = start} (p ∷ qs) h end =
-    let left = ap length h.are.spell ∙ length-drop start text in
-    absurd (omega (arith, end, left, piece_some p.class p.text h.are.fit.0, byte_len-append p.text (spelled qs), length-le-encodes p.text))
+-- the line end of pieces is among their bytes
+pub end_within : (ps : List Piece) → end_len_of ps ≤ byte_len (spelled ps)
+end_within [] = omega arith
+end_within (p ∷ []) = by_class (is_line_end_class p.class) refl
+  where
+    by_class : (is : Bool) → is_line_end_class p.class ≡ is → end_len_of (p ∷ []) ≤ byte_len (p.text ++ [])
+    by_class false inside = rw inside (omega arith)
+    by_class true ends = rw (ends, append-nil p.text) (omega arith)
+end_within (p ∷ q ∷ qs) = omega (arith, end_within (q ∷ qs), byte_len-append p.text (spelled (q ∷ qs)))
+
+line_end_class : (class : Class) → is_line_end_class class ≡ true → class ≡ line_end
+line_end_class line_end is = refl
+line_end_class other is = absurd (cc)
+
+-- a line that is read up to its line end of so many bytes: that is one more line end, if it has one
+abbrev pub IsWholeRead : List ℕ → List Piece → ℕ → ℕ → LineTokens → Type 0
+IsWholeRead text pieces first line t = AreTokensOf pieces first t × (line + bool_byte (nat_lt 0 (end_len_of pieces)) ≡ first + line_ends (spelled pieces))
+
+module _ {text : List ℕ} {pieces : List Piece} {first start line : ℕ} {t : LineTokens} where
+  end_left : (p : Piece) → HaveReadOf text pieces (p ∷ []) first start line t → p.class ≡ line_end → IsWholeRead text pieces first line t
+  end_left p h is =
+      let whole : end_len_of (p ∷ []) ≡ byte_len p.text = rw (ap is_line_end_class is) refl in
+      let size : 0 < end_len_of pieces = omega (arith, h.ends, whole, piece_some p.class p.text h.are.fit.0, length-le-encodes p.text) in (
+        record {
+          kind = sym (h.kind ∙ ap (λ k. kind_with t.kind (role_of k p.text)) is);
+          indent = h.indent;
+          tokens = sym (h.tokens ∙ ap (λ k. t.tokens.items ++ (tokens_of_piece start (start + byte_len p.text) line k p.text ++ [])) is ∙ append-nil _);
+        },
+        grind (arith, h.lines, h.ends, ap (λ (y : FirstPiece). y.line_ends) (line_end_taken (begins_next p [] h) is), size),
+      )
+
+  pub whole_read : (left : List Piece) → HaveReadOf text pieces left first start line t → length text ≤ start + end_len_of left
+      → IsWholeRead text pieces first line t
+  whole_read [] h end = (
+    record { kind = sym h.kind; indent = h.indent; tokens = sym (h.tokens ∙ append-nil _) },
+    ap (λ n. line + bool_byte (nat_lt 0 n)) (sym h.ends) ∙ h.lines,
+  )
+  whole_read (p ∷ []) h end = by_class (is_line_end_class p.class) refl
+    where
+      by_class : (is : Bool) → is_line_end_class p.class ≡ is → IsWholeRead text pieces first line t
+      by_class true ends = end_left p h (line_end_class p.class ends)
+      by_class false inside =
+          let none : end_len_of (p ∷ []) ≡ 0 = rw inside refl in
+          let left = ap length h.are.spell ∙ length-drop start text in
+          absurd (omega (arith, end, none, left, piece_some p.class p.text h.are.fit.0, byte_len-append p.text [], length-le-encodes p.text))
+  whole_read (p ∷ q ∷ qs) h end =
+      let size = byte_len-append p.text (spelled (q ∷ qs)) in
+      let left = ap length h.are.spell ∙ length-drop start text in
+      absurd (omega (arith, end, left, size, end_within (q ∷ qs), piece_some p.class p.text h.are.fit.0, length-le-encodes p.text))
 
 mark_encoded : encode_utf8_all (0xFEFF ∷ []) ≡ mark_bytes
 unfolding encode
 mark_encoded = refl
-
-marked : (text : List ℕ) → starts_with nat_eq text mark_bytes ≡ true → text ≡ mark_bytes ++ drop 3 text
-marked text h = (starts_is Decides-eqb text mark_bytes (starts_with nat_eq text mark_bytes) refl).0 h
 
 -- a text that begins with another piece begins with no mark
 no_mark : (text : List ℕ) (ps : List Piece) → AreLineText text ps → begins_marked ps ≡ false → mark_len text ≡ 0
@@ -247,7 +304,7 @@ no_mark text (p ∷ ps) is unmarked = ap (λ (b : Bool). if b then 3 else 0) (fa
     absent : starts_with nat_eq text mark_bytes ≡ true → ⊥
     absent h =
         let cut = prefix_chars (0xFEFF ∷ []) (spelled (p ∷ ps)) (drop 3 text)
-        (is.spell ∙ marked text h ∙ ap (λ t. t ++ drop 3 text) (sym mark_encoded)) in
+        (is.spell ∙ (starts_is Decides-eqb text mark_bytes _ refl).0 h ∙ ap (λ t. t ++ drop 3 text) (sym mark_encoded)) in
         let begun = begins_so p.class p.text unmarked is.fit.0 in
         let same : begun.first ∷ (begun.others ++ spelled ps) ≡ 0xFEFF ∷ cut.0 = ap (λ t. t ++ spelled ps) (sym begun.is) ∙ cut.1 in
         let first : begun.first ≡ 0xFEFF = cc in
@@ -285,7 +342,6 @@ first_read bytes depth (p ∷ ps) n is unmarked run = go p.class refl
 
     go : (kind : Class) → p.class ≡ kind → n ≡ space_len kind p.text
     go space is = spaces b n is run
-    go mark is = none n run (λ spaces. absurd (cc))
     go other is = none n run (λ spaces. absurd (cc))
 
 unmarked_indent : (ps : List Piece) → begins_marked ps ≡ false → indent_of ps ≡ first_space ps
@@ -299,7 +355,6 @@ marked_indent p (q ∷ ps) is = ap (λ (k : Class). if is_mark_class k then spac
 
 is_mark_or : (class : Class) → (class ≡ mark) ⊎ (is_mark_class class ≡ false)
 is_mark_or mark = inl refl
-is_mark_or space = inr refl
 is_mark_or _ = inr refl
 
 -- a line has begun
@@ -307,13 +362,15 @@ module _ (text : List ℕ) (start n first : ℕ) (t : LineTokens) (begins : star
     (blank : t.kind ≡ unit_kind.Blank) (indent : t.indent ≡ n) (none : t.tokens.items ≡ []) where
   begun_before : (pieces left : List Piece) (depth : ℕ) → AreTextAt depth (drop start text) left → begins_marked left ≡ false
       → kind_of pieces ≡ kind_of left → tokens_from 0 first pieces ≡ tokens_from start first left → indent_of pieces ≡ first_space left
-      → line_ends (spelled left) ≡ line_ends (spelled pieces) → (others : List Piece) × HaveReadOf text pieces others first start first t
-  begun_before pieces left depth are unmarked kind tokens indent_is lines = (
+      → line_ends (spelled left) ≡ line_ends (spelled pieces) → end_len_of left ≡ end_len_of pieces
+      → (others : List Piece) × HaveReadOf text pieces others first start first t
+  begun_before pieces left depth are unmarked kind tokens indent_is lines ends = (
     left,
     record {
       unmarked = unmarked;
       depth = depth;
       are = are;
+      ends = ends;
       lines = ap (λ (n : ℕ). first + n) lines;
       kind = kind ∙ kinds_on false false left ∙ ap (λ k. kind_on k left) (sym blank);
       indent = indent ∙ first_read _ depth left n are unmarked (subst (λ l. IsRunOf is_space l n) (rest_is text start) run) ∙ sym indent_is;
@@ -324,25 +381,22 @@ module _ (text : List ℕ) (start n first : ℕ) (t : LineTokens) (begins : star
   begun_marked : (p : Piece) (ps : List Piece) → AreLineText text (p ∷ ps) → p.class ≡ mark
       → (left : List Piece) × HaveReadOf text (p ∷ ps) left first start first t
   begun_marked p ps is class_is =
-      let (len, counted) = has_mark text p ps is class_is in
-      let place = sym (begins ∙ len) in
-      begun_before (p ∷ ps) ps (depth_after 0 p)
-      (subst (λ k. AreTextAt (depth_after 0 p) (drop k text) ps) place (text_after 0 text p ps is)) is.fit.2
+      let (len, counted) = has_mark text p ps is class_is in let place = sym (begins ∙ len) in
+      begun_before (p ∷ ps) ps (depth_after 0 p) (subst (λ k. AreTextAt (depth_after 0 p) (drop k text) ps) place (text_after 0 text p ps is)) is.fit.2
       (ap (λ (k : Class). kind_of (record { class = k; text = p.text } ∷ ps)) class_is)
       (ap (λ (k : Class). tokens_from 0 first (record { class = k; text = p.text } ∷ ps)) class_is
       ∙ rw (zero-add (byte_len p.text), place, counted, add-zero first))
-      (marked_indent p ps class_is) (omega (arith, line_ends-first p ps is.after is.fit, counted))
+      (marked_indent p ps class_is) (omega (arith, line_ends-first p ps is.after is.fit, counted)) (no_line_end p ps (ap is_line_end_class class_is))
 
-  begun_unmarked : (ps : List Piece) → AreLineText text ps → begins_marked ps ≡ false
-      → (left : List Piece) × HaveReadOf text ps left first start first t
+  begun_unmarked : (ps : List Piece) → AreLineText text ps → begins_marked ps ≡ false → (left : List Piece) × HaveReadOf text ps left first start first t
   begun_unmarked ps is unmarked =
       let place = sym (begins ∙ no_mark text ps is unmarked) in
       begun_before ps ps 0 (subst (λ k. AreTextAt 0 (drop k text) ps) place is) unmarked refl
-      (ap (λ k. tokens_from k first ps) place) (unmarked_indent ps unmarked) refl
+      (ap (λ k. tokens_from k first ps) place) (unmarked_indent ps unmarked) refl refl
 
-  begun_at : HaveRead text first start first t
+  begun_at : (ps : List Piece) → AreLineText text ps → (left : List Piece) × HaveReadOf text ps left first start first t
   begun_at [] is = begun_unmarked [] is refl
   begun_at (p ∷ ps) is = ⊎_elim (begun_marked p ps is) (begun_unmarked (p ∷ ps) is) (is_mark_or p.class)
 
-  pub begun : HaveRead text first (start + n) first t
-  begun ps is = let (left, h) = begun_at ps is in past_space left n is h run
+  pub begun : (end_len : ℕ) → HaveRead text end_len first (start + n) first t
+  begun end_len ps is = let (left, h) = begun_at ps is.0 in past_space left n is.0 h run

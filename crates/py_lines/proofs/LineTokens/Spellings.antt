@@ -18,8 +18,7 @@ use Rattle.py_lines.proofs.Machine.Spellings.{field_begins, prefix_spelling, oth
 -- a word is a prefix exactly where its spelling says so
 pub fielded_spelling : (first : ℕ) (others : List ℕ) → fielded.is_prefix (first ∷ others) ≡ begins_string (spelling_on (first_spelling first) others)
 fielded_spelling first others =
-    let s = spelling_on (first_spelling first) others in
-    let plain = is_prefix (first ∷ others) in
+    let s = spelling_on (first_spelling first) others in let plain = is_prefix (first ∷ others) in
     let tells = (word_tells first others).0 in
     ⊎_elim (λ (is : is_field_spelling s ≡ true). or_right plain (is_field_prefix (first ∷ others)) (tells ∙ is) ∙ sym (field_begins s is))
     (λ (is : is_field_spelling s ≡ false).
@@ -57,8 +56,7 @@ low_encoded cs all = sym (encodes_same cs (encode_utf8_all cs) (sym (low_encodes
 
 -- so a word is a prefix where its bytes are
 pub prefix_encoded : (word : List ℕ) → begins_string (word_spelling (encode_utf8_all word)) ≡ begins_string (word_spelling word)
-prefix_encoded word = ⊎_elim (λ bytes. ap begins_word (low_encoded word (prefix_low (encode_utf8_all word) bytes)))
-    (λ other.
+prefix_encoded word = ⊎_elim (λ bytes. ap begins_word (low_encoded word (prefix_low (encode_utf8_all word) bytes))) (λ other.
     ⊎_elim (λ is. ap begins_word (low_encodes is_low word low_is (prefix_low word is)).0) (λ none. other ∙ sym none) (cases_Bool (begins_word word)))
     (cases_Bool (begins_word (encode_utf8_all word)))
   where

@@ -1,16 +1,17 @@
 -- The string that bytes begin with: the machine goes through it, from a line's start, and finishes it alone.
-use Rattle.std.proofs.Common.{◌≡◌, ℕ, ◌<◌, ◌==◌, ◌&&◌, ⊎_elim, true, false, Some, List, [], ◌∷◌, ◌++◌, length, refl, sym, ap, ◌∙◌, subst, append-nil, arith}
+use Rattle.std.proofs.Common.{◌≡◌, ℕ, ◌<◌, inl, inr, ◌==◌, ◌&&◌, ⊎_elim, true, false, Some, List, [], ◌∷◌, ◌++◌, length, refl, sym, ap, ◌∙◌, subst, append-nil, arith}
 use Rattle.std.specs.Prelude.{encode_utf8_all}
 use Rattle.std.specs.Str.{all_scalars}
 use Rattle.std.proofs.lemmas.Bool.{and_parts, both_ways, cases_Bool, cond_both, eqb-true, false_from_ne_true}
 use Rattle.py_lines.specs.Character.{is_line_feed, is_return}
 use Rattle.py_lines.specs.Piece.{Class, begins, ends, line_end, string, Piece, spelled}
+use Rattle.py_lines.specs.LogicalLine.{is_line_end_class}
 use Rattle.py_lines.specs.FieldStrings.{literal}
 use Rattle.py_lines.specs.Fields.{Fields, ShallowFields}
 use Rattle.py_lines.specs.Private.Mode as modes
 use Rattle.py_lines.specs.Private.Machine.{Mode, class_of, is_final, long_move, move_of, short_move}
-use Rattle.py_lines.specs.Private.FieldMachine.{FieldMode, FieldMove, FieldScanned, Level, between, body, breaks, closes, empty, field_closed, field_fresh, field_move, field_moved, field_pieces, field_started, field_state, field_step, field_steps_from, frames, grows, has_room, host_of, begins_host, may_end, opened, plain, plain_move, room_step}
-use Rattle.py_lines.specs.Private.Scan.{Goes, ends_line, has_returned, is_line_ending, is_return_at, is_shut}
+use Rattle.py_lines.specs.Private.FieldMachine.{FieldMode, FieldMove, FieldScanned, Level, between, body, breaks, empty, field_closed, field_fresh, field_move, field_moved, field_pieces, field_started, field_state, field_step, field_steps_from, frames, grows, has_room, host_of, begins_host, may_end, opened, plain, plain_move, room_step}
+use Rattle.py_lines.specs.Private.Scan.{Goes, ends_line, has_returned, is_return_at, is_shut}
 use Rattle.py_lines.specs.Private.LineScan.{IsUnderWay, line_begun}
 use Rattle.py_lines.specs.Private.LineTokens.{AreTextAt, BeginWithPiece}
 use Rattle.py_lines.proofs.Fields.Nesting.{string_map}
@@ -25,7 +26,7 @@ use Rattle.py_lines.proofs.FieldSoundness.Holds.{AtStart}
 use Rattle.py_lines.proofs.Lexings.FirstLines.{piece_some}
 use Rattle.py_lines.proofs.Lexings.LinePrefix.{Stays, line_stays, one_of}
 use Rattle.py_lines.proofs.Lexings.OuterRuns.{found_on}
-use Rattle.py_lines.proofs.LineScan.LineSteps.{way_sound, return_at}
+use Rattle.py_lines.proofs.LineScan.LineSteps.{EndsSo, ends_so, way_sound, return_at}
 use Rattle.py_lines.proofs.LineTokens.Depths.{fields_less}
 use Rattle.py_lines.proofs.LogicalLines.Cuts.{uncut}
 use Rattle.py_lines.proofs.Machine.PieceSteps.{some_is}
@@ -54,8 +55,7 @@ pub record BeginsString (bytes text : List ℕ) : Type 0 where
 pub begins_string : (bytes : List ℕ) (p : Piece) → p.class ≡ string → BeginWithPiece bytes p → BeginsString bytes p.text
 begins_string bytes p is begin =
     let at = subst (λ (k : Class). AreTextAt begin.depth bytes (piece k p.text ∷ begin.others)) is begin.text in
-    let one : List Piece = piece string p.text ∷ [] in
-    let rest = spelled begin.others ++ at.after in
+    let one : List Piece = piece string p.text ∷ [] in let rest = spelled begin.others ++ at.after in
     let less = fields_less 0 begin.depth (omega arith) in
     let passed : ArePassed BelowLimit ShallowFields 0 one
     = (λ opens. omega arith, λ here. string_map (ShallowFields begin.depth) (ShallowFields 0) less p.text (at.shallow.1 here), tt) in
@@ -88,8 +88,7 @@ unfolding field_move
 break_end (plain m) held c is =
     cond_both (begins_host m held c) (grows (opened (host_of held c))) (plain_move (move_of m c))
     (λ (v : FieldMove). v ≡ breaks → is_final m ≡ true) (λ h same. absurd (cc)) (λ h same. plain_end m c same) is
-break_end (opened host) held c is = ⊎_elim
-    (λ (quote : c == host.quote ≡ true). let clash : grows (empty host) ≡ breaks = rw quote at is in absurd (cc))
+break_end (opened host) held c is = ⊎_elim (λ (quote : c == host.quote ≡ true). let clash : grows (empty host) ≡ breaks = rw quote at is in absurd (cc))
     (λ other.
     absurd (subst (BodyMoved host literal false between c) (sym (opened_moves host held c other) ∙ is)
     (body_moved host literal false between held c))) (cases_Bool (c == host.quote))
@@ -119,6 +118,9 @@ string_shut text m outer done held rest same begun stops = by m same begun (stop
 abbrev pub IsShutAlone : FieldScanned → Type 0
 IsShutAlone t = (is_shut t.mode ≡ true) × (frames t ≡ 0)
 
+in_field : (l : Level) (ls : List Level) (done : List Piece) (openers : List ℕ) (m : FieldMode) (held : List ℕ) → (frames (field_state (l ∷ ls) done openers m held) == 0) ≡ true → ⊥
+in_field l ls done openers m held is = omega (arith, eqb-true (frames (field_state (l ∷ ls) done openers m held)) 0 is)
+
 module _ {bytes text : List ℕ} (b : BeginsString bytes text) where
   -- from where it has come in the string the machine goes on to its end
   pub runs_left : (t : FieldScanned) (read z : List ℕ) → Goes line_free read t → text ≡ read ++ z → RunsFrom t z b.to
@@ -137,8 +139,7 @@ module _ {bytes text : List ℕ} (b : BeginsString bytes text) where
   no_line : {front : List Piece} {last : Piece} → Stays front last (outer_pieces b.to) → ⊥
   no_line {front = front} stays =
       let one = one_of (piece string text) stays.line front stays.others (sym found_there ∙ stays.is) in
-      let clash : line_end ≡ string = sym stays.class ∙ ap (λ (p : Piece). p.class) one.0 in
-      cc
+      both_ways _ refl (ap is_line_end_class (sym (sym stays.class ∙ ap (λ (p : Piece). p.class) one.0)))
 
   no_return : (outer : List Level) (done : List Piece) (openers : List ℕ) (m : FieldMode) (held z : List ℕ)
       → RunsFrom (field_state outer done openers m held) z b.to → has_returned (field_state outer done openers m held) ≡ false
@@ -146,28 +147,24 @@ module _ {bytes text : List ℕ} (b : BeginsString bytes text) where
       false_from_ne_true _ (λ is.
       let mode = return_at m (and_parts (is_return_at m) _ is).0 in
       no_line (line_stays m done openers held z b.to done (piece line_end held) runs.0 (ap (λ n. field_closed n done held) mode) refl))
-  no_return (l ∷ ls) done openers m held z runs =
-      false_from_ne_true _ (λ is. omega (arith, eqb-true (frames (field_state (l ∷ ls) done openers m held)) 0 (and_parts (is_return_at m) _ is).1))
+  no_return (l ∷ ls) done openers m held z runs = false_from_ne_true _ (λ is. in_field l ls done openers m held (and_parts (is_return_at m) _ is).1)
 
   no_end : (outer : List Level) (done : List Piece) (openers : List ℕ) (m : FieldMode) (held : List ℕ) (c : ℕ) (z : List ℕ) (next : FieldScanned)
-      → field_step (field_state outer done openers m held) c ≡ Some next → RunsFrom next z b.to
-      → ends_line (field_state outer done openers m held) c ≡ false
+      → field_step (field_state outer done openers m held) c ≡ Some next → RunsFrom next z b.to → ends_line (field_state outer done openers m held) c ≡ false
   no_end [] done openers m held c z next step runs =
-      false_from_ne_true _ (λ is. by m (field_move m held c) step (and_parts (frames (field_state [] done openers m held) == 0) _ is).1)
+      false_from_ne_true _ (λ is. by (ends_so c m (field_move m held c) (and_parts (frames (field_state [] done openers m held) == 0) _ is).1))
     where
       found : (front : List Piece) (line : Piece) → Some (field_fresh [] (front ++ line ∷ []) openers) ≡ Some next → line.class ≡ line_end → ⊥
       found front line is class =
-          no_line (line_stays (plain modes.Free) (front ++ line ∷ []) openers [] z b.to front line
-          (ap (λ o. field_steps_from o z) is ∙ runs.0) refl class)
+          no_line (line_stays (plain modes.Free) (front ++ line ∷ []) openers [] z b.to front line (ap (λ o. field_steps_from o z) is ∙ runs.0) refl class)
 
-      by : (n : FieldMode) (v : FieldMove) → field_moved (field_state [] done openers n held) c v ≡ Some next → is_line_ending n v c ≡ true → ⊥
-      by (plain modes.Return) closes moved is = found done (piece line_end (held ++ c ∷ [])) moved refl
-      by n breaks moved is =
-          found (field_closed n done held) (piece line_end (c ∷ []))
-          (sym (ap (field_started [] (field_closed n done held) openers c) (start-feed c is)) ∙ moved) refl
-      by n v moved is = both_ways _ refl is
-  no_end (l ∷ ls) done openers m held c z next step runs =
-      false_from_ne_true _ (λ is. omega (arith, eqb-true (frames (field_state (l ∷ ls) done openers m held)) 0 (and_parts _ _ is).0))
+      by : EndsSo c m (field_move m held c) → ⊥
+      by (inl (returns, closing)) =
+          found done (piece line_end (held ++ c ∷ [])) ((λ i. field_moved (field_state [] done openers (sym returns i) held) c (sym closing i)) ∙ step) refl
+      by (inr (breaking, feeds)) =
+          found (field_closed m done held) (piece line_end (c ∷ []))
+          (sym (ap (field_started [] (field_closed m done held) openers c) (start-feed c feeds)) ∙ ap (field_moved (field_state [] done openers m held) c) (sym breaking) ∙ step) refl
+  no_end (l ∷ ls) done openers m held c z next step runs = false_from_ne_true _ (λ is. in_field l ls done openers m held (and_parts _ _ is).0)
 
   -- no character of it ends a line
   pub record GoesOne (t : FieldScanned) (c : ℕ) (z : List ℕ) : Type 0 where
@@ -180,8 +177,7 @@ module _ {bytes text : List ℕ} (b : BeginsString bytes text) where
 
   pub goes_one : (t : FieldScanned) (c : ℕ) (z : List ℕ) → RunsFrom t (c ∷ z) b.to → GoesOne t c z
   goes_one t c z runs =
-      let (next, first, others) = runs_parts t (c ∷ []) z b.to runs in
-      let room = one_runs t c next first in
+      let (next, first, others) = runs_parts t (c ∷ []) z b.to runs in let room = one_runs t c next first in
       let step = (roomy_parts (has_room t c) (field_step t c) next room).1 in
       record {
         open_yet = no_return t.outer t.done t.openers t.mode t.held (c ∷ z) runs;

@@ -1,6 +1,5 @@
 -- A string without fields and without escapes, which is passed at once, is the first piece of the bytes.
-use Rattle.std.proofs.Common.{◌≡◌, ℕ, ◌+◌, ◌<◌, inl, inr, true, false, List, [], ◌∷◌, ◌++◌, length, drop, refl, sym, ap, ◌∙◌, subst, append_assoc}
-use Rattle.std.proofs.Common.{append-nil, arith, length-append, take}
+use Rattle.std.proofs.Common.{◌≡◌, ℕ, ◌+◌, ◌<◌, inl, inr, true, false, List, [], ◌∷◌, ◌++◌, length, drop, refl, sym, ap, ◌∙◌, subst, append_assoc, append-nil, arith, length-append, take}
 use Rattle.std.specs.Prelude.{encode_utf8_all}
 use Rattle.std.specs.List.{list_all}
 use Rattle.std.proofs.lemmas.Bool.{and_from, and_parts}
@@ -122,9 +121,6 @@ module _ (word : List ℕ) (q : ℕ) (run : List ℕ) (w : IsPlainPrefix word) (
       } in
       inl (inl (short, w.no_field))
 
-  not_empty : run ≡ [] → ⊥
-  not_empty none = subst IsFull none full
-
   -- it isn't empty, so that no quote after it matters
   precedes : (rest : List ℕ) → MayPrecede string whole rest
   unfolding whole
@@ -132,7 +128,7 @@ module _ (word : List ℕ) (q : ℕ) (run : List ℕ) (w : IsPlainPrefix word) (
       let front = same_from_push (word ++ q ∷ run) (prefix ++ d ∷ []) q d
       (append_assoc word (q ∷ run) (q ∷ []) ∙ is ∙ sym (append_assoc prefix (d ∷ []) (d ∷ []))) in
       let none : run ≡ [] = cc ((first_quote word prefix run [] q d (quoted_prefix word w.any) (quoted_prefix prefix begun) quote opens front.0).1) in
-      absurd (not_empty none)
+      absurd (subst IsFull none full)
 
   is_first : (bytes after : List ℕ) (p : Piece) → whole ++ after ≡ bytes → BeginWithPiece bytes p → piece string whole ≡ p
   is_first bytes after p spell b =
@@ -145,32 +141,23 @@ module _ (word : List ℕ) (q : ℕ) (run : List ℕ) (w : IsPlainPrefix word) (
   -- nor ends a line in it
   one_line : 0 ≡ line_ends whole
   unfolding whole
-  one_line =
-      let outer = quote_unbroken q quote in
-      let inner = all_also (is_text_byte q) is_comment_byte (text_unbroken q) run all in
-      unbroken whole (simp (list_all-append, w.unbroken, inner, outer))
+  one_line = unbroken whole (simp (list_all-append, w.unbroken, all_also (is_text_byte q) is_comment_byte (text_unbroken q) run all, quote_unbroken q quote))
 
   size : length whole ≡ length word + (length run + 2)
   unfolding whole
   size = omega (arith, length-append word (q ∷ (run ++ q ∷ [])), length-append run (q ∷ []))
 
 pub plain_taken : (bytes : List ℕ) (n len : ℕ) → begins is_quote (drop n bytes) ≡ true → is_prefix_word (take n bytes) ≡ true
-    → is_field_spelling (word_spelling (take n bytes)) ≡ false → IsWholePlainString (rest_of bytes n) len
-    → IsFirstPiece bytes (string_piece (n + len) 0)
+    → is_field_spelling (word_spelling (take n bytes)) ≡ false → IsWholePlainString (rest_of bytes n) len → IsFirstPiece bytes (string_piece (n + len) 0)
 unfolding whole
 plain_taken bytes n len quotes prefix plain s p b =
-    let word = take n bytes in
-    let w = plain_prefix word prefix plain in
+    let word = take n bytes in let w = plain_prefix word prefix plain in
     let spell : whole word s.q s.run w s.quote s.full s.all ++ s.after ≡ bytes
     = append_assoc word (s.q ∷ (s.run ++ s.q ∷ [])) s.after ∙ ap (λ t. word ++ (s.q ∷ t)) (append_assoc s.run (s.q ∷ []) s.after)
     ∙ ap (λ t. word ++ t) (s.spell ∙ rest_is bytes n) ∙ take-append-drop n bytes in
     let is = is_first word s.q s.run w s.quote s.full s.all bytes s.after p spell b in
-    taken b string (sym (ap (λ (x : Piece). x.class) is)) refl (omega (
-      arith,
-      size word s.q s.run w s.quote s.full s.all,
-      s.size,
-      (begins_at is_quote bytes n quotes).0,
-      length-take n bytes,
-      ap length (low word s.q s.run w s.quote s.full s.all),
-      ap (λ (x : Piece). byte_len x.text) is,
-    )) (one_line word s.q s.run w s.quote s.full s.all ∙ ap (λ (x : Piece). line_ends x.text) is)
+    let long = size word s.q s.run w s.quote s.full s.all in
+    let same = sym (ap (λ (x : Piece). byte_len x.text) is) ∙ ap length (low word s.q s.run w s.quote s.full s.all) in
+    taken b string (sym (ap (λ (x : Piece). x.class) is)) refl
+    (omega (arith, long, same, s.size, (begins_at is_quote bytes n quotes).0, length-take n bytes))
+    (one_line word s.q s.run w s.quote s.full s.all ∙ ap (λ (x : Piece). line_ends x.text) is)

@@ -21,9 +21,8 @@ use Rattle.py_lines.specs.Private.LineScan.{EndsNoLine}
 
 -- a CR at the end of a piece belongs to no LF after it
 pub ends-last : (p : ℕ → Bool) (text : List ℕ) (c : ℕ) → ends p (text ++ c ∷ []) ≡ p c
-ends-last p [] c = refl
-ends-last p (d ∷ []) c = refl
 ends-last p (d ∷ e ∷ text) c = ends-last p (e ∷ text) c
+ends-last p text c = refl
 
 -- CR does not pass this test
 not_return : (p : ℕ → Bool) → p 13 ≡ false → (c : ℕ) → p c ≡ true → is_return c ≡ false
@@ -44,8 +43,7 @@ unfolding is_quote
 ends-quote prefix body q quotes = ap (ends is_return) (sym (append_assoc prefix body (q ∷ []))) ∙ ends-last is_return (prefix ++ body) q ∙ not_return is_quote refl q quotes
 
 ends-quotes : (prefix : List ℕ) (host : Host) (inside : List ℕ) → is_quote host.quote ≡ true → ends is_return (prefix ++ (quotes_of host ++ (inside ++ quotes_of host))) ≡ false
-ends-quotes prefix host inside quotes =
-    let q = host.quote in
+ends-quotes prefix host inside quotes = let q = host.quote in
     cond_both host.is_long (q ∷ q ∷ q ∷ []) (q ∷ []) (λ (t : List ℕ). ends is_return (prefix ++ (t ++ (inside ++ t))) ≡ false)
     (λ long. ap (λ t. ends is_return (prefix ++ (q ∷ q ∷ q ∷ t))) (sym (append_assoc inside (q ∷ q ∷ []) (q ∷ []))) ∙ ends-quote prefix (q ∷ q ∷ q ∷ (inside ++ q ∷ q ∷ [])) q quotes)
     (λ short. ends-quote prefix (q ∷ inside) q quotes)
@@ -60,8 +58,7 @@ uncut string text rest (inl (inl short)) before =
     let is = short.0 in
     and_left _ _ (ap (ends is_return) is.spell ∙ ends-quote is.prefix (is.quote ∷ joined is.items) is.quote is.opens)
 uncut string text rest (inl (inr long)) before =
-    let is = long.0 in
-    let q = is.quote in
+    let is = long.0 in let q = is.quote in
     and_left _ _ (ap (ends is_return) (is.spell ∙ ap (λ t. is.prefix ++ (q ∷ q ∷ q ∷ t)) (sym (append_assoc (joined is.items) (q ∷ q ∷ []) (q ∷ [])))) ∙ ends-quote is.prefix (q ∷ q ∷ q ∷ (joined is.items ++ q ∷ q ∷ [])) q is.opens)
 uncut string text rest (inr is) before = and_left _ _ (ap (ends is_return) is.spell ∙ ends-quotes is.prefix is.host (joined is.parts) is.opens)
 uncut operator text rest (c, is, passes) before = and_left _ _ (ap (ends is_return) is ∙ not_return is_operator refl c passes)
@@ -77,9 +74,7 @@ ends_line-first c rest h =
 pub line_ends-append : (xs ys : List ℕ) → ends is_return xs && begins is_line_feed ys ≡ false → line_ends (xs ++ ys) ≡ line_ends xs + line_ends ys
 line_ends-append [] ys h = omega arith
 line_ends-append (c ∷ []) ys h = rw (ends_line-first c ys h) (omega arith)
-line_ends-append (c ∷ d ∷ xs) ys h =
-    let later = line_ends-append (d ∷ xs) ys h in
-    omega arith
+line_ends-append (c ∷ d ∷ xs) ys h = let later = line_ends-append (d ∷ xs) ys h in omega arith
 
 -- the line ends of pieces are those of their texts
 abbrev pub lines_in : List Piece → ℕ
@@ -98,21 +93,16 @@ byte_len-append xs ys = ap length (encodes-append xs ys) ∙ length-append _ _
 
 -- a byte of a text belongs to one prefix
 pub no_bytes : (k : List ℕ) → byte_len k ≡ 0 → k ≡ []
-no_bytes k none =
-    let bound = length-le-encodes k in
-    nil_from_length k (omega arith)
+no_bytes k none = let bound = length-le-encodes k in nil_from_length k (omega arith)
 
 pub same_place : (b a d e : List ℕ) → b ++ a ≡ d ++ e → byte_len b ≡ byte_len d → b ≡ d
 same_place b a d e same bytes = go (either b a d e same)
   where
     go : Either b d e → b ≡ d
-    go (Either.shorter k one) =
-        let sum : byte_len d ≡ byte_len b + byte_len k = ap byte_len one ∙ byte_len-append b k in
+    go (Either.shorter k one) = let sum : byte_len d ≡ byte_len b + byte_len k = ap byte_len one ∙ byte_len-append b k in
         sym (append-nil b) ∙ ap (λ t. b ++ t) (sym (no_bytes k (omega arith))) ∙ sym one
-    go (Either.longer c k after one two) =
-        let sum : byte_len b ≡ byte_len d + byte_len (c ∷ k) = ap byte_len one ∙ byte_len-append d (c ∷ k) in
-        let none : c ∷ k ≡ [] = no_bytes (c ∷ k) (omega arith) in
-        absurd (cc)
+    go (Either.longer c k after one two) = let sum : byte_len b ≡ byte_len d + byte_len (c ∷ k) = ap byte_len one ∙ byte_len-append d (c ∷ k) in
+        let none : c ∷ k ≡ [] = no_bytes (c ∷ k) (omega arith) in absurd (cc)
 
 -- a piece before the parts that a list of some pieces is cut into, and others after them
 put_twice : (p q : Piece) (us vs : List (List Piece)) → put_first p (put_first q us ++ vs) ≡ put_first p (put_first q us) ++ vs
@@ -136,9 +126,7 @@ line_depth p d h = go p.class p.text h
 -- the cut after a line end at depth 0
 cut-line : (body : List Piece) (last : Piece) (qs : List Piece) (d : ℕ) → last.class ≡ line_end → depth_through d body ≡ 0 → cut d (body ++ last ∷ qs) ≡ cut d (body ++ last ∷ []) ++ cut 0 qs
 cut-line [] last qs d is deep = rw (is, deep)
-cut-line (p ∷ body) last qs d is deep =
-    ⊎_elim
-    (λ (h : is_line_end_class p.class && (d == 0) ≡ true).
+cut-line (p ∷ body) last qs d is deep = ⊎_elim (λ (h : is_line_end_class p.class && (d == 0) ≡ true).
     let level : depth_after d p ≡ d = line_depth p d (and_parts (is_line_end_class p.class) (d == 0) h).0 in
     rw h (ap (λ us. (p ∷ []) ∷ us) (cut-line body last qs d is (ap (λ (n : ℕ). depth_through n body) (sym level) ∙ deep))))
     (λ (h : is_line_end_class p.class && (d == 0) ≡ false).

@@ -27,8 +27,7 @@ put_spelled p (u ∷ us) = append_assoc p.text (spelled u) (parts_spelled us)
 
 cut_spelled : (d : ℕ) (ps : List Piece) → parts_spelled (cut d ps) ≡ spelled ps
 cut_spelled d [] = refl
-cut_spelled d (p ∷ ps) =
-    cond_both (is_line_end_class p.class && (d == 0)) _ _ (λ us. parts_spelled us ≡ p.text ++ spelled ps)
+cut_spelled d (p ∷ ps) = cond_both (is_line_end_class p.class && (d == 0)) _ _ (λ us. parts_spelled us ≡ p.text ++ spelled ps)
     (λ h. ap (λ t. t ++ parts_spelled (cut d ps)) (append-nil p.text) ∙ ap (λ t. p.text ++ t) (cut_spelled d ps))
     (λ h. put_spelled p (cut (depth_after d p) ps) ∙ ap (λ t. p.text ++ t) (cut_spelled (depth_after d p) ps))
 

@@ -28,8 +28,7 @@ words_after b line (p ∷ ps) =
     let bytes = encode_utf8_all p.text in
     let parts : encode_utf8_all (p.text ++ spelled ps) ≡ bytes ++ encode_utf8_all (spelled ps) = encodes-append p.text (spelled ps) in
     let seam : length b + byte_len p.text ≡ length (b ++ bytes) = omega (arith, length-append {A = ℕ}) in
-    let regroup = sym (append_assoc b bytes (encode_utf8_all (spelled ps))) in
-    let others = words_after (b ++ bytes) (line + line_ends p.text) ps in
+    let regroup = sym (append_assoc b bytes (encode_utf8_all (spelled ps))) in let others = words_after (b ++ bytes) (line + line_ends p.text) ps in
     let tokens = tokens_from (length b + byte_len p.text) (line + line_ends p.text) ps in
     ap (λ (t : List ℕ). map (word_in (b ++ t)) (tokens_of_piece (length b) (length b + byte_len p.text) line p.class p.text ++ tokens)) parts
     ∙ map-append (word_in (b ++ (bytes ++ encode_utf8_all (spelled ps)))) (tokens_of_piece (length b) (length b + byte_len p.text) line p.class p.text) tokens

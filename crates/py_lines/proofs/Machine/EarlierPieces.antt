@@ -11,9 +11,6 @@ pub closed-after : (ps done : List Piece) (m : Mode) (held : List ℕ) → close
 closed-after ps done Mode.Free held = refl
 closed-after ps done m held = grind (arith, append_assoc)
 
-pub closed_grows : (m : Mode) (done : List Piece) (held : List ℕ) → (ps : List Piece) × (closed m done held ≡ done ++ ps)
-closed_grows m done held = (closed m [] held, ap (λ l. closed m l held) (sym (append-nil done)) ∙ closed-after done [] m held)
-
 -- brackets, so many bytes further
 abbrev pub shift : ℕ → List Bracket → List Bracket
 shift k [] = []

@@ -9,7 +9,6 @@ use Rattle.py_lines.specs.Balance.{is_closing, closing_of, is_opener, is_closer}
 use Rattle.py_lines.specs.LogicalLine.{byte_len}
 use Rattle.py_lines.specs.Private.Machine.{Mode, Move, Start, Holds, class_of, closed, move_of, start_of, is_final, is_prefix_spelling, Bracket, brackets_of}
 use Rattle.py_lines.proofs.Text.CharacterTests.{each_of, none_of, not_quote, excluded, feed-not-others}
-use Rattle.py_lines.specs.Private.Machine.{Mode}
 use Rattle.py_lines.proofs.Pieces.PieceLists.{piece}
 use Rattle.py_lines.proofs.Machine.Starts.{start-feed}
 use Rattle.py_lines.proofs.Pieces.OpenBrackets.{stack_push, other_keeps}
@@ -27,10 +26,6 @@ stack_closed m done held st stack = keeps done (piece (class_of m) held) st refl
 pub record IsReady (m : Mode) : Type 0 where
   pub ends : is_final m ≡ true
   pub breaks : (c : ℕ) → is_closing c ≡ true → move_of m c ≡ Move.Breaks
-
-pub ready-free : IsReady Mode.Free
-unfolding move_of
-ready-free = record { ends = refl; breaks = λ c h. refl }
 
 -- what a closing bracket is not, and what it is
 closing_is : (c : ℕ) → is_closing c ≡ true → (is_word_character c ≡ false) × (is_mark c ≡ false) × (is_space c ≡ false) × (is_line_feed c ≡ false) × (is_quote c ≡ false) × (is_operator c ≡ true) × IsScalar c
@@ -70,16 +65,14 @@ closing_of-closing c = cond_both (c == 40) _ _ (λ x. is_closing x ≡ true) (λ
 
 -- How the open piece can be finished, told once for every machine: `Comes` says that it can be, in this mode and with this text;
 -- it is so at once, after one character more by which the piece grows or with which it ends, and at the end of a comment.
-module _ (Comes : Mode → List ℕ → Type 0)
-    (once : (m : Mode) (held : List ℕ) → IsReady m → Comes m held)
+module _ (Comes : Mode → List ℕ → Type 0) (once : (m : Mode) (held : List ℕ) → IsReady m → Comes m held)
     (on : (m n : Mode) (held : List ℕ) (c : ℕ) → is_final m ≡ false → IsScalar c → move_of m c ≡ Move.Grows n → Comes n (held ++ c ∷ []) → Comes m held)
     (last : (m : Mode) (held : List ℕ) (c : ℕ) → is_final m ≡ false → IsScalar c → move_of m c ≡ Move.Closes → Comes m held)
     (commented : (held : List ℕ) → Comes Mode.Comment held) where
   -- a string, with its quote
   strings : (q : ℕ) → is_quote q ≡ true → (held : List ℕ) → Comes (Mode.Empty q) held × Comes (Mode.Inside q) held × Comes (Mode.Long q) held × Comes (Mode.LongOne q) held × Comes (Mode.LongTwo q) held
   unfolding move_of
-  strings q quotes held =
-      let scalar = quote-scalar q quotes in
+  strings q quotes held = let scalar = quote-scalar q quotes in
       let two : (h : List ℕ) → Comes (Mode.LongTwo q) h = λ h. last (Mode.LongTwo q) h q refl scalar (rw (eq-eqb q q refl)) in
       let one : (h : List ℕ) → Comes (Mode.LongOne q) h = λ h. on (Mode.LongOne q) (Mode.LongTwo q) h q refl scalar (rw (eq-eqb q q refl)) (two (h ++ q ∷ [])) in (
         once (Mode.Empty q) held (record { ends = refl; breaks = λ c h. rw (not_quote c q quotes (closing-not-quote c h)) }),
@@ -92,7 +85,7 @@ module _ (Comes : Mode → List ℕ → Type 0)
   pub completes : (m : Mode) (done : List Piece) (held : List ℕ) → Holds m done held → Comes m held
   unfolding move_of is_line_feed
   completes Mode.Start done held holds = once Mode.Start held (record { ends = refl; breaks = λ c h. rw (closing_is c h).1 })
-  completes Mode.Free done held holds = once Mode.Free held ready-free
+  completes Mode.Free done held holds = once Mode.Free held (record { ends = refl; breaks = λ c h. refl })
   completes Mode.Space done held holds = once Mode.Space held (record { ends = refl; breaks = λ c h. rw (closing_is c h).2 })
   completes (Mode.Word s) done held holds =
       once (Mode.Word s) held (record { ends = refl; breaks = λ c h. rw ((closing_is c h).0, and_right (is_prefix_spelling s) (is_quote c) (closing-not-quote c h)) })
@@ -111,5 +104,4 @@ module _ (Comes : Mode → List ℕ → Type 0)
   completes (Mode.LongEscape q) done held holds =
       on (Mode.LongEscape q) (Mode.Long q) held q refl (quote-scalar q holds.3.opens) refl (strings q holds.3.opens (held ++ q ∷ [])).2
   completes Mode.Backslash done held holds = last Mode.Backslash held 10 refl refl refl
-  completes Mode.JoinReturn done held holds = once Mode.JoinReturn held (record { ends = refl; breaks = λ c h. rw (closing_is c h).3 })
-  completes Mode.Return done held holds = once Mode.Return held (record { ends = refl; breaks = λ c h. rw (closing_is c h).3 })
+  completes m done held holds = once m held (record { ends = refl; breaks = λ c h. rw (closing_is c h).3 })

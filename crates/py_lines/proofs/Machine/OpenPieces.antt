@@ -86,8 +86,7 @@ quotes_items q quotes = and_from _ _ (quote_item q quotes) (and_from _ _ (quote_
 
 -- a long string that more items and others don't close is open after the first of these
 opening_more : (q : ℕ) (held : List ℕ) (more others : List (List ℕ)) → more ++ others ≡ (q ∷ []) ∷ (q ∷ []) ∷ [] → list_all is_item more ≡ true → HoldsLong q held → HoldsPrefix q (held ++ joined more)
-opening_more q held more others two each long =
-    items_push (q ∷ q ∷ q ∷ []) _ _ q held more
+opening_more q held more others two each long = items_push (q ∷ q ∷ q ∷ []) _ _ q held more
     (λ items holds. (list_all-append is_item items more ∙ and_from _ _ holds.0 each, triple-left q (items ++ more) others (ap (has_triple q) (append_assoc items more others ∙ ap (λ l. items ++ l) two) ∙ holds.1))) long
 
 -- so it is after none, one or two quotes

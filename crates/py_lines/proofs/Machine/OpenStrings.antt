@@ -61,31 +61,24 @@ prefix-unmarked [] q body is quotes = none_of is_mark (39 ∷ 34 ∷ []) q refl 
 prefix-unmarked (a ∷ bs) q body (inl empty) quotes = absurd (cc)
 prefix-unmarked (a ∷ bs) q body (inr is) quotes = start-not-mark a (prefix_word a bs is).0
 
-is_short_mode : (q : ℕ) (m : Mode) → IsShortMode q m → in_short m ≡ true
-is_short_mode q m short = grind arith
-
-is_long_mode : (q : ℕ) (seen : QuotesBefore) → in_long (mode_at q seen) ≡ true
-is_long_mode q seen = grind arith
-
 -- a backslash that escapes nothing yet, or nothing, at the end of a string
 last_grows : (IsSuch : Mode → Type 0) (from escape : Mode) (last : List ℕ) → IsSuch from → IsSuch escape → ((c : ℕ) → is_backslash c ≡ true → move_of from c ≡ Move.Grows escape) → IsUnescaped last → GrownTo IsSuch from last
 last_grows IsSuch from escape last is after slash (inl empty) = subst (GrownTo IsSuch from) (sym empty) (from, is, refl)
 last_grows IsSuch from escape last is after slash (inr (c, one, slashes)) = subst (GrownTo IsSuch from) (sym one) (escape, after, (escape, slash c slashes, refl))
 
 short_last : (q : ℕ) (m : Mode) (last : List ℕ) → IsShortMode q m → is_quote q ≡ true → IsUnescaped last → GrownTo (λ n. in_short n ≡ true) m last
-short_last q m last short quotes escapes = last_grows _ m (Mode.Escape q) last (is_short_mode q m short) refl (λ c slashes. short_escapes q c m short quotes slashes) escapes
+short_last q m last short quotes escapes = last_grows _ m (Mode.Escape q) last (grind arith) refl (λ c slashes. short_escapes q c m short quotes slashes) escapes
 
 -- what is open of a short string
 pub short_end : (q : ℕ) (items : List (List ℕ)) (last : List ℕ) → is_quote q ≡ true → list_all (is_short_item q) items ≡ true → IsUnescaped last → GrownTo (λ n. in_short n ≡ true) (Mode.Opened q) (joined items ++ last)
 short_end q [] last quotes each escapes = short_last q (Mode.Opened q) last (inl refl) quotes escapes
 short_end q (i ∷ is) last quotes each escapes =
     let body = short_body q (Mode.Opened q) i is (inl refl) quotes each in
-    let end = short_last q body.0 last (inr body.1) quotes escapes in
-    (end.0, end.1, grown-append _ body.0 end.0 (joined (i ∷ is)) last body.2 end.2)
+    let end = short_last q body.0 last (inr body.1) quotes escapes in (end.0, end.1, grown-append _ body.0 end.0 (joined (i ∷ is)) last body.2 end.2)
 
 -- and of a long one
 pub long_end : (q : ℕ) (items : List (List ℕ)) (last : List ℕ) → is_quote q ≡ true → list_all is_item items ≡ true → has_triple q items ≡ false → IsUnescaped last → GrownTo (λ n. in_long n ≡ true) (Mode.Opened q) (q ∷ q ∷ (joined items ++ last))
 long_end q items last quotes each triple escapes =
     let seen = seen_after q QuotesBefore.none items in
-    let end = last_grows (λ n. in_long n ≡ true) (mode_at q seen) (Mode.LongEscape q) last (is_long_mode q seen) refl (λ c slashes. long_escapes q c seen quotes slashes) escapes in
+    let end = last_grows (λ n. in_long n ≡ true) (mode_at q seen) (Mode.LongEscape q) last (grind arith) refl (λ c slashes. long_escapes q c seen quotes slashes) escapes in
     (end.0, end.1, grown-opening q (joined items ++ last) end.0 (grown-append _ (mode_at q seen) end.0 (joined items) last (grown-long q QuotesBefore.none items quotes each triple) end.2))

@@ -1,7 +1,8 @@
 -- The machine goes through the text of a space, a word, a comment, a join or a line end: how each begins, grows and ends.
-use Rattle.std.proofs.Common.{◌≡◌, ℕ, Bool, true, false, ◌&&◌, Some, List, [], ◌∷◌, ◌++◌, refl, sym, ap, ◌∙◌, subst, inl, inr, append_assoc, ◌⊎◌}
+use Rattle.std.proofs.Common.{◌≡◌, ℕ, Bool, true, false, ◌&&◌, List, [], ◌∷◌, ◌++◌, refl, sym, ap, ◌∙◌, subst, inl, inr, append_assoc, ◌⊎◌}
 use Rattle.std.specs.List.{list_all, list_any}
 use Rattle.std.proofs.lemmas.Bool.{and_parts, or_parts}
+pub use Rattle.std.proofs.lemmas.Option.{same_Some as some_is}
 use Rattle.py_lines.specs.Character.{is_space, is_word_character, is_quote, is_line_feed, is_return, is_break}
 use Rattle.py_lines.specs.Piece.{Class, space, word, comment, join, line_end, Piece, begins, ends}
 use Rattle.py_lines.specs.PieceGrammar.{is_prefix, IsLineEnd, feed, return_feed, return, InPlainClass, MayPrecedePlain}
@@ -11,9 +12,6 @@ use Rattle.py_lines.proofs.Pieces.PieceLists.{piece}
 use Rattle.py_lines.proofs.Fields.Prefixes.{word_quotes}
 use Rattle.py_lines.proofs.Machine.Spellings.{prefix_spelling}
 use Rattle.py_lines.proofs.Machine.Starts.{start-space, start-word, start-return, start-hash, start-slash}
-
-pub some_is : {A : Type 0} (a b : A) → Some a ≡ Some b → a ≡ b
-some_is a b h = cc
 
 -- the open piece may end before this text
 abbrev pub StopsBefore : Mode → List ℕ → Type 0
@@ -42,9 +40,7 @@ grown-append m n o (c ∷ a) b (next, grows, others) second = (next, grows, grow
 
 pub grown-run : (m : Mode) (passes : ℕ → Bool) → ((c : ℕ) → passes c ≡ true → move_of m c ≡ Move.Grows m) → (run : List ℕ) → list_all passes run ≡ true → Grown m run m
 grown-run m passes grows [] all = refl
-grown-run m passes grows (c ∷ cs) all =
-    let parts = and_parts (passes c) (list_all passes cs) all in
-    (m, grows c parts.0, grown-run m passes grows cs parts.1)
+grown-run m passes grows (c ∷ cs) all = let parts = and_parts (passes c) (list_all passes cs) all in (m, grows c parts.0, grown-run m passes grows cs parts.1)
 
 pub grown-word : (s : Spelling) (others : List ℕ) → list_all is_word_character others ≡ true → Grown (Mode.Word s) others (Mode.Word (spelling_on s others))
 unfolding move_of
@@ -56,9 +52,7 @@ grown-word s (c ∷ cs) all =
 grown-comment : (body : List ℕ) → list_any is_break body ≡ false → Grown Mode.Comment body Mode.Comment
 unfolding move_of
 grown-comment [] none = refl
-grown-comment (c ∷ cs) none =
-    let parts = or_parts (is_break c) (list_any is_break cs) none in
-    (Mode.Comment, rw parts.0, grown-comment cs parts.1)
+grown-comment (c ∷ cs) none = let parts = or_parts (is_break c) (list_any is_break cs) none in (Mode.Comment, rw parts.0, grown-comment cs parts.1)
 
 -- a mode in which a piece of this class is open
 abbrev pub IsOpenAs : Class → Mode → Type 0
@@ -107,10 +101,6 @@ unfolding move_of
 stops-comment [] h = refl
 stops-comment (c ∷ cs) (inl none) = absurd (cc)
 stops-comment (c ∷ cs) (inr ends) = rw ends
-
-pub feed-is-one : is_line_feed 10 ≡ true
-unfolding is_line_feed
-feed-is-one = refl
 
 pub is_read : (class : Class) (text rest : List ℕ) → IsPlainClass class → InPlainClass class text → MayPrecedePlain class text rest → IsRead class text rest
 unfolding move_of is_line_feed is_return

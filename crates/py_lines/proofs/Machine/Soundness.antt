@@ -1,7 +1,6 @@
 -- What each character does to the open piece alone.
-use Rattle.std.proofs.Common.{◌≡◌, ℕ, true, false, eqb, List, [], ◌∷◌, ◌++◌, refl, sym, ap, ◌∙◌, subst, inl, inr, append_assoc, arith}
-use Rattle.std.proofs.lemmas.Bool.{cond_both, and_from, and_left, and_right, eqb-true}
-use Rattle.std.proofs.lemmas.Bool.Decides.{nat_tests}
+use Rattle.std.proofs.Common.{◌≡◌, ℕ, true, false, ◌&&◌, eqb, List, [], ◌∷◌, ◌++◌, refl, sym, ap, ◌∙◌, subst, inl, inr, append_assoc, arith}
+use Rattle.std.proofs.lemmas.Bool.{cond_both, and_from, and_left, and_parts, and_right, eqb-true}
 use Rattle.std.proofs.lemmas.List.Sums.{fold-append}
 use Rattle.py_lines.specs.Character.{is_mark, is_space, is_word_character, is_quote, is_line_feed, is_return, is_break}
 use Rattle.py_lines.specs.Piece.{string, operator, line_end, Piece, ends}
@@ -81,31 +80,42 @@ pub move_holds : (m : Mode) (held : List ℕ) (c : ℕ) → Holds m [] held → 
 unfolding move_of long_string
 move_holds Mode.Start held c holds = cond_both (is_mark c) _ _ (MoveHolds Mode.Start held c) (λ h. ((c, ap (λ t. t ++ c ∷ []) holds.1, h), λ more. tt)) (λ h more. tt)
 move_holds Mode.Free held c holds = λ more. tt
-move_holds Mode.Space held c (first, others, is, all) = grind (arith, list_all-push is_space held c)
+move_holds Mode.Space held c (first, others, is, all) =
+    cond_both (is_space c) _ _ (MoveHolds Mode.Space held c) (λ h. (first, others ++ c ∷ [], push held c is, list_all-push is_space held c all h))
+    (λ h more. ((first, others, is, all), h, refl, tt))
 move_holds (Mode.Word s) held c (first, others, is, opens, run, so) =
     let prefixed : is_prefix held ≡ is_prefix_spelling s = ap is_prefix is ∙ prefix_spelling first others ∙ ap is_prefix_spelling (sym so) in
-    let quoted : is_prefix_spelling s ≡ true → is_quote c ≡ true → HoldsQuotes (c ∷ []) c (held ++ c ∷ []) = λ k l. record { prefix = held; spell = refl; begun = inr (prefixed ∙ k); opens = l } in
-    grind (arith, word_on s held c (first, others, is, opens, run, so), quoted, prefixed)
-move_holds Mode.Comment held c (first, others, is, opens, all) = grind (arith, list_any-push is_break others c)
-move_holds (Mode.Opened q) held c holds = grind (arith, one_more_quote (q ∷ []) q held c, short_holds (Mode.Opened q) held q c (none_yet (q ∷ []) _ q held refl holds))
-move_holds (Mode.Inside q) held c holds = grind (arith, close_holds held q c holds, short_holds (Mode.Inside q) held q c holds.0)
+    cond_both (is_word_character c) _ _ (MoveHolds (Mode.Word s) held c) (word_on s held c (first, others, is, opens, run, so))
+    (λ h. cond_both (is_prefix_spelling s && is_quote c) _ _ (MoveHolds (Mode.Word s) held c)
+    (λ k. let (prefix, quote) = and_parts (is_prefix_spelling s) (is_quote c) k in record { prefix = held; spell = refl; begun = inr (prefixed ∙ prefix); opens = quote })
+    (λ k more. ((first, others, is, opens, run), (h, ap (λ b. b && is_quote c) prefixed ∙ k), refl, tt)))
+move_holds Mode.Comment held c (first, others, is, opens, all) =
+    cond_both (is_break c) _ _ (MoveHolds Mode.Comment held c) (λ h more. ((first, others, is, opens, all), inr h, refl, tt))
+    (λ h. (first, others ++ c ∷ [], push held c is, opens, list_any-push is_break others c all h))
+move_holds (Mode.Opened q) held c holds = cond_both (eqb c q) _ _ (MoveHolds (Mode.Opened q) held c) (λ h. one_more_quote (q ∷ []) q held c h holds)
+    (short_holds (Mode.Opened q) held q c (none_yet (q ∷ []) _ q held refl holds))
+move_holds (Mode.Inside q) held c holds =
+    cond_both (eqb c q) _ _ (MoveHolds (Mode.Inside q) held c) (close_holds held q c holds) (short_holds (Mode.Inside q) held q c holds.0)
 move_holds (Mode.Escape q) held c (before, slash, is, items, slashes) =
     let spell = one_after before held slash c is in
-    grind (arith, spell, subst (HoldsSome q) (sym spell) (short_push q before (slash ∷ c ∷ []) items (and_from _ _ slashes refl) tt))
+    cond_both (is_return c) _ _ (MoveHolds (Mode.Escape q) held c) (λ h. (before, slash, c, spell, items, slashes, h))
+    (λ h. subst (HoldsSome q) (sym spell) (short_push q before (slash ∷ c ∷ []) items (and_from _ _ slashes refl) tt))
 move_holds (Mode.EscapeReturn q) held c (before, slash, r, is, items, slashes, returns) =
     let spell : held ++ c ∷ [] ≡ before ++ slash ∷ r ∷ c ∷ [] = ap (λ t. t ++ c ∷ []) is ∙ append_assoc before (slash ∷ r ∷ []) (c ∷ []) in
     let whole = returned_items q [] held (before, slash, r, is, items, slashes, returns) in
     let fed : is_line_feed c ≡ true → HoldsSome q (held ++ c ∷ []) = λ h. subst (HoldsSome q) (sym spell) (short_push q before (slash ∷ r ∷ c ∷ []) items (and_from _ _ (and_from _ _ (and_from _ _ slashes returns) h) refl) tt) in
-    grind (arith, fed, close_holds held q c whole, short_holds (Mode.EscapeReturn q) held q c whole.0)
+    cond_both (is_line_feed c) _ _ (MoveHolds (Mode.EscapeReturn q) held c) fed
+    (λ h. cond_both (eqb c q) _ _ (MoveHolds (Mode.EscapeReturn q) held c) (close_holds held q c whole) (short_holds (Mode.EscapeReturn q) held q c whole.0))
 move_holds (Mode.Empty q) held c holds =
     let third : eqb c q ≡ true → HoldsLong q (held ++ c ∷ []) = λ h. none_yet (q ∷ q ∷ q ∷ []) _ q (held ++ c ∷ []) (refl, refl) (one_more_quote (q ∷ q ∷ []) q held c h holds) in
-    grind (arith, third, empty_string q held holds, empty_before q held c)
-move_holds (Mode.Long q) held c holds = grind (arith, nat_tests, long_holds (Mode.Long q) held q c (opening_none q held holds))
-move_holds (Mode.LongOne q) held c (before, is, long) =
-    grind (arith, nat_tests, one_after before held q c is, long_holds (Mode.LongOne q) held q c (subst (HoldsPrefix q) (sym is) (opening_one q before long)))
-move_holds (Mode.LongTwo q) held c (before, is, long) =
-    cond_both (eqb c q) _ _ (MoveHolds (Mode.LongTwo q) held c)
-    (λ h.
+    cond_both (eqb c q) _ _ (MoveHolds (Mode.Empty q) held c) third (λ h more. (empty_string q held holds, empty_before q held c more holds h, refl, tt))
+move_holds (Mode.Long q) held c holds =
+    cond_both (eqb c q) _ _ (MoveHolds (Mode.Long q) held c) (λ h. (held, ap (λ (d : ℕ). held ++ d ∷ []) (eqb-true c q h), holds))
+    (long_holds (Mode.Long q) held q c (opening_none q held holds))
+move_holds (Mode.LongOne q) held c (before, is, long) = cond_both (eqb c q) _ _ (MoveHolds (Mode.LongOne q) held c)
+    (λ h. (before, one_after before held q c is ∙ ap (λ (d : ℕ). before ++ q ∷ d ∷ []) (eqb-true c q h), long))
+    (long_holds (Mode.LongOne q) held q c (subst (HoldsPrefix q) (sym is) (opening_one q before long)))
+move_holds (Mode.LongTwo q) held c (before, is, long) = cond_both (eqb c q) _ _ (MoveHolds (Mode.LongTwo q) held c) (λ h.
     let spell : held ++ c ∷ [] ≡ before ++ q ∷ q ∷ q ∷ [] = ap (λ t. t ++ c ∷ []) is ∙ append_assoc before (q ∷ q ∷ []) (c ∷ []) ∙ ap (λ (d : ℕ). before ++ q ∷ q ∷ d ∷ []) (eqb-true c q h) in
     let whole = long_string q before long in (
       subst (InPlainClass string) (sym spell) (inr whole),
@@ -124,7 +134,11 @@ move_holds Mode.JoinReturn held c (slash, r, is, slashes, returns) =
     cond_both (is_line_feed c) _ _ (MoveHolds Mode.JoinReturn held c)
     (λ h. ((slash, r ∷ c ∷ [], spell, slashes, return_feed (feed_after r c returns h)), λ more. and_left _ _ (ap (ends is_return) spell ∙ (feed-not-others c h).2)))
     (λ h more. ((slash, r ∷ [], is, slashes, return (ap (λ d. d ∷ []) (return_is r returns))), and_right _ _ h, refl, tt))
-move_holds Mode.Return held c (r, is, returns) = grind (arith, return_feed, return, feed_after r c returns, return_is r returns, λ (h : is_line_feed c ≡ true). (feed-not-others c h).2)
+move_holds Mode.Return held c (r, is, returns) =
+    let spell : held ++ c ∷ [] ≡ r ∷ c ∷ [] = push held c is in
+    cond_both (is_line_feed c) _ _ (MoveHolds Mode.Return held c)
+    (λ h. (return_feed (spell ∙ feed_after r c returns h), λ more. and_left _ _ (ap (ends is_return) spell ∙ (feed-not-others c h).2)))
+    (λ h more. (return (is ∙ ap (λ d. d ∷ []) (return_is r returns)), and_right _ _ h, refl, tt))
 
 -- and at the text's end
 pub end_holds : (m : Mode) (held : List ℕ) → Holds m [] held → is_final m ≡ true → AreReadPlain (closed m [] held) []

@@ -60,8 +60,7 @@ short_body q m item [] short quotes each =
     (first.0, first.1, grown-append m first.0 first.0 item [] first.2 refl)
 short_body q m item (i ∷ is) short quotes each =
     let parts = and_parts (is_short_item q item) (list_all (is_short_item q) (i ∷ is)) each in
-    let first = grown-item q m item short quotes parts.0 in
-    let others = short_body q first.0 i is (inr first.1) quotes parts.1 in
+    let first = grown-item q m item short quotes parts.0 in let others = short_body q first.0 i is (inr first.1) quotes parts.1 in
     (others.0, others.1, grown-append m first.0 others.0 item (joined (i ∷ is)) first.2 others.2)
 
 -- a quote closes it
@@ -71,13 +70,11 @@ short_closes q m short quotes = grind (arith, excluded is_quote is_line_feed q (
 
 pub short_ends : (text prefix : List ℕ) (q : ℕ) (items : List (List ℕ)) (rest : List ℕ) → text ≡ prefix ++ (q ∷ joined items ++ q ∷ []) → IsPrefix prefix → is_quote q ≡ true → list_all (is_short_item q) items ≡ true → MayPrecedePlain string text rest → EndsWith string (Mode.Opened q) (joined items ++ q ∷ []) rest
 unfolding move_of
-short_ends text prefix q [] rest spell is quotes each before =
-    ends_before (Mode.Empty q) (Mode.Empty q, rw (eq-eqb q q refl), refl) (refl, λ done held. refl)
+short_ends text prefix q [] rest spell is quotes each before = ends_before (Mode.Empty q) (Mode.Empty q, rw (eq-eqb q q refl), refl) (refl, λ done held. refl)
     (stops_unless (Mode.Empty q) (λ c. c == q) refl (λ c h. rw h) rest (before prefix q spell is quotes))
 short_ends text prefix q (i ∷ items) rest spell is quotes each before =
     let body = short_body q (Mode.Opened q) i items (inl refl) quotes each in
-    let last = short_closes q body.0 body.1 quotes in
-    ends_at body.0 (joined (i ∷ items)) q refl body.2 last.0 last.1
+    let last = short_closes q body.0 body.1 quotes in ends_at body.0 (joined (i ∷ items)) q refl body.2 last.0 last.1
 
 -- how many quotes stand directly before a place in a long string
 pub data QuotesBefore : Type 0 where
@@ -98,8 +95,7 @@ quotes_before q two = (q ∷ []) ∷ (q ∷ []) ∷ []
 -- one more quote; the third closes the string
 abbrev pub next : QuotesBefore → QuotesBefore
 next none = one
-next one = two
-next two = two
+next other = two
 
 abbrev pub seen_with : ℕ → QuotesBefore → List ℕ → QuotesBefore
 seen_with q seen item = cond (is_bare (λ c. c == q) item) (next seen) none
@@ -148,8 +144,7 @@ grown-long q seen (i ∷ is) quotes each triple =
     grown-append _ (mode_at q (seen_with q seen i)) _ i (joined is) first.0 (grown-long q (seen_with q seen i) is quotes parts.1 first.1)
   where
     go : is_item i ≡ true → (b : Bool) → is_bare (λ c. c == q) i ≡ b → Grown (mode_at q seen) i (mode_at q (cond b (next seen) none)) × (has_triple q (quotes_before q (cond b (next seen) none) ++ is) ≡ false)
-    go item true h =
-        let same = bare_quote q i h in
+    go item true h = let same = bare_quote q i h in
         let one_more = quote_grows q seen is (subst (λ (j : List ℕ). has_triple q (quotes_before q seen ++ j ∷ is) ≡ false) same triple) in
         (subst (λ (j : List ℕ). Grown (mode_at q seen) j (mode_at q (next seen))) (sym same) (mode_at q (next seen), one_more.0, refl), one_more.1)
     go item false h = (grown-other q seen i quotes item h, later_triple q (quotes_before q seen) i is triple)

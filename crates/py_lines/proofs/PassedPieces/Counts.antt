@@ -32,8 +32,7 @@ module _ (p : ℕ → Bool) (none : list_any p (codes "\n\r") ≡ false) where
   run_ends [] rest all = refl
   run_ends (c ∷ cs) rest all =
       let parts = and_parts (p c) (list_all p cs) all in
-      let other = excluded p is_break c (none_of p (codes "\n\r") c none) parts.0 in
-      grind (arith, other, run_ends cs rest parts.1)
+      grind (arith, excluded p is_break c (none_of p (codes "\n\r") c none) parts.0, run_ends cs rest parts.1)
 
   pub run_counts : (bytes : List ℕ) (at k : ℕ) → list_all p (take k (drop at bytes)) ≡ true → NoEnds bytes at (at + k)
   run_counts bytes at k all =

@@ -36,8 +36,7 @@ module _ (q : ℕ) (raw : Bool) (quote : is_quote q ≡ true) where
 
   at_quote : IsTextAt (mode_from mode) q false q
   unfolding is_quote is_backslash
-  at_quote =
-      each_of (IsTextAt (mode_from mode) q false) (codes "'\"") q ((refl, refl, refl, refl, refl), ((refl, refl, refl, refl, refl), tt)) quote
+  at_quote = each_of (IsTextAt (mode_from mode) q false) (codes "'\"") q ((refl, refl, refl, refl, refl), ((refl, refl, refl, refl, refl), tt)) quote
 
 -- a string with fields, before whose quote its prefix stands
 pub field_over : {scan : Scan} {run : List ℕ} (p : PlainTo scan run) (q : ℕ) (special : is_plain q ≡ false) (bytes : List ℕ) (n : ℕ)
@@ -45,10 +44,8 @@ pub field_over : {scan : Scan} {run : List ℕ} (p : PlainTo scan run) (q : ℕ)
     → Some 1 ≡ quotes_in (q ∷ bytes) → HasText q bytes n → n < length bytes → slice_index bytes n ≡ q
     → Over p q bytes special (1 + (n + 1)) (over_code scan run).frames
 field_over {scan} {run} p q special bytes n quote tells few alone text within last =
-    let (s, is, prefix) = field_word (tail_of run) tells in
-    let raw = is_raw_spelling s in
-    let m : OpenMode = mode q raw quote in
-    let mid : Scan = over_code scan run in
+    let (s, is, prefix) = field_word (tail_of run) tells in let raw = is_raw_spelling s in
+    let m : OpenMode = mode q raw quote in let mid : Scan = over_code scan run in
     string_taken p q special quote s mid.start m n bytes (drop (suc n) bytes)
     (with_prefix p q special quote s (subst (λ o. IsTail o mid.mode) is p.tail) (field_begins s prefix)) (rw prefix refl)
     alone refl refl (at_quote q raw quote) (drop-cons bytes n 0 within ∙ ap (λ (c : ℕ). c ∷ drop (suc n) bytes) last)

@@ -8,9 +8,7 @@ pub first_later : (bytes : List ℕ) (at : ℕ) → slice_index (drop at bytes) 
 first_later bytes at = get_or-drop at bytes 0 0 ∙ ap (slice_index bytes) (add-zero at)
 
 pub bytes_from : (bytes : List ℕ) (at : ℕ) → at < length bytes → drop at bytes ≡ slice_index bytes at ∷ drop (at + 1) bytes
-bytes_from bytes at within =
-    let next : suc at ≡ at + 1 = omega arith in
-    drop-cons bytes at 0 within ∙ ap (λ (n : ℕ). slice_index bytes at ∷ drop n bytes) next
+bytes_from bytes at within = let next : suc at ≡ at + 1 = omega arith in drop-cons bytes at 0 within ∙ ap (λ (n : ℕ). slice_index bytes at ∷ drop n bytes) next
 
 pub taken_one : (bytes : List ℕ) → 0 < length bytes → take 1 bytes ≡ slice_index bytes 0 ∷ []
 taken_one [] within = absurd (omega (arith, within))

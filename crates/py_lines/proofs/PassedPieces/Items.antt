@@ -43,7 +43,7 @@ use Rattle.py_lines.proofs.LineScan.Runs.{body_parts}
 use Rattle.py_lines.proofs.LogicalLines.Cuts.{break-return}
 use Rattle.py_lines.proofs.PassedPieces.Ends.{EndsBefore, takes_ended}
 use Rattle.py_lines.proofs.PassedPieces.PlainBytes.{IsTail, PlainTo, low_first, tail_ends}
-use Rattle.py_lines.proofs.Text.CharacterTests.{each_of, operator_ascii, the_one}
+use Rattle.py_lines.proofs.Text.CharacterTests.{each_of, operator_ascii, slash-not-quote, the_one}
 use Rattle.py_lines.proofs.Text.FirstBytes.{first_low}
 
 -- where this mode is open, these bytes leave it so, whatever follows them
@@ -51,15 +51,13 @@ abbrev pub Stays : OpenMode → List ℕ → Type 0
 Stays m text = (scan : Scan) → scan.mode ≡ m → (rest : List ℕ) → Takes scan (text ++ rest) (length text) (with_bytes scan (length text))
 
 stays_none : (m : OpenMode) → Stays m []
-stays_none m scan mode rest = subst (Takes scan rest 0) still (takes_none scan rest)
-  where
-    still : scan ≡ with_bytes scan 0
-    still = let same : scan.stop ≡ scan.stop + 0 = omega arith in ap (λ (n : ℕ). record scan { stop = n }) same
+stays_none m scan mode rest =
+    let same : scan.stop ≡ scan.stop + 0 = omega arith in
+    subst (Takes scan rest 0) (ap (λ (n : ℕ). record scan { stop = n }) same) (takes_none scan rest)
 
 pub stays_on : (m : OpenMode) (xs ys : List ℕ) → Stays m xs → Stays m ys → Stays m (xs ++ ys)
 stays_on m xs ys first second scan mode rest =
-    let a : ℕ = length xs in
-    let b : ℕ = length ys in
+    let a : ℕ = length xs in let b : ℕ = length ys in
     let size : a + b ≡ length (xs ++ ys) = sym (length-append xs ys) in
     let far : scan.stop + a + b ≡ scan.stop + length (xs ++ ys) = omega (arith, size) in
     let more = subst (λ (t : List ℕ). Takes (with_bytes scan a) t b (with_bytes (with_bytes scan a) b)) (sym (drop-append_seam xs (ys ++ rest))) (second (with_bytes scan a) mode rest) in
@@ -76,20 +74,14 @@ stays_run m passes each (c ∷ cs) all =
 -- ASCII that ends no line stays in a comment
 pub comment_byte : (c : ℕ) → is_line_byte c ≡ true → Stays opens.Comment (c ∷ [])
 comment_byte c is old mode rest =
-    let parts = and_parts (nat_lt c 128) (not (is_break c)) is in
-    let low = ltb-true c 128 parts.0 in
+    let parts = and_parts (nat_lt c 128) (not (is_break c)) is in let low = ltb-true c 128 parts.0 in
     takes_step old (with_bytes old 1) (c ∷ rest) 1 (λ t follow.
     subst (λ m. GoesOver t (c ∷ rest) 1 (record old { mode = m; stop = old.stop + 1 })) (sym mode)
     (piece_grows old t (c ∷ rest) c follow (low_first c rest low) opens.Comment (grown old.mode c) refl (ap (λ m. grown m c) mode ∙ rw (not-true _ parts.1) refl) 1 (sym (len_utf8_ascii c low))))
 
-pub slash-not-quote : is_quote 92 ≡ false
-unfolding is_quote
-slash-not-quote = refl
-
 pub text_parts : (q c : ℕ) → is_text_byte q c ≡ true → (c == q ≡ false) × (is_backslash c ≡ false) × (is_break c ≡ false) × (c < 128)
 text_parts q c text =
-    let both = and_parts (is_body_byte q c) (nat_lt c 128) text in
-    let is = body_parts q c both.0 in
+    let both = and_parts (is_body_byte q c) (nat_lt c 128) text in let is = body_parts q c both.0 in
     (is.0, is.1, is.2, ltb-true c 128 both.1)
 
 -- The text of a short string of ASCII. Each of its bytes stays in it, and its quote ends it.
@@ -97,18 +89,17 @@ module _ (q : ℕ) (quote : is_quote q ≡ true) where
   pub text_byte : (c : ℕ) → is_text_byte q c ≡ true → Stays (opens.Short q) (c ∷ [])
   text_byte c text old mode rest =
       let is = text_parts q c text in
-      let first = low_first c rest is.3 in
       takes_step old (with_bytes old 1) (c ∷ rest) 1 (λ t follow.
       grows_over old t follow (ap is_text mode) (c ∷ rest) (opens.Short q) 1 (with_bytes old 1)
       (subst (λ n. GrowsInText t.mode (c ∷ rest) (opens.Short q) n) (len_utf8_ascii c is.3)
       (subst (λ m. GrowsInText m (c ∷ rest) (opens.Short q) (len_utf8 c)) (sym (ap mode_from mode) ∙ follow.mode)
-      (grows_other (opens.Short q) q false c (c ∷ rest) quote first is.0 is.1 (rw is.2 refl) (refl, refl))))
+      (grows_other (opens.Short q) q false c (c ∷ rest) quote (low_first c rest is.3) is.0 is.1 (rw is.2 refl) (refl, refl))))
       (ap (λ m. record old { mode = m; stop = old.stop + 1 }) mode))
 
   slash_goes : (c : ℕ) → is_break c ≡ false → TextGoes (plain (modes.Inside q)) (92 ∷ c ∷ []) (plain (modes.Inside q))
   unfolding field_move move_of short_move is_backslash
   slash_goes c none =
-      let other : 92 == q ≡ false = ne_eqb 92 q (λ same. both_ways _ slash-not-quote (ap is_quote same ∙ quote)) in
+      let other : 92 == q ≡ false = ne_eqb 92 q (λ same. both_ways _ (slash-not-quote 92 refl) (ap is_quote same ∙ quote)) in
       (plain (modes.Escape q), rw other refl, (plain (modes.Inside q), rw (break-return c none) refl, refl))
 
   pub escape_stays : (c : ℕ) → c < 128 → is_break c ≡ false → Stays (opens.Short q) (92 ∷ c ∷ [])
@@ -117,8 +108,7 @@ module _ (q : ℕ) (quote : is_quote q ≡ true) where
       grows_over old t follow (ap is_text mode) (92 ∷ c ∷ rest) (opens.Short q) 2 (with_bytes old 2)
       (subst (λ m. GrowsInText m (92 ∷ c ∷ rest) (opens.Short q) 2) (sym (ap mode_from mode) ∙ follow.mode)
       (grows_low (plain (modes.Inside q)) (plain (modes.Inside q)) (opens.Short q) (92 ∷ c ∷ []) rest (refl, quote) (rw (is_low_from c low) refl) (omega arith) (slash_goes c none)
-      (text_as-self rest (plain (modes.Inside q)))))
-      (ap (λ m. record old { mode = m; stop = old.stop + 2 }) mode))
+      (text_as-self rest (plain (modes.Inside q))))) (ap (λ m. record old { mode = m; stop = old.stop + 2 }) mode))
 
 -- what a byte that isn't plain begins, after plain bytes
 module _ {scan : Scan} {run : List ℕ} (p : PlainTo scan run) (c : ℕ) (rest : List ℕ) (special : is_plain c ≡ false) where
@@ -168,8 +158,7 @@ module _ {scan : Scan} {run : List ℕ} (p : PlainTo scan run) (c : ℕ) (rest :
     pub break_over : length mid.frames == 0 ≡ false → Over len mid.frames
     break_over some = over len mid.frames (takes_step mid (passed mid len) (c ∷ rest) len (break_comes false some))
 
-    pub break_ends : length mid.frames == 0 ≡ true
-        → EndsAfter scan (run ++ c ∷ rest) (length run) len (passed (with_frames scan mid.frames) (length run + len))
+    pub break_ends : length mid.frames == 0 ≡ true → EndsAfter scan (run ++ c ∷ rest) (length run) len (passed (with_frames scan mid.frames) (length run + len))
     break_ends none = record {
       mid = mid;
       takes = p.takes (c ∷ rest);
@@ -207,21 +196,17 @@ module _ {scan : Scan} {run : List ℕ} (p : PlainTo scan run) (q : ℕ) (specia
   -- its first quote, text that leaves it open, and its last quote are taken
   pub string_taken : (s : Spelling) (start : ℕ) (m : OpenMode) (n : ℕ) (bytes rest : List ℕ) → Begins s start → string_mode s q false ≡ m
       → Some 1 ≡ quotes_in (q ∷ bytes) → is_text m ≡ true → closing_move (text_place (mode_from m)) ≡ closes → IsTextAt (mode_from m) q false q
-      → drop n bytes ≡ q ∷ rest → Takes (Opened m start) bytes n (with_bytes (Opened m start) n)
-      → Over p q bytes special (1 + (n + 1)) before_it.frames
+      → drop n bytes ≡ q ∷ rest → Takes (Opened m start) bytes n (with_bytes (Opened m start) n) → Over p q bytes special (1 + (n + 1)) before_it.frames
   string_taken s start m n bytes rest begun mode alone text closing at last held =
-      let first : Scan = Opened m start in
-      let end : Scan = with_bytes first n in
+      let first : Scan = Opened m start in let end : Scan = with_bytes first n in
       let opened = takes_step before_it first (q ∷ bytes) 1 (λ t follow.
       subst (λ (o : OpenMode). GoesOver t (q ∷ bytes) 1 (Opened o start)) mode
       (quotes_open before_it t (q ∷ bytes) follow quote before_quote 1 s start (begun t follow) alone (λ two. omega (arith, two)))) in
       let closed = takes_step end (passed end 1) (q ∷ rest) 1 (λ t follow.
-      closes_over end t follow text (q ∷ rest) 1 (passed end 1)
-      (transport (λ i. QuotesInText (follow.mode i) (q ∷ rest) 1 (closing i))
+      closes_over end t follow text (q ∷ rest) 1 (passed end 1) (transport (λ i. QuotesInText (follow.mode i) (q ∷ rest) 1 (closing i))
       (closes_short (mode_from m) q q (q ∷ rest) quote (low_first q rest (quote_ascii q quote)) refl at)) refl) in
       let far : before_it.stop + 1 + n + 1 ≡ before_it.stop + (1 + (n + 1)) = omega arith in
-      over p q bytes special (1 + (n + 1)) before_it.frames
-      (subst (Takes before_it (q ∷ bytes) (1 + (n + 1))) (ap (λ (k : ℕ). free_at before_it.frames k) far)
+      over p q bytes special (1 + (n + 1)) before_it.frames (subst (Takes before_it (q ∷ bytes) (1 + (n + 1))) (ap (λ (k : ℕ). free_at before_it.frames k) far)
       (takes_on before_it first (passed end 1) (q ∷ bytes) 1 (n + 1) opened
       (takes_on first end (passed end 1) bytes n 1 held (subst (λ xs. Takes end xs 1 (passed end 1)) (sym last) closed))))
 
@@ -232,8 +217,7 @@ module _ {scan : Scan} {run : List ℕ} (p : PlainTo scan run) (q : ℕ) (specia
       (takes_step before_it (passed before_it 2) (q ∷ rest) 2 (λ t follow. quotes_empty before_it t (q ∷ rest) follow quote before_quote 2 two refl))
 
   -- one without fields, before whose quote no word stands, or its prefix
-  pub string_over : (text rest : List ℕ) → Some 1 ≡ quotes_in (q ∷ (text ++ q ∷ rest)) → Stays (opens.Short q) text
-      → TellsFields (tail_of run) (Some false)
+  pub string_over : (text rest : List ℕ) → Some 1 ≡ quotes_in (q ∷ (text ++ q ∷ rest)) → Stays (opens.Short q) text → TellsFields (tail_of run) (Some false)
       → Over p q (text ++ q ∷ rest) special (1 + (length text + 1)) before_it.frames
   string_over text rest alone inside before = go (tail_of run) p.tail before
     where
@@ -258,10 +242,8 @@ hash_low c h = each_of (λ x. x < 128) (codes "#") c (omega arith, tt) h
 pub comment_over : {scan : Scan} {run : List ℕ} (p : PlainTo scan run) (c : ℕ) (special : is_plain c ≡ false) (text : List ℕ) (b : ℕ) (rest : List ℕ) → is_hash c ≡ true → Stays opens.Comment text → is_break b ≡ true
     → Over p c (text ++ b ∷ rest) special (length (c ∷ text)) (over_code scan run).frames
 comment_over {scan} {run} p c special text b rest hash inside ends =
-    let mid : Scan = over_code scan run in
-    let low = hash_low c hash in
-    let begun : Scan = begun_at mid opens.Comment 1 in
-    let last : Scan = with_bytes begun (length text) in
+    let mid : Scan = over_code scan run in let low = hash_low c hash in
+    let begun : Scan = begun_at mid opens.Comment 1 in let last : Scan = with_bytes begun (length text) in
     let first = takes_step mid begun (c ∷ (text ++ [])) 1 (λ t follow.
     subst (λ n. GoesOver t (c ∷ (text ++ [])) n (begun_at mid opens.Comment n)) (len_utf8_ascii c low)
     (comment_begins mid t (c ∷ (text ++ [])) c follow (low_first c (text ++ []) low) (tail_ends (tail_of run) mid.mode c p.tail low special) (start-hash c hash))) in

@@ -24,15 +24,13 @@ begins_there fs old marked =
     record { passes = inl refl; from = old.all; upto = omega arith; plain = λ i more less. absurd (omega (arith, more, less)); marked = marked }
 
 -- the marks are of the same 64 bytes
-pub base_kept : (bytes : List ℕ) (from : ℕ) (fs : List Frame) (old new : Passing) → PassesBlock bytes from fs old new
-    → new.marks.base ≡ old.marks.base
+pub base_kept : (bytes : List ℕ) (from : ℕ) (fs : List Frame) (old new : Passing) → PassesBlock bytes from fs old new → new.marks.base ≡ old.marks.base
 base_kept bytes from fs old new (inl same) = ap (λ (p : Passing). p.marks.base) same
 base_kept bytes from fs old new (inr (to, feeds, passes, is)) = passes.base
 
 -- other bytes before them are passed too
 ends_later : {bytes : List ℕ} {b to : ℕ} (a : ℕ) → a ≤ b
-    → ((i : ℕ) → a ≤ i → i < b → (is_plain (slice_index bytes i) || is_line_feed (slice_index bytes i)) ≡ true) → EndInFeed bytes b to
-    → EndInFeed bytes a to
+    → ((i : ℕ) → a ≤ i → i < b → (is_plain (slice_index bytes i) || is_line_feed (slice_index bytes i)) ≡ true) → EndInFeed bytes b to → EndInFeed bytes a to
 ends_later {b = b} a more before ends = record {
   further = omega (arith, more, ends.further);
   within = ends.within;
@@ -40,11 +38,11 @@ ends_later {b = b} a more before ends = record {
   last = ends.last;
 }
 
-plain_on : (bytes : List ℕ) (a b c : ℕ) → ArePlain bytes a b → ArePlain bytes b c → ArePlain bytes a c
-plain_on bytes a b c first second i from less within =
-    elim (cases_lt i b) [ inl low ↦ first i from low within | inr high ↦ second i high less within ]
+-- plain bytes follow plain ones
+pub plain_on : (bytes : List ℕ) (a b c : ℕ) → ArePlain bytes a b → ArePlain bytes b c → ArePlain bytes a c
+plain_on bytes a b c first second i from less within = elim (cases_lt i b) [ inl low ↦ first i from low within | inr high ↦ second i high less within ]
 
-lines_again : (fs : List Frame) (lines a b : ℕ) → lines_with fs (lines_with fs lines a) b ≡ lines_with fs lines b
+pub lines_again : (fs : List Frame) (lines a b : ℕ) → lines_with fs (lines_with fs lines a) b ≡ lines_with fs lines b
 lines_again [] lines a b = refl
 lines_again (f ∷ fs) lines a b = refl
 

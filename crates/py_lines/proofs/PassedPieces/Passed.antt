@@ -28,8 +28,7 @@ pub cut : (bytes : List ℕ) (from at : ℕ) → from ≤ at → at < length byt
     → drop from bytes ≡ take (at - from) (drop from bytes) ++ slice_index bytes at ∷ drop (at + 1) bytes
 cut bytes from at more within =
     let there : from + (at - from) ≡ at = omega (arith, more) in
-    sym (take-append-drop (at - from) (drop from bytes))
-    ∙ ap (λ x. take (at - from) (drop from bytes) ++ x)
+    sym (take-append-drop (at - from) (drop from bytes)) ∙ ap (λ x. take (at - from) (drop from bytes) ++ x)
     (drop-drop (at - from) from bytes ∙ ap (λ (n : ℕ). drop n bytes) there ∙ bytes_from bytes at within)
 
 pub cut-length : (bytes : List ℕ) (from at : ℕ) → from ≤ at → at ≤ length bytes → length (take (at - from) (drop from bytes)) ≡ at - from
@@ -63,8 +62,7 @@ module _ (bytes : List ℕ) (at : ℕ) (old : Passing) (next : FindsNext bytes o
 
   plain_to : (start : ℕ) (b : List Frame) (scan : Scan) → StandsFree start b scan → PlainTo scan run
   plain_to start b scan stands =
-      plain_run scan run stands.mode (ap has_field stands.frames ∙ stands.outside)
-      (plain_between bytes old.all at old.marks next at next.after (omega arith))
+      plain_run scan run stands.mode (ap has_field stands.frames ∙ stands.outside) (plain_between bytes old.all at old.marks next at next.after (omega arith))
 
   run_counted : NoEnds bytes old.all at
   run_counted = plain_counts bytes old.all at next.after next.within next.plain
@@ -142,8 +140,7 @@ module _ (bytes : List ℕ) (at : ℕ) (old : Passing) (next : FindsNext bytes o
       some = begins.some;
       frames = refl;
       over = λ start scan stands.
-          let p = plain_to start [] scan stands in
-          let frames = p.frames ∙ stands.frames in
+          let p = plain_to start [] scan stands in let frames = p.frames ∙ stands.frames in
           let size : length run + len ≡ at + len - old.all = omega (arith, run-length, next.after) in
           transport (λ i. EndsAfter scan (seen i) (run-length i) len (passed (with_frames scan (frames i)) (size i)))
           (break_ends p first after special len ends there (ap (λ (fs : List Frame). length fs == 0) frames));

@@ -29,13 +29,8 @@ use Rattle.py_lines.proofs.PassedPieces.WordsBefore.{none_before}
 use Rattle.py_lines.proofs.Text.CharacterTests.{excluded}
 use Rattle.py_lines.proofs.Text.FirstBytes.{first_other}
 
--- the bytes from a place after another
-drop_to : (bytes : List ℕ) (a b : ℕ) → a ≤ b → drop (b - a) (drop a bytes) ≡ drop b bytes
-drop_to bytes a b more = let there : a + (b - a) ≡ b = omega (arith, more) in drop-drop (b - a) a bytes ∙ ap (λ (n : ℕ). drop n bytes) there
-
 -- up to one byte, and from there on to another
-takes_further : (old mid new : Scan) (bytes : List ℕ) (a b : ℕ) → a ≤ b → Takes old bytes a mid → Takes mid (drop a bytes) (b - a) new
-    → Takes old bytes b new
+takes_further : (old mid new : Scan) (bytes : List ℕ) (a b : ℕ) → a ≤ b → Takes old bytes a mid → Takes mid (drop a bytes) (b - a) new → Takes old bytes b new
 takes_further old mid new bytes a b more takes others =
     let size : a + (b - a) ≡ b = omega (arith, more) in
     subst (λ (n : ℕ). Takes old bytes n new) size (takes_on old mid new bytes a (b - a) takes others)
@@ -93,7 +88,8 @@ module _ (old : Scan) (bytes : List ℕ) (at : ℕ) (scan : Scan) (p : Passing) 
   passes_line len new q c so set =
       let ended = so.over (scan.stop + p.all) here stands in
       let far : scan.stop + p.all + (q.all - p.all) ≡ scan.stop + q.all = omega (arith, on.next.after, so.all) in
-      let there : drop (at - p.all) (drop p.all bytes) ≡ drop at bytes = drop_to bytes p.all at on.next.after in
+      let size : p.all + (at - p.all) ≡ at = omega (arith, on.next.after) in
+      let there = drop-drop (at - p.all) p.all bytes ∙ ap (λ (n : ℕ). drop n bytes) size in
       record {
         mid = ended.mid;
         takes = takes_further old here ended.mid bytes p.all at on.next.after on.takes ended.takes;
@@ -101,16 +97,15 @@ module _ (old : Scan) (bytes : List ℕ) (at : ℕ) (scan : Scan) (p : Passing) 
       }
 
   -- after so many plain bytes more
-  pub passes_left : (k : ℕ) (new : Scan) → k ≤ length (take (at - p.all) (drop p.all bytes)) → Takes here (drop p.all bytes) k (passed here k)
-      → new ≡ passed scan (p.all + k) → TakesOn bytes old 0 new (p.all + k)
-  passes_left k new fits takes set =
+  pub passes_left : (k : ℕ) → k ≤ length (take (at - p.all) (drop p.all bytes)) → Takes here (drop p.all bytes) k (passed here k)
+      → TakesOn bytes old 0 (passed scan (p.all + k)) (p.all + k)
+  passes_left k fits takes =
       let far : scan.stop + p.all + k ≡ scan.stop + (p.all + k) = omega arith in
       let size : p.all + k ≡ p.all + k - 0 = omega arith in
       record {
         further = omega arith;
         within = omega (arith, fits, cut-length bytes p.all at on.next.after on.next.within, on.next.after, on.next.within);
-        takes = transport (λ i. Takes old bytes (size i) ((ap (λ (n : ℕ). free_at scan.frames n) far ∙ sym set) i))
-            (takes_on old here (passed here k) bytes p.all k on.takes takes);
+        takes = transport (λ i. Takes old bytes (size i) (free_at scan.frames (far i))) (takes_on old here (passed here k) bytes p.all k on.takes takes);
       }
 
 -- from where no piece is open and no field, over plain bytes
@@ -177,10 +172,8 @@ module _ (here : Scan) (free : here.mode ≡ opens.Free) (outside : has_field he
     pub word_left : Takes here rest k (passed here k)
     word_left = elim (cases_lt 0 k) [
       | inl some ↦
-          let to = plain_to fits in
-          let last : Scan = over_code here (run fits) in
-          let size : from + k - from ≡ k = omega arith in
-          let after = drop (from + k + 1) bytes in
+          let to = plain_to fits in let last : Scan = over_code here (run fits) in
+          let size : from + k - from ≡ k = omega arith in let after = drop (from + k + 1) bytes in
           let upto : from + k < length bytes = omega (arith, fits, plain-length fits, next.after, within) in
           let split : run fits ++ b ∷ after ≡ rest = ap (λ (n : ℕ). take n rest ++ b ∷ after) (sym size) ∙ sym (cut bytes from (from + k) (omega arith) upto) in
           let far : last.stop + 0 ≡ here.stop + k = omega (arith, to.stop, run-length fits) in

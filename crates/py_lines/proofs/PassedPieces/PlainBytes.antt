@@ -39,8 +39,7 @@ pub record PlainTo (old : Scan) (run : List ℕ) : Type 0 where
   pub tail : IsTail (tail_of run) (over_code old run).mode
   pub takes : (rest : List ℕ) → Takes old (run ++ rest) (length run) (over_code old run)
 
-all_bytes : (passes : ℕ → Bool) (run rest : List ℕ) → list_all passes run ≡ true → (i : ℕ) → i < length run
-    → passes (slice_index (run ++ rest) i) ≡ true
+all_bytes : (passes : ℕ → Bool) (run rest : List ℕ) → list_all passes run ≡ true → (i : ℕ) → i < length run → passes (slice_index (run ++ rest) i) ≡ true
 all_bytes passes [] rest all i less = absurd (omega (arith, less))
 all_bytes passes (c ∷ cs) rest all zero less = (and_parts (passes c) (list_all passes cs) all).0
 all_bytes passes (c ∷ cs) rest all (suc i) less = all_bytes passes cs rest (and_parts (passes c) (list_all passes cs) all).1 i (omega (arith, less))

@@ -76,27 +76,22 @@ pub record Item (m : OpenMode) (bytes : List ℕ) (end : ℕ) (marks : Marks) : 
   pub stays : Stays m (between bytes end (end + len))
   pub counted : NoEnds bytes end (end + len)
 
-plain_on : (bytes : List ℕ) (from end : ℕ) (marks : Marks) → FindsNext bytes from end marks → NoEnds bytes from end
-plain_on bytes from end marks next = plain_counts bytes from end next.after next.within next.plain
-
 module _ {m : OpenMode} {bytes : List ℕ} {end : ℕ} {marks : Marks} where
   abbrev one_item : end < length bytes → HasMarks bytes (end + 1) marks → is_line_byte (slice_index bytes end) ≡ true
       → Stays m (slice_index bytes end ∷ []) → Item m bytes end marks
   one_item within marked is stays =
-      let some : 0 < 1 = omega arith in
-      let all = subst (Stays m) (sym (one_between bytes end within)) stays in
+      let some : 0 < 1 = omega arith in let all = subst (Stays m) (sym (one_between bytes end within)) stays in
       record { len = 1; some = some; marked = marked; stays = all; counted = line_byte_counts bytes end within is }
 
   stays_plain : TakesPlain m → (from : ℕ) → FindsNext bytes from end marks → Stays m (between bytes from end)
-  stays_plain plain from next =
-      stays_run m is_plain plain (between bytes from end) (plain_between bytes from end marks next end next.after (omega arith))
+  stays_plain plain from next = stays_run m is_plain plain (between bytes from end) (plain_between bytes from end marks next end next.after (omega arith))
 
   reads_begun : TakesPlain m → {at : ℕ} → FindsNext bytes (at + 1) end marks → Reads m bytes at end marks
   reads_begun plain {at} next = record {
     plain = plain;
     further = omega (arith, next.after);
     stays = stays_plain plain (at + 1) next;
-    counted = plain_on bytes (at + 1) end marks next;
+    counted = plain_counts bytes (at + 1) end next.after next.within next.plain;
     from = at + 1;
     next = next;
   }
@@ -114,14 +109,13 @@ reads_on {m} {bytes} {at} {end} {to} {next_marks = next_marks} reads item next =
       further = omega (arith, reads.further, next.after);
       stays = subst (Stays m) (sym all) (stays_on m (between bytes (at + 1) end) _ reads.stays
           (stays_on m (between bytes end then) (between bytes then to) item.stays (stays_plain reads.plain then next)));
-      counted = plain_on bytes then to next_marks next ∙ item.counted ∙ reads.counted;
+      counted = plain_counts bytes then to next.after next.within next.plain ∙ item.counted ∙ reads.counted;
       from = then;
       next = next;
     }
 
 -- two bytes
-two_between : (bytes : List ℕ) (end : ℕ) → end + 1 < length bytes
-    → between bytes end (end + 2) ≡ slice_index bytes end ∷ slice_index bytes (end + 1) ∷ []
+two_between : (bytes : List ℕ) (end : ℕ) → end + 1 < length bytes → between bytes end (end + 2) ≡ slice_index bytes end ∷ slice_index bytes (end + 1) ∷ []
 two_between bytes end within =
     let two : end + 2 - end ≡ 2 = omega arith in
     ap (λ (n : ℕ). take n (drop end bytes)) two ∙ taken_two (drop end bytes) (omega (arith, within, length-drop end bytes))
@@ -154,8 +148,7 @@ pub comment_passed : (bytes : List ℕ) (at end : ℕ) (last_marks : Marks) (old
     → PassesSo bytes at place old b (passed_to old end old.ends m) b
 unfolding is_hash
 comment_passed bytes at end last_marks old m b place next reads within hash ends marked =
-    let text : List ℕ = between bytes (at + 1) end in
-    let upto : at + 1 ≤ end = omega (arith, reads.further) in
+    let text : List ℕ = between bytes (at + 1) end in let upto : at + 1 ≤ end = omega (arith, reads.further) in
     let size : length (slice_index bytes at ∷ text) ≡ end - at = omega (arith, cut-length bytes (at + 1) end upto (omega (arith, within)), reads.further) in
     let split : text ++ slice_index bytes end ∷ drop (end + 1) bytes ≡ drop (at + 1) bytes = sym (cut bytes (at + 1) end upto within) in
     let here : at < length bytes = omega (arith, reads.further, within) in
@@ -179,18 +172,15 @@ module _ (q : ℕ) (quote : is_quote q ≡ true) {bytes : List ℕ} {end : ℕ} 
       → is_line_byte (slice_index bytes end) ≡ true → TextItem q bytes end marks
   unfolding is_body_byte is_backslash is_break
   text_item within marked other apart is =
-      let c = slice_index bytes end in
-      let parts = and_parts (nat_lt c 128) (not (is_break c)) is in
+      let c = slice_index bytes end in let parts = and_parts (nat_lt c 128) (not (is_break c)) is in
       one_item within marked is (text_byte q quote c (and_from _ _ (rw (ne_eqb c q other, ne_eqb c 92 apart) parts.1) parts.0))
 
   pub escape_item : HasMarks bytes (end + 2) marks → slice_index bytes end ≡ 92 → end + 1 < length bytes
       → is_line_byte (slice_index bytes (end + 1)) ≡ true → TextItem q bytes end marks
   unfolding is_break is_backslash
   escape_item marked slash within is =
-      let two : 0 < 2 = omega arith in
-      let c = slice_index bytes (end + 1) in
-      let both : end + 2 ≡ end + 1 + 1 = omega arith in
-      let low = and_parts (nat_lt c 128) (not (is_break c)) is in
+      let two : 0 < 2 = omega arith in let c = slice_index bytes (end + 1) in
+      let both : end + 2 ≡ end + 1 + 1 = omega arith in let low = and_parts (nat_lt c 128) (not (is_break c)) is in
       record {
         len = 2;
         some = two;
@@ -201,19 +191,15 @@ module _ (q : ℕ) (quote : is_quote q ≡ true) {bytes : List ℕ} {end : ℕ} 
             ∙ byte_counts is_backslash refl bytes end (omega (arith, within)) (ap is_backslash slash);
       }
 
-pub string_passed : (bytes : List ℕ) (at end : ℕ) (last_marks : Marks) (old : Passing) (b : List Frame) (place : ℕ)
-    → FindsNext bytes old.all at old.marks
+pub string_passed : (bytes : List ℕ) (at end : ℕ) (last_marks : Marks) (old : Passing) (b : List Frame) (place : ℕ) → FindsNext bytes old.all at old.marks
     → ReadsText (slice_index bytes at) bytes at end last_marks → end < length bytes
-    → is_quote (slice_index bytes at) ≡ true → slice_index bytes end ≡ slice_index bytes at
-    → Some 1 ≡ quotes_in (drop at bytes)
+    → is_quote (slice_index bytes at) ≡ true → slice_index bytes end ≡ slice_index bytes at → Some 1 ≡ quotes_in (drop at bytes)
     → TellsFields (word_before bytes at old) (Some false) → PassesSo bytes at place old b (passed_to old (end + 1) old.ends last_marks) b
 string_passed bytes at end last_marks old b place next reads within quote closes alone before =
-    let q : ℕ = slice_index bytes at in
-    let text : List ℕ = between bytes (at + 1) end in
+    let q : ℕ = slice_index bytes at in let text : List ℕ = between bytes (at + 1) end in
     let here : at < length bytes = omega (arith, reads.further, within) in
     let upto : at + 1 ≤ end = omega (arith, reads.further) in
-    let text-length = cut-length bytes (at + 1) end upto (omega (arith, within)) in
-    let size : 1 + (length text + 1) ≡ end + 1 - at = omega (arith, text-length, reads.further) in
+    let size : 1 + (length text + 1) ≡ end + 1 - at = omega (arith, cut-length bytes (at + 1) end upto (omega (arith, within)), reads.further) in
     let split : text ++ q ∷ drop (end + 1) bytes ≡ drop (at + 1) bytes =
     ap (λ c. text ++ c ∷ drop (end + 1) bytes) (sym closes) ∙ sym (cut bytes (at + 1) end upto within) in
     let one : Some 1 ≡ quotes_in (q ∷ (text ++ q ∷ drop (end + 1) bytes)) =

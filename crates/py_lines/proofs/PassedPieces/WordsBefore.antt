@@ -16,15 +16,12 @@ pub tail_on-append : (t : Option Spelling) (xs ys : List ℕ) → tail_on t (xs 
 tail_on-append t [] ys = refl
 tail_on-append t (x ∷ xs) ys = tail_on-append (tail_with t x) xs ys
 
-tail_push : (read : List ℕ) (c : ℕ) → tail_of (read ++ c ∷ []) ≡ tail_with (tail_of read) c
-tail_push read c = tail_on-append None read (c ∷ [])
-
 pub no_tail_with : (t : Option Spelling) (c : ℕ) → is_ascii_word c ≡ false → tail_with t c ≡ None
 no_tail_with None c none = rw none refl
 no_tail_with (Some s) c none = rw none refl
 
 pub no_tail : (read : List ℕ) (c : ℕ) → is_ascii_word c ≡ false → tail_of (read ++ c ∷ []) ≡ None
-no_tail read c none = tail_push read c ∙ no_tail_with (tail_of read) c none
+no_tail read c none = tail_on-append None read (c ∷ []) ∙ no_tail_with (tail_of read) c none
 
 -- no word ends where one begins, or none does
 pub none_before : (bytes : List ℕ) (k : ℕ) → IsWordStart bytes k → tail_of (take k bytes) ≡ None
@@ -58,5 +55,4 @@ module _ (bytes : List ℕ) (k : ℕ) (start : IsWordStart bytes k) where
       let all = all_pass is_ascii_word (drop k bytes) (length bytes - k) room
       (λ i less. ap is_ascii_word (get_or-drop k bytes i 0) ∙ start.each (k + i) (omega arith) (omega (arith, less))) in
       ap tail_of (sym (take-append-drop k bytes) ∙ ap (λ x. take k bytes ++ x) (sym (rest_is bytes k))) ∙ tail_on-append None (take k bytes) word
-      ∙ ap (λ t. tail_on t word) (none_before bytes k start)
-      ∙ word_tail word (omega (arith, some, length-take-le (length bytes - k) (drop k bytes) room)) all
+      ∙ ap (λ t. tail_on t word) (none_before bytes k start) ∙ word_tail word (omega (arith, some, length-take-le (length bytes - k) (drop k bytes) room)) all

@@ -41,9 +41,7 @@ depth_through-append d (p ∷ ps) qs = depth_through-append (depth_after d p) ps
 -- what holds of each piece of two lists, one after another, holds of each of both
 pub EachAtDepth-parts : (P : ℕ → Piece → Type 0) (d : ℕ) (ps qs : List Piece) → EachAtDepth P d (ps ++ qs) → EachAtDepth P d ps × EachAtDepth P (depth_through d ps) qs
 EachAtDepth-parts P d [] qs h = (tt, h)
-EachAtDepth-parts P d (p ∷ ps) qs h =
-    let others = EachAtDepth-parts P (depth_after d p) ps qs h.1 in
-    ((h.0, others.0), others.1)
+EachAtDepth-parts P d (p ∷ ps) qs h = let others = EachAtDepth-parts P (depth_after d p) ps qs h.1 in ((h.0, others.0), others.1)
 
 -- a balanced list leaves the depth as it was
 pub balanced_depth : (ps : List Piece) → IsBalanced ps → (d : ℕ) → depth_through d ps ≡ d
@@ -56,8 +54,7 @@ balanced_depth ps (balance.both _ first second is left right) d = cc (depth_thro
 pub through-append : (o : Option (List Bracket)) (done ps qs : List Piece) → brackets_through o done (ps ++ qs) ≡ brackets_through (brackets_through o done ps) (done ++ ps) qs
 through-append None done ps qs = refl
 through-append (Some st) done [] qs = ap (λ l. brackets_through (Some st) l qs) (sym (append-nil done))
-through-append (Some st) done (p ∷ ps) qs =
-    through-append (brackets_after st (byte_len (spelled done)) p) (done ++ p ∷ []) ps qs
+through-append (Some st) done (p ∷ ps) qs = through-append (brackets_after st (byte_len (spelled done)) p) (done ++ p ∷ []) ps qs
     ∙ ap (λ l. brackets_through (brackets_through (brackets_after st (byte_len (spelled done)) p) (done ++ p ∷ []) ps) l qs) (append_assoc done (p ∷ []) ps)
 
 pub opener_pushes : (st : List Bracket) (place : ℕ) (p : Piece) → is_opener p ≡ true → length st < 200 → brackets_after st place p ≡ Some (record { opener = first_or_zero p.text; place = place } ∷ st)
@@ -73,11 +70,8 @@ unfolding brackets_after
 other_keeps st place p h k = rw (h, k)
 
 pub are_pair : (a b : Piece) → is_opener a ≡ true → is_closer b ≡ true → first_or_zero b.text == closing_of (first_or_zero a.text) ≡ true → ArePair a b
-are_pair a b opens closes same = record {
-  opens = opens;
-  closes = closes;
-  kind = kinds_agree a.text b.text (operator_begins is_opening a.class a.text opens) (operator_begins is_closing b.class b.text closes) ∙ same;
-}
+are_pair a b opens closes same =
+    search (opens, closes, kinds_agree a.text b.text (operator_begins is_opening a.class a.text opens) (operator_begins is_closing b.class b.text closes) ∙ same)
 
 pub pair_kind : (a b : Piece) → ArePair a b → first_or_zero b.text == closing_of (first_or_zero a.text) ≡ true
 pair_kind a b both = sym (kinds_agree a.text b.text (operator_begins is_opening a.class a.text both.opens) (operator_begins is_closing b.class b.text both.closes)) ∙ both.kind
@@ -94,11 +88,9 @@ balanced_through ps (balance.pair _ inner a b is both within) st done shallow =
     let parts = EachAtDepth-parts OpensShallow (length st) (a ∷ inner) (b ∷ []) (subst (IsShallowPlain (length st)) is shallow) in
     let top : Bracket = record { opener = first_or_zero a.text; place = byte_len (spelled done) } in
     let inside = balanced_through inner within (top ∷ st) (done ++ a ∷ []) (subst (λ (n : ℕ). IsShallowPlain n inner) (depth-opener (length st) a both.opens) parts.0.1) in
-    let begun = ap (λ o. brackets_through o (done ++ a ∷ []) inner)
-    (opener_pushes st (byte_len (spelled done)) a both.opens (parts.0.0 both.opens)) ∙ inside in
+    let begun = ap (λ o. brackets_through o (done ++ a ∷ []) inner) (opener_pushes st (byte_len (spelled done)) a both.opens (parts.0.0 both.opens)) ∙ inside in
     ap (brackets_through (Some st) done) is ∙ through-append (Some st) done (a ∷ inner) (b ∷ [])
-    ∙ ap (λ o. brackets_through o (done ++ a ∷ inner) (b ∷ [])) begun
-    ∙ closed_through st (done ++ a ∷ inner) top b both.closes (pair_kind a b both)
+    ∙ ap (λ o. brackets_through o (done ++ a ∷ inner) (b ∷ [])) begun ∙ closed_through st (done ++ a ∷ inner) top b both.closes (pair_kind a b both)
 balanced_through ps (balance.both _ first second is left right) st done shallow =
     let parts = EachAtDepth-parts OpensShallow (length st) first second (subst (IsShallowPlain (length st)) is shallow) in
     let later = balanced_through second right st (done ++ first) (subst (λ (n : ℕ). IsShallowPlain n second) (balanced_depth first left (length st)) parts.1) in
@@ -109,9 +101,7 @@ stack-from_balanced ps balanced shallow = balanced_through ps balanced [] [] sha
 
 -- what comes to something comes from something
 pub some_before : {A B : Type 0} (f : Option A → Option B) → f None ≡ None → (o : Option A) (b : B) → f o ≡ Some b → (a : A) × (o ≡ Some a)
-some_before f none None b is =
-    let stuck : None ≡ Some b = sym none ∙ is in
-    absurd (cc)
+some_before f none None b is = let stuck : None ≡ Some b = sym none ∙ is in absurd (cc)
 some_before f none (Some a) b is = (a, refl)
 
 -- the stack after one more piece
@@ -166,6 +156,5 @@ pub innermost_place : (outer inner : List Piece) (a : Piece) (b : Bracket) (bs :
 innermost_place outer inner a b bs opens within stack =
     let (st, first, rest) = through_parts [] (b ∷ bs) [] outer (a ∷ inner) stack in
     let (mid, begun, more) = through_parts st (b ∷ bs) outer (a ∷ []) inner rest in
-    let is = balanced_back inner within mid (b ∷ bs) (outer ++ a ∷ []) more ∙ opened_is st mid outer a opens begun in
-    let top : b ≡ top_at outer a = cc in
+    let is = balanced_back inner within mid (b ∷ bs) (outer ++ a ∷ []) more ∙ opened_is st mid outer a opens begun in let top : b ≡ top_at outer a = cc in
     ap (λ (x : Bracket). x.place) top

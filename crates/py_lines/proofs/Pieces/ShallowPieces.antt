@@ -10,9 +10,7 @@ IsShallow-append d (p ∷ ps) qs h k = (h.0, h.1, IsShallow-append (depth_after 
 
 pub IsShallow-parts : (d : ℕ) (ps qs : List Piece) → IsShallow d (ps ++ qs) → IsShallow d ps × IsShallow (depth_through d ps) qs
 IsShallow-parts d [] qs h = (tt, h)
-IsShallow-parts d (p ∷ ps) qs h =
-    let others = IsShallow-parts (depth_after d p) ps qs h.2 in
-    ((h.0, h.1, others.0), others.1)
+IsShallow-parts d (p ∷ ps) qs h = let others = IsShallow-parts (depth_after d p) ps qs h.2 in ((h.0, h.1, others.0), others.1)
 
 pub brackets_shallow : (d : ℕ) (ps : List Piece) → IsShallow d ps → IsShallowPlain d ps
 brackets_shallow d [] h = tt

@@ -6,7 +6,7 @@ use Rattle.std.proofs.Math.Seq.{drop-append_seam}
 use Rattle.std.proofs.lemmas.Bool.{and_parts, both_ways, and_from, eq-eqb, false_from_ne_true, eqb-true}
 use Rattle.py_lines.specs.Character.{is_return}
 use Rattle.py_lines.specs.Piece.{Class, line_end, Piece, begins, begins_marked, ends, spelled}
-use Rattle.py_lines.specs.Fields.{InClass, AreReadBefore, IsShallow, fielded}
+use Rattle.py_lines.specs.Fields.{AreReadBefore, IsShallow, fielded}
 use Rattle.py_lines.specs.Reading as reading
 use Rattle.py_lines.specs.LogicalLine.{LogicalLine, cut, byte_len, line_ends, line_of, end_len_of, is_line_end_class}
 use Rattle.py_lines.specs.Balance.{IsBalanced, depth_through, depth_after}
@@ -43,11 +43,9 @@ use Rattle.py_lines.proofs.FieldScans.Taking.{stands_open}
 -- What the end of a text comes to, where the machine has gone over all of its characters, and these bytes follow, which begin none: the
 -- text ends with the line end CR, or its last line has none, or this is wrong.
 abbrev pub ComesToEnd : FieldScanned → List ℕ → Result ℕ LineFault → Scan → Type 0
-ComesToEnd t rest (Ok len) new =
-    (new.stop ≡ here t)
+ComesToEnd t rest (Ok len) new = (new.stop ≡ here t)
     × (((len ≡ 1) × (has_returned t ≡ true)) ⊎ ((len ≡ 0) × (rest ≡ []) × (has_returned t ≡ false) × (unfinished_at t ≡ None)))
-ComesToEnd t rest (Err line_fault) new =
-    (has_returned t ≡ false)
+ComesToEnd t rest (Err line_fault) new = (has_returned t ≡ false)
     × (((0 < length rest) × (line_fault.kind ≡ BadUtf8) × (line_fault.place ≡ here t)) ⊎ ((rest ≡ []) × IsFieldEnd t (Some line_fault)))
 
 -- the character with which bytes begin is the byte, where that is ASCII
@@ -86,11 +84,9 @@ module _ (scan : Scan) (u t : FieldScanned) (left : List ℕ) (follows : Follows
   stands_there is = subst (λ rest. StandsAs rest t all.to) is stands
 
   by_end : (result : Result ℕ LineFault) (new : Scan) → EndsAs u left all scan result new → ComesToEnd t all.rest result new
-  by_end (Ok len) new (inl e) =
-      let last = return_alone u all.to e.to all.run all.rest left all.none e.first all.spell all.goes e.goes e.returned in
+  by_end (Ok len) new (inl e) = let last = return_alone u all.to e.to all.run all.rest left all.none e.first all.spell all.goes e.goes e.returned in
       (ap (λ (s : Scan). s.stop) e.stop ∙ omega (arith, size, last.size), inl (e.size, ap has_returned (stands_there (alone last.returned)) ∙ last.returned))
-  by_end (Ok len) new (inr e) =
-      let is = stands_there e.whole in
+  by_end (Ok len) new (inr e) = let is = stands_there e.whole in
       let bytes : length left ≡ byte_len all.run = ap length (sym all.spell) ∙ ap (λ x. length (encode_utf8_all all.run ++ x)) e.whole ∙ ap length (append-nil (encode_utf8_all all.run)) in
       (ap (λ (s : Scan). s.stop) e.stop ∙ omega (arith, size, bytes), inr (e.size, e.whole, ap has_returned is ∙ e.open_yet, ap unfinished_at is ∙ e.none))
   by_end (Err line_fault) new (kept, open_yet, inl bad) = (stands_open all.rest t all.to open_yet stands, inl (bad.0, bad.1, bad.2 ∙ sym size))
@@ -107,20 +103,17 @@ module _ {m : Mode} {whole : List ℕ} {scan : Scan} {read rest : List ℕ} (lef
   left_text = ap (λ (n : ℕ). drop n whole) left_stop ∙ ap (drop (byte_len left.reached.read)) (sym left.reached.spell) ∙ drop-append_seam (encode_utf8_all left.reached.read) left.left
 
   pub left_ends : encode_utf8_all read ++ rest ≡ whole → (result : Result ℕ LineFault) (new : Scan) → EndsTextSo scan left.left result new → ComesToEnd left.way.field rest result new
-  left_ends spell result new ends =
-      let size : here left.way.field ≡ scan.stop + byte_len left.all.run = omega (
-        arith,
-        way_here left.way start,
-        left_stop,
-        ap length left.rest_is,
-        ap length (left.reached.spell ∙ sym spell),
-        ap length left.all.spell,
-        length-append (encode_utf8_all read) rest,
-        length-append (encode_utf8_all left.reached.read) left.left,
-        length-append (encode_utf8_all left.all.run) left.all.rest,
-      ) in
-      let own = left.reached.rests in
-      subst (λ r. ComesToEnd left.way.field r result new) left.rest_is
+  left_ends spell result new ends = let size : here left.way.field ≡ scan.stop + byte_len left.all.run = omega (
+    arith,
+    way_here left.way start,
+    left_stop,
+    ap length left.rest_is,
+    ap length (left.reached.spell ∙ sym spell),
+    ap length left.all.spell,
+    length-append (encode_utf8_all read) rest,
+    length-append (encode_utf8_all left.reached.read) left.left,
+    length-append (encode_utf8_all left.all.run) left.all.rest,
+  ) in let own = left.reached.rests in subst (λ r. ComesToEnd left.way.field r result new) left.rest_is
       (by_end scan own.as_if left.way.field left.left own.follows left.all (subst (λ r. StandsAs r left.way.field left.all.to) (sym left.rest_is) left.stands)
       (λ returned. left.rest_is ∙ left.alone returned) size result new (ends own.as_if own.follows left.all))
 
@@ -206,40 +199,34 @@ module _ {text : List ℕ} {place line : ℕ} {lines : List LogicalLine} {read r
 
 -- the bytes of the line end after pieces
 pub end_len-push : (ps : List Piece) (p : Piece) → p.class ≡ line_end → end_len_of (ps ++ p ∷ []) ≡ byte_len p.text
-end_len-push [] p ends = ap (λ (k : Class). end_len_of (record { class = k; text = p.text } ∷ [])) ends
-end_len-push (q ∷ []) p ends = ap (λ (k : Class). end_len_of (record { class = k; text = p.text } ∷ [])) ends
 end_len-push (q ∷ r ∷ rs) p ends = end_len-push (r ∷ rs) p ends
-
-full_line : (body : List Piece) (last : Piece) (read : List ℕ) → last.class ≡ line_end → spelled (body ++ last ∷ []) ≡ read → InClass last.class last.text → 0 < byte_len read
-full_line body last read class spell holds =
-    omega (arith, ap byte_len (sym spell ∙ spelled-append body (last ∷ [])), byte_len-append (spelled body) (last.text ++ []), ap byte_len (append-nil last.text), piece_some last.class last.text holds, length-le-encodes last.text)
+end_len-push ps p ends = ap (λ (k : Class). end_len_of (record { class = k; text = p.text } ∷ [])) ends
 
 -- a line with its line end
 pub line_at_end : (m : Mode) (scan : Scan) (read rest : List ℕ) (len : ℕ) (at : IsAtLineEnd m scan read rest len) (after : List ℕ)
     → encode_utf8_all after ≡ rest → IsScannedLine m scan read len (at.body ++ at.last ∷ [])
-line_at_end m scan read rest len at after is =
-    record {
-      line = record {
-        spell = at.spell;
-        whole = one_line 0 at.body at.last at.are.one_line at.are.class at.are.level;
-        balanced = at.balanced;
-        shallow = at.shallow;
-        unmarked = at.unmarked;
-        some = full_line at.body at.last read at.are.class at.spell (AreReadBefore-second at.body (at.last ∷ []) after (at.fit after is)).0;
-      };
-      stop = at.stop;
-      ends = at.are.size ∙ sym (end_len-push at.body at.last at.are.class);
-      after = after;
-      fit = at.fit after is;
-    }
+line_at_end m scan read rest len at after is = record {
+  line = record {
+    spell = at.spell;
+    whole = one_line 0 at.body at.last at.are.one_line at.are.class at.are.level;
+    balanced = at.balanced;
+    shallow = at.shallow;
+    unmarked = at.unmarked;
+    some = let holds = (AreReadBefore-second at.body (at.last ∷ []) after (at.fit after is)).0 in
+        omega (arith, ap byte_len (sym at.spell ∙ spelled-append at.body (at.last ∷ [])), byte_len-append (spelled at.body) (at.last.text ++ []), ap byte_len (append-nil at.last.text), piece_some at.last.class at.last.text holds, length-le-encodes at.last.text);
+  };
+  stop = at.stop;
+  ends = at.are.size ∙ sym (end_len-push at.body at.last at.are.class);
+  after = after;
+  fit = at.fit after is;
+}
 
 -- which may stand before anything but LF after its CR
 pub fits_on : {m : Mode} {scan : Scan} {read : List ℕ} {len : ℕ} (at : IsAtLineEnd m scan read [] len) (more : List ℕ) → IsApart read more
     → AreReadBefore (at.body ++ at.last ∷ []) more
 fits_on at more apart =
     let fit = at.fit [] refl in let holds = (AreReadBefore-second at.body (at.last ∷ []) [] fit).0 in
-    read_on fielded at.body at.last [] more at.are.class fit (false_from_ne_true _ (λ both.
-    let parts = and_parts _ _ both in
+    read_on fielded at.body at.last [] more at.are.class fit (false_from_ne_true _ (λ both. let parts = and_parts _ _ both in
     both_ways _ (apart (ap (ends is_return) (sym at.spell) ∙ ends-line is_return at.body at.last at.are.class holds ∙ parts.0)) parts.1))
 
 -- a line whose last brackets are closed ends with no line end, if it has none
@@ -258,8 +245,7 @@ pub line_at_text_end : (m : Mode) (scan : Scan) (read : List ℕ) (way : IsUnder
     → has_returned way.field ≡ false → 0 < byte_len read → scan.stop ≡ byte_len read → IsScannedLine m scan read 0 (field_pieces way.field)
 line_at_text_end m scan read way start final open_yet some stop =
     let u = field_pieces way.field in let ended = ends_as_read way.field read (way_sound way start) final in
-    let none : EndsNoLine 0 u = subst (EndsNoLine 0) (outer_alone way.field final.outside).3 (open_line way start open_yet) in
-    record {
+    let none : EndsNoLine 0 u = subst (EndsNoLine 0) (outer_alone way.field final.outside).3 (open_line way start open_yet) in record {
       line = record {
         spell = ended.spell;
         whole = one_or u none (λ e. omega (arith, some, ap byte_len (sym ended.spell ∙ ap spelled e)));

@@ -7,10 +7,10 @@ use Rattle.py_lines.specs.Piece.{line_end, Piece, spelled}
 use Rattle.py_lines.specs.Balance.{IsBalanced, depth_through, is_opening, is_closing}
 use Rattle.py_lines.specs.Fields.{AreReadBefore, IsShallow}
 use Rattle.py_lines.specs.Faults.{IsLive, Cause, breaks_string, closes_wrong, opens_too_deep, begins_nothing, kind_of_cause, Unfinished, open_brace, open_short, open_long, open_join, open_bracket, open_inside, kind_of_unfinished, IsCharacterFault, IsEndFault, at_end}
-use Rattle.py_lines.specs.LogicalLine.{byte_len}
+use Rattle.py_lines.specs.LogicalLine.{byte_len, is_line_end_class}
 use Rattle.py_lines.specs.Private.Machine.{Mode, move_of, start_of, in_short, in_long, is_after_backslash, is_final, Bracket, brackets_of}
 use Rattle.py_lines.specs.Private.Mode as modes
-use Rattle.py_lines.specs.Private.FieldMachine.{FieldMode, FieldScanned, IsFieldFinal, Level, before, between, body, breaks, closes, field_class_of, field_closed, field_move, field_moved, field_pieces, field_started, field_state, field_text_start, frames, has_room_at, levels_open, plain, room_step, roomy, opened, empty, field_step, has_room, text_place, after_open_backslash, may_end}
+use Rattle.py_lines.specs.Private.FieldMachine.{FieldMode, FieldScanned, IsFieldFinal, Level, before, between, body, breaks, closes, field_class_of, field_closed, field_move, field_moved, field_pieces, field_started, field_state, field_text_start, frames, has_room_at, levels_open, plain, room_step, roomy, empty, field_step, has_room, text_place, after_open_backslash, may_end}
 use Rattle.py_lines.specs.Private.LineScan.{EndsNoLine, IsUnderWay, begins_line, line_begun}
 use Rattle.py_lines.specs.Private.LineState.{first_mode}
 use Rattle.py_lines.specs.Private.Scan.{Goes, has_returned, is_return_at, IsFieldEnd, IsFieldFault, IsUnfinishedAt}
@@ -19,7 +19,7 @@ use Rattle.py_lines.proofs.FieldMachine.EarlierPieces.{goes_after, outer_pieces_
 use Rattle.py_lines.proofs.FieldMachine.OuterLists.{outer_alone, outer_done, outer_held, outer_mode, outer_open, outer_pieces}
 use Rattle.py_lines.proofs.FieldMachine.Runs.{StopsAt, stops-fresh}
 use Rattle.py_lines.proofs.FieldMachine.WholeRuns.{RunsTo, goes_runs, reach, runs_both, runs_one, stops_there}
-use Rattle.py_lines.proofs.FieldSoundness.Holds.{IsFieldSound, Limit, HoldsLevel, HoldsLevels}
+use Rattle.py_lines.proofs.FieldSoundness.Holds.{IsFieldSound, Limit, HoldsLevels}
 use Rattle.py_lines.proofs.FieldSoundness.OpenLists.{balanced_at, opens-depth}
 use Rattle.py_lines.proofs.FieldSoundness.WholeTexts.{code_at_end, list_ends, two_hundred}
 use Rattle.py_lines.proofs.LineScan.LineSteps.{way_one_line, way_sound, way_here, closed_one_line}
@@ -57,7 +57,7 @@ ended_mode (plain modes.Free) done held front last is class = tt
 ended_mode (plain modes.Return) done held front last is class = tt
 ended_mode m done held front last is class =
     let parts = same_from_push done front (piece (field_class_of m) held) last is in
-    let same : field_class_of m ≡ line_end = ap (λ (p : Piece). p.class) parts.1 ∙ class in absurd (cc)
+    absurd (both_ways _ refl (ap is_line_end_class (ap (λ (p : Piece). p.class) parts.1 ∙ class)))
 
 -- how the machine stands in the text, after pieces that end a line: as in the line, if something of it was read
 abbrev pub StandsAfter : List Piece → List ℕ → FieldScanned → FieldScanned → Type 0
@@ -65,8 +65,7 @@ StandsAfter base [] t state = IsBetweenLines state.mode
 StandsAfter base (c ∷ cs) t state = state_after base t ≡ state
 
 -- so where something was
-pub stands_on : (base : List Piece) (read : List ℕ) (t state : FieldScanned) → 0 < byte_len read → StandsAfter base read t state
-    → state_after base t ≡ state
+pub stands_on : (base : List Piece) (read : List ℕ) (t state : FieldScanned) → 0 < byte_len read → StandsAfter base read t state → state_after base t ≡ state
 stands_on base [] t state some stands = absurd (omega (arith, some))
 stands_on base (c ∷ cs) t state some stands = stands
 
@@ -88,8 +87,7 @@ from_base : (base : List Piece) (t : FieldScanned) (c : ℕ) → t.outer ≡ [] 
     → field_move t.mode t.held c ≡ breaks → room_step t c ≡ state_after_if base (room_step (line_begun modes.Free) c)
 from_base base t c outside level is move =
     ap (λ o. room_step (field_state o t.done t.openers t.mode t.held) c) outside ∙ ap (λ o. room_step (field_state [] t.done o t.mode t.held) c) level
-    ∙ begins_there t.done t.mode t.held c move
-    ∙ ap (λ l. roomy (has_room_at 0 c breaks) (field_started [] l [] c (start_of c))) (is ∙ sym (append-nil base))
+    ∙ begins_there t.done t.mode t.held c move ∙ ap (λ l. roomy (has_room_at 0 c breaks) (field_started [] l [] c (start_of c))) (is ∙ sym (append-nil base))
     ∙ sym (begins_there (base ++ []) (plain modes.Free) [] c (stops-fresh (c ∷ []))) ∙ room_step_after base (line_begun modes.Free) c
 
 module _ (n : ℕ) (base : List Piece) (after : List ℕ) (balanced : IsBalanced base) (shallow : IsShallow 0 base) where
@@ -105,12 +103,10 @@ module _ (n : ℕ) (base : List Piece) (after : List ℕ) (balanced : IsBalanced
   }
     where
       run : Base n base → RunsTo (spelled base ++ c ∷ cs) (state_after base t)
-      run (Base.bare none mode) =
-          let own = goes_runs field_text_start (c ∷ cs) (state_after [] t)
+      run (Base.bare none mode) = let own = goes_runs field_text_start (c ∷ cs) (state_after [] t)
           (goes_after [] (line_begun modes.Start) (c ∷ cs) t (subst (λ m. Goes (line_begun m) (c ∷ cs) t) mode goes)) in
           subst (λ l. RunsTo (spelled l ++ c ∷ cs) (state_after l t)) (sym none) own
-      run (Base.lined front last ends class any mode) =
-          let reached = reach base ((c ∷ cs) ++ after) fit balanced shallow (any ((c ∷ cs) ++ after)) in
+      run (Base.lined front last ends class any mode) = let reached = reach base ((c ∷ cs) ++ after) fit balanced shallow (any ((c ∷ cs) ++ after)) in
           let (open_yet, next, step, going, others) = subst (λ m. Goes (line_begun m) (c ∷ cs) t) mode goes in
           let first : room_step reached.to c ≡ Some (state_after base next)
           = from_base base reached.to c reached.outside reached.openers_are reached.pieces_are reached.stops ∙ ap (state_after_if base) step in
@@ -120,8 +116,7 @@ module _ (n : ℕ) (base : List Piece) (after : List ℕ) (balanced : IsBalanced
 
   -- nothing was read yet
   joined_none : (t : FieldScanned) → AreReadBefore base after → Base n base → line_begun (first_mode n) ≡ t → Joined base [] t after
-  joined_none t fit (Base.bare none mode) is =
-      let here : field_text_start ≡ t = ap line_begun (sym mode) ∙ is in
+  joined_none t fit (Base.bare none mode) is = let here : field_text_start ≡ t = ap line_begun (sym mode) ∙ is in
       subst (λ l. Joined l [] t after) (sym none) (subst (λ u. Joined [] [] u after) here (record {
         state = field_text_start;
         runs = (refl, refl);
@@ -135,8 +130,7 @@ module _ (n : ℕ) (base : List Piece) (after : List ℕ) (balanced : IsBalanced
         state = reached.to;
         runs = subst (λ x. RunsTo x reached.to) (sym (append-nil (spelled base))) reached.runs;
         pieces = (outer_alone reached.to reached.outside).3 ∙ reached.pieces_are ∙ sym (append-nil base);
-        next = λ d more follows.
-            from_base base reached.to d reached.outside reached.openers_are reached.pieces_are
+        next = λ d more follows. from_base base reached.to d reached.outside reached.openers_are reached.pieces_are
             (subst (StopsAt reached.to.mode reached.to.held) follows reached.stops);
         stands = ended_mode reached.to.mode reached.to.done reached.to.held front last (reached.pieces_are ∙ ends) class;
       })
@@ -166,8 +160,7 @@ pub record EndsAsRead (t : FieldScanned) (read : List ℕ) : Type 0 where
 
 pub ends_as_read : (t : FieldScanned) (read : List ℕ) → IsFieldSound two_hundred t read → IsFieldFinal t → EndsAsRead t read
 ends_as_read t read sound final =
-    let own = rw (final.outside, final.closed_all) at sound in let list = list_ends two_hundred [] t.done [] t.mode t.held read own final.ends in
-    record {
+    let own = rw (final.outside, final.closed_all) at sound in let list = list_ends two_hundred [] t.done [] t.mode t.held read own final.ends in record {
       spell = list.spell ∙ sym (ap (λ p. before p [] ++ (spelled t.done ++ t.held)) (code_at_end t.mode final.ends)) ∙ own.spell;
       fit = list.fit;
       balanced = balanced_at [] (field_pieces t) refl list.opens;
@@ -193,23 +186,19 @@ no_return t read sound open_yet [] none =
     let alone = outer_alone t none in
     ap (λ m. is_return_at m && (depth_through 0 (outer_done t) == 0)) alone.2 ∙ ap (λ ps. is_return_at t.mode && (depth_through 0 ps == 0)) alone.0
     ∙ ap (λ n. is_return_at t.mode && (n == 0)) (opens-depth t.openers t.done 0 sound.list.opens ∙ omega (arith, ap levels_open none)) ∙ open_yet
-no_return t read sound open_yet (l ∷ ls) is =
-    ap (λ o. is_return_at (outer_open o t.mode) && (depth_through 0 (outer_done t) == 0)) is
+no_return t read sound open_yet (l ∷ ls) is = ap (λ o. is_return_at (outer_open o t.mode) && (depth_through 0 (outer_done t) == 0)) is
     ∙ ap (λ b. b && (depth_through 0 (outer_done t) == 0)) (in_string l ls t.mode)
 
 pub open_line : {m : Mode} {read : List ℕ} (way : IsUnderWay m read) → begins_line m ≡ true → has_returned way.field ≡ false
     → EndsNoLine 0 (outer_pieces way.field)
-open_line {read = read} way start open_yet =
-    let t = way.field in
-    closed_one_line (outer_mode t) (outer_done t) (outer_held t) (way_one_line way start)
+open_line {read = read} way start open_yet = let t = way.field in closed_one_line (outer_mode t) (outer_done t) (outer_held t) (way_one_line way start)
     (no_return t read (way_sound way start) open_yet t.outer refl)
 
 -- Pieces before the others of the outermost list leave the rest as it is.
 module _ (base : List Piece) where
   code_same : (outer : List Level) (os : List ℕ) → unfinished_code (levels_after base outer) os ≡ unfinished_code outer os
   code_same [] os = refl
-  code_same (l ∷ ls) [] = refl
-  code_same (l ∷ ls) (o ∷ os) = refl
+  code_same outer os = refl
 
   open_same : (outer : List Level) (os : List ℕ) (m : FieldMode) → unfinished_in (levels_after base outer) os m ≡ unfinished_in outer os m
   open_same outer os (plain m) = ap (λ x. if in_short m then Some open_short else (if in_long m then Some open_long else (if is_after_backslash m then Some open_join else x))) (code_same outer os)
@@ -223,13 +212,11 @@ module _ (base : List Piece) where
   field_after (l ∷ ls) some = ap byte_len (text_after base l.place ls l.done l.front) ∙ byte_len-append (spelled base) _
 
 -- a field that is open has a `{`
-level_full : (limit : Limit) (l : Level) (ls : List Level) → HoldsLevel limit l ls → 0 < byte_len (before literal (l ∷ ls))
-level_full limit l ls holds = omega (arith, byte_len-append (before l.place ls) (spelled l.done ++ l.front), byte_len-append (spelled l.done) l.front, length-le-encodes l.front, ap length holds.spell, length-append holds.text (123 ∷ []))
-
 field_full : (limit : Limit) (p : Place) (outer : List Level) (text : List ℕ) → HoldsLevels limit p outer text → (outer ≡ [] → ⊥) → 0 < byte_len (before literal outer)
 field_full limit p [] text holds some = absurd (some refl)
-field_full limit literal (l ∷ ls) text holds some = level_full limit l ls holds.1
-field_full limit specification (l ∷ ls) text holds some = level_full limit l ls holds.1
+field_full limit p (l ∷ ls) text holds some =
+    let own = holds.1 in
+    omega (arith, byte_len-append (before l.place ls) (spelled l.done ++ l.front), byte_len-append (spelled l.done) l.front, length-le-encodes l.front, ap length own.spell, length-append own.text (123 ∷ []))
 
 -- a specification is that of a field
 quoted_inside : (limit : Limit) (m : FieldMode) (outer : List Level) (text : List ℕ) (c : ℕ) → HoldsLevels limit (text_place m) outer text → quotes_specification m c ≡ true → outer ≡ [] → ⊥
@@ -255,8 +242,7 @@ module _ (base : List Piece) (read : List ℕ) (u : FieldScanned) (sound : IsFie
   alike_after c = record { cause = ap (λ n. cause_in n u.mode c) (frames_same base u); place = place }
     where
       place : cause_place (state_after base u) (cause_in (frames u) u.mode c) ≡ k + cause_place u (cause_in (frames u) u.mode c)
-      place =
-          let P : Cause → Type 0 = λ cause. cause_place (state_after base u) cause ≡ k + cause_place u cause in
+      place = let P : Cause → Type 0 = λ cause. cause_place (state_after base u) cause ≡ k + cause_place u cause in
           cond_both (is_waiting u.mode && (frames u == 200)) _ _ P (λ h. omega (arith, here_after base u, some))
           (λ h. cond_both (is_break c) _ _ P (λ i. start_after base u) (λ i. cond_both (after_open_backslash u.mode) _ _ P (λ l. start_after base u)
           (λ l. cond_both (is_closing c) _ _ P (λ n. here_after base u) (λ n. cond_both (is_opening c) _ _ P (λ o. here_after base u)
@@ -264,16 +250,12 @@ module _ (base : List Piece) (read : List ℕ) (u : FieldScanned) (sound : IsFie
 
   -- what is open at the end stands so many bytes further
   there_after : brackets_of base ≡ Some [] → (what : Unfinished) (place : ℕ) → IsUnfinishedAt u what place → (n : ℕ) → StandsThere (state_after base u) what n → n ≡ k + place
-  there_after level open_short place at n stands = stands ∙ start_after base u ∙ ap (λ m. k + m) (sym at)
-  there_after level open_long place at n stands = stands ∙ start_after base u ∙ ap (λ m. k + m) (sym at)
-  there_after level open_join place at n stands = stands ∙ start_after base u ∙ ap (λ m. k + m) (sym at)
   there_after level open_brace place at n stands = omega (arith, stands, here_after base u, some, at)
   there_after level open_inside place at n stands = by (is_waiting u.mode) stands at
     where
       by : (waits : Bool) → n + 1 ≡ (if waits then here (state_after base u) else byte_len (before literal (levels_after base u.outer))) → place ≡ (if waits then here u - 1 else field_start u) → n ≡ k + place
       by true first second = omega (arith, first, second, here_after base u, some)
-      by false first second =
-          let within : u.outer ≡ [] → ⊥ = λ none. omega (arith, first, ap (λ l. byte_len (before literal (levels_after base l))) none) in
+      by false first second = let within : u.outer ≡ [] → ⊥ = λ none. omega (arith, first, ap (λ l. byte_len (before literal (levels_after base l))) none) in
           omega (arith, first, second, field_after base u.outer within, field_full two_hundred (text_place u.mode) u.outer _ sound.levels within)
   there_after level open_bracket place (b, others, stack, at) n stands = by u.outer stack at stands
     where
@@ -281,6 +263,7 @@ module _ (base : List Piece) (read : List ℕ) (u : FieldScanned) (sound : IsFie
           → ((a : Bracket) (bs : List Bracket) → brackets_of (list_after base outer u.done) ≡ Some (a ∷ bs) → n ≡ byte_len (before literal (levels_after base outer)) + a.place) → n ≡ k + place
       by [] stack at stands = omega (arith, stands (record { opener = b.opener; place = k + b.place }) (shift k others) (stack-after base u.done level ∙ ap (shift_if k) stack), at)
       by (l ∷ ls) stack at stands = omega (arith, stands b others stack, at, field_after base (l ∷ ls) (λ none. cc))
+  there_after level what place at n stands = stands ∙ start_after base u ∙ ap (λ m. k + m) (sym at)
 
 -- between lines a character is refused for these causes
 abbrev between_cause : ℕ → Cause
@@ -303,9 +286,7 @@ not_short : (m : FieldMode) → IsBetweenLines m → IsShortHere m → ⊥
 not_short (plain modes.Start) is (inl short) = both_ways _ refl short
 not_short (plain modes.Free) is (inl short) = both_ways _ refl short
 not_short (plain modes.Return) is (inl short) = both_ways _ refl short
-not_short (plain modes.Start) is (inr (host, at, short)) = at
-not_short (plain modes.Free) is (inr (host, at, short)) = at
-not_short (plain modes.Return) is (inr (host, at, short)) = at
+not_short (plain m) is (inr (host, at, short)) = at
 not_short m is short = is
 
 not_waiting : (m : FieldMode) → IsBetweenLines m → is_waiting m ≡ false
@@ -346,16 +327,13 @@ module _ (n : ℕ) (base : List Piece) (balanced : IsBalanced base) (shallow : I
     stuck = stuck_by j.state c (refused_at c after j refl refuses)
 
     begun_alike : read ≡ [] → IsBetweenLines j.state.mode → StandsAlike (byte_len (spelled base)) j.state way.field c
-    begun_alike none lies =
-        let t = j.state in let u = way.field in let k = byte_len (spelled base) in
+    begun_alike none lies = let t = j.state in let u = way.field in let k = byte_len (spelled base) in
         let begun : line_begun (first_mode n) ≡ u = subst (λ cs. Goes (line_begun (first_mode n)) cs u) none way.goes in
         let cause : cause_in (frames u) u.mode c ≡ between_cause c
         = ap (λ (x : FieldScanned). cause_in (frames u) x.mode c) (sym begun) ∙ between_is (plain (first_mode n)) (frames u) c (first_between n) in
-        let apart : is_break c ≡ true → ⊥ = λ at_break.
-        not_short t.mode lies (short_here t (spelled base ++ read) c after j.runs.0 j.runs.1 stuck
+        let apart : is_break c ≡ true → ⊥ = λ at_break. not_short t.mode lies (short_here t (spelled base ++ read) c after j.runs.0 j.runs.1 stuck
         (ap (λ b. b && (frames t == 200)) (not_waiting t.mode lies)) at_break) in
-        let size : here t ≡ k + here u
-        = omega (arith, text_is (spelled base ++ read) t j.runs.0 j.runs.1, byte_len-append (spelled base) read, way_here way (begun_sound n)) in
+        let size : here t ≡ k + here u = omega (arith, text_is (spelled base ++ read) t j.runs.0 j.runs.1, byte_len-append (spelled base) read, way_here way (begun_sound n)) in
         record {
           cause = between_is t.mode (frames t) c lies ∙ sym cause;
           place = ap (cause_place t) cause ∙ between_place t c apart ∙ size ∙ ap (λ m. k + m) (sym (ap (cause_place u) cause ∙ between_place u c apart));
@@ -363,14 +341,11 @@ module _ (n : ℕ) (base : List Piece) (balanced : IsBalanced base) (shallow : I
 
     alike : (cs : List ℕ) → read ≡ cs → StandsAfter base cs way.field j.state → StandsAlike (byte_len (spelled base)) j.state way.field c
     alike [] none stands = begun_alike none stands
-    alike (d ∷ ds) some stands =
-        let full : 0 < here way.field = omega (arith, way_here way (begun_sound n), ap byte_len some, length-le-encodes (d ∷ ds)) in
-        subst (λ t. StandsAlike (byte_len (spelled base)) t way.field c) stands
-        (alike_after base read way.field (way_sound way (begun_sound n)) full c)
+    alike (d ∷ ds) some stands = let full : 0 < here way.field = omega (arith, way_here way (begun_sound n), ap byte_len some, length-le-encodes (d ∷ ds)) in
+        subst (λ t. StandsAlike (byte_len (spelled base)) t way.field c) stands (alike_after base read way.field (way_sound way (begun_sound n)) full c)
 
     pub refused_fault : IsCharacterFault line_fault.kind ((spelled base ++ read) ++ c ∷ after) (byte_len (spelled base) + line_fault.place)
-    refused_fault =
-        let text = (spelled base ++ read) ++ c ∷ after in let cause = cause_in (frames way.field) way.field.mode c in
+    refused_fault = let text = (spelled base ++ read) ++ c ∷ after in let cause = cause_in (frames way.field) way.field.mode c in
         let same = alike read refl j.stands in
         subst (λ (kind : FaultKind). IsCharacterFault kind text (byte_len (spelled base) + line_fault.place)) (sym is_line_fault.0)
         (subst (IsCharacterFault (kind_of_cause cause) text) (same.place ∙ ap (λ m. byte_len (spelled base) + m) (sym is_line_fault.1))
@@ -382,8 +357,7 @@ module _ (n : ℕ) (base : List Piece) (balanced : IsBalanced base) (shallow : I
       → (line_fault : LineFault) → IsFieldEnd way.field (Some line_fault)
       → IsEndFault line_fault.kind (spelled base ++ read) [] (byte_len (spelled base) + line_fault.place)
   unfinished_fault read way fit some line_fault (what, open_yet, kind, place) =
-      let u = way.field in let j = joined n base [] balanced shallow read u fit is way.goes in
-      let same = stands_on base read u j.state some j.stands in
+      let u = way.field in let j = joined n base [] balanced shallow read u fit is way.goes in let same = stands_on base read u j.state some j.stands in
       let found = unfinished_fits (spelled base ++ read) j.state j.runs.0 j.runs.1 what
       (ap unfinished_at (sym same) ∙ open_same base u.outer u.openers u.mode ∙ open_yet) in
       let at = there_after base read u (way_sound way (begun_sound n)) (omega (arith, way_here way (begun_sound n), some)) level what line_fault.place
@@ -404,9 +378,8 @@ none_open_at outer os (plain m) none = by (in_short m) (in_long m) (is_after_bac
     by false false false final none = let both = code_ends outer os none in (both.0, both.1, final)
     by short long slash final none = absurd (cc)
 none_open_at outer os (empty h) none = let both = code_ends outer os none in (both.0, both.1, refl)
-none_open_at outer os (opened h) none = absurd (cc)
 none_open_at outer os (body h literal named at) none = absurd (cc)
-none_open_at outer os (body h specification named at) none = absurd (cc)
+none_open_at outer os m none = absurd (cc)
 
 -- so may a text
 pub finished : (t : FieldScanned) → unfinished_at t ≡ None → IsFieldFinal t
@@ -445,26 +418,20 @@ record Before (n : ℕ) : Type 0 where
 lines_before : (n : ℕ) → Before n
 unfolding is_return
 lines_before zero = record { base = []; balanced = balance.none [] refl; shallow = tt; is = Base.bare refl refl; fit = λ rest. tt }
-lines_before (suc n) =
-    let end = piece line_end (10 ∷ []) in
-    record {
-      base = end ∷ [];
-      balanced = balance.one (end ∷ []) end refl refl;
-      shallow = ((λ h. cc), (λ h. cc), tt);
-      is = Base.lined [] end refl refl (λ rest. tt) refl;
-      fit = λ rest. (feed refl, refl, refl, tt);
-    }
+lines_before (suc n) = let end = piece line_end (10 ∷ []) in record {
+  base = end ∷ [];
+  balanced = balance.one (end ∷ []) end refl refl;
+  shallow = ((λ h. cc), (λ h. cc), tt);
+  is = Base.lined [] end refl refl (λ rest. tt) refl;
+  fit = λ rest. (feed refl, refl, refl, tt);
+}
 
 -- the fault of a character that is refused stands in the line, and so does that of the text's end
 pub refused_within : (n : ℕ) (read : List ℕ) (way : IsUnderWay (first_mode n) read) (c : ℕ) → room_step way.field c ≡ None
     → (line_fault : LineFault) → IsFieldFault way.field c line_fault → Within read line_fault.place
-refused_within n read way c refuses line_fault is_line_fault =
-    let b = lines_before n in
-    within_line (spelled b.base) read line_fault.place
+refused_within n read way c refuses line_fault is_line_fault = let b = lines_before n in within_line (spelled b.base) read line_fault.place
     (before_character (spelled b.base ++ read) c line_fault.kind (byte_len (spelled b.base) + line_fault.place) (refused_fault n b.base b.balanced b.shallow b.is read way c [] (b.fit (read ++ c ∷ [])) refuses line_fault is_line_fault))
 
 pub unfinished_within : (n : ℕ) (read : List ℕ) (way : IsUnderWay (first_mode n) read) → 0 < byte_len read → (line_fault : LineFault) → IsFieldEnd way.field (Some line_fault) → Within read line_fault.place
-unfinished_within n read way some line_fault is_line_fault =
-    let b = lines_before n in
-    within_line (spelled b.base) read line_fault.place
+unfinished_within n read way some line_fault is_line_fault = let b = lines_before n in within_line (spelled b.base) read line_fault.place
     (field_fault_prefix line_fault.kind (spelled b.base ++ read) [] (byte_len (spelled b.base) + line_fault.place) (at_end (unfinished_fault n b.base b.balanced b.shallow b.is read way (b.fit (read ++ [])) some line_fault is_line_fault)))

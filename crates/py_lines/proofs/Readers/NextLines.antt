@@ -59,9 +59,7 @@ module _ {bytes : List ℕ} (has : HasRead bytes) where
   -- what is wrong stands among the characters
   faulty : (s : LineState) {f : LineFault} (w : Within has.read f.place)
       → ((fault : Fault) → IsFaultAfter s f.kind f.place (encode_utf8_all w.prefix) fault → WhereLeft s.place s.line bytes (λ text lines. IsLexed text lines (Some fault))) → HasNextFault s bytes f
-  faulty s {f} w lexed =
-      let later = encode_utf8_all w.later ++ has.rest in
-      let parts : encode_utf8_all w.prefix ++ later ≡ bytes
+  faulty s {f} w lexed = let later = encode_utf8_all w.later ++ has.rest in let parts : encode_utf8_all w.prefix ++ later ≡ bytes
       = sym (append_assoc (encode_utf8_all w.prefix) (encode_utf8_all w.later) has.rest) ∙ ap (λ t. t ++ has.rest) (sym (encodes-append w.prefix w.later) ∙ ap encode_utf8_all w.split) ∙ has.spell in
       record {
         within = omega (arith, w.size, ap length parts, length-append (encode_utf8_all w.prefix) later);
@@ -81,9 +79,7 @@ module _ {bytes : List ℕ} (has : HasRead bytes) where
 
       -- what comes after them is decoded so
       pub left : encode_utf8_all known.more ++ known.tail ≡ has.rest
-      left =
-          let k = known in
-          let size : length text ≡ byte_len (spelled k.base) + (byte_len has.read + byte_len k.more) + length k.tail
+      left = let k = known in let size : length text ≡ byte_len (spelled k.base) + (byte_len has.read + byte_len k.more) + length k.tail
           = ap length (sym k.decodes.spell) ∙ length-append (encode_utf8_all (spelled k.base ++ (has.read ++ k.more))) k.tail
           ∙ ap (λ n. n + length k.tail) (byte_len-append (spelled k.base) (has.read ++ k.more) ∙ ap (λ n. byte_len (spelled k.base) + n) (byte_len-append has.read k.more)) in
           let beyond : k.beyond ≡ [] = nil_from_length k.beyond (omega (arith, size, whole, k.here, length-append (encode_utf8_all has.read) has.rest, ap length k.follow, length-append (encode_utf8_all k.more) k.tail, length-append has.rest k.beyond)) in
@@ -92,34 +88,29 @@ module _ {bytes : List ℕ} (has : HasRead bytes) where
   -- they are a line
   abbrev pub line_read : (place line : ℕ) {scan : Scan} {len : ℕ} {u : List Piece} (own : IsScannedLine (first_mode place) scan has.read len u)
       → ((more tail : List ℕ) → encode_utf8_all more ++ tail ≡ has.rest → AreReadBefore u more × IsEnded u (more ++ tail ≡ [])) → HasNextLine place line bytes scan.stop len
-  line_read place line {scan} {len} {u} own follows =
-      let stop = own.stop in let some : 0 < length bytes = omega (arith, own.line.some, bytes_size) in record {
-        is = record {
-          pieces = u;
-          text = subst (λ t. AreLineText t u) (sym (stopped_text scan.stop bytes has.read has.rest has.spell stop)) (line_text (first_mode place) scan has.read len u has.scalars own);
-          ends = own.ends;
-          some = omega (arith, stop, own.line.some);
-          within = omega (arith, stop, bytes_size);
-        };
-        next = λ text lines first is.
-            let k = known text lines first is some in let (fit, ended) = follows k.more k.tail (left text lines first is some) in
-            first_at (ap (λ (n : ℕ). place + n) stop) (ap (λ t. line + line_ends t) own.line.spell) (one_more k own.line fit ended);
-      }
+  line_read place line {scan} {len} {u} own follows = let stop = own.stop in let some : 0 < length bytes = omega (arith, own.line.some, bytes_size) in record {
+    is = record {
+      pieces = u;
+      text = subst (λ t. AreLineText t u) (sym (stopped_text scan.stop bytes has.read has.rest has.spell stop)) (line_text (first_mode place) scan has.read len u has.scalars own);
+      ends = own.ends;
+      some = omega (arith, stop, own.line.some);
+      within = omega (arith, stop, bytes_size);
+    };
+    next = λ text lines first is. let k = known text lines first is some in let (fit, ended) = follows k.more k.tail (left text lines first is some) in
+        first_at (ap (λ (n : ℕ). place + n) stop) (ap (λ t. line + line_ends t) own.line.spell) (one_more k own.line fit ended);
+  }
 
 module _ (s : LineState) {bytes : List ℕ} {scan : Scan} where
   -- a line that its line end closes
   pub line_scanned : {len : ℕ} → ScansIn (first_mode s.place) bytes scan (stops.LineEnd len) → HasNextLine s.place s.line bytes scan.stop len
-  line_scanned l =
-      let at = line_alone l in
-      line_read (read_in l) s.place s.line (ended_alone l) (λ more tail follow. (
-        fits_on at more (follows_whole l.read l.rest more tail [] l.stops.1 (follow ∙ sym (append-nil l.rest))),
-        IsEnded.by_line at.body at.last refl at.are.class at.are.level,
-      ))
+  line_scanned l = let at = line_alone l in line_read (read_in l) s.place s.line (ended_alone l) (λ more tail follow. (
+    fits_on at more (follows_whole l.read l.rest more tail [] l.stops.1 (follow ∙ sym (append-nil l.rest))),
+    IsEnded.by_line at.body at.last refl at.are.class at.are.level,
+  ))
 
   -- a character that is refused
   pub character_refused : {f : LineFault} → ScansIn (first_mode s.place) bytes scan (stops.Wrong f) → HasNextFault s bytes f
-  character_refused {f} l =
-      let r = l.stops in let w = refused_within s.place l.read r.way r.c r.none f r.fault in
+  character_refused {f} l = let r = l.stops in let w = refused_within s.place l.read r.way r.c r.none f r.fault in
       faulty (read_in l) s w (λ fault at text lines first is.
       (by_character text s lines bytes l.read l.rest first (goes (read_in l) text lines first is) l.scalars l.spell r.way r.c r.after r.scalar r.spell r.none r.open_yet f r.fault fault w at).lexed)
 
@@ -152,16 +143,14 @@ module _ (s : LineState) {bytes : List ℕ} {scan : Scan} (l : ScansIn (first_mo
 
       by : (result : Result ℕ LineFault) → ComesToEnd way.field l.rest result new → ScansLine s bytes result new.stop
       -- with the line end CR
-      by (Ok len) (stop, inl (one, is)) =
-          let none = left_none l.stops is in
+      by (Ok len) (stop, inl (one, is)) = let none = left_none l.stops is in
           let at = returned way start stop is (λ after same. ap (begins is_line_feed) (encodes_same after [] same)) in
           subst (λ n. ScansLine s bytes (Ok n) new.stop) (sym one) (line_read (read_in l) s.place s.line (line_at_end (first_mode s.place) new l.read [] 1 at [] refl) (λ more tail follow. (
             subst (AreReadBefore (at.body ++ at.last ∷ [])) (sym (both_none more tail (follow ∙ none)).0) (at.fit [] refl),
             IsEnded.by_line at.body at.last refl at.are.class at.are.level,
           )))
       -- with none
-      by (Ok len) (stop, inr (zero, none, open_yet, unfinished)) =
-          let final = finished way.field unfinished in
+      by (Ok len) (stop, inr (zero, none, open_yet, unfinished)) = let final = finished way.field unfinished in
           subst (λ n. ScansLine s bytes (Ok n) new.stop) (sym zero)
           (line_read (read_in l) s.place s.line (line_at_text_end (first_mode s.place) new l.read way start final open_yet (some_read none) (stop ∙ way_here way start)) (λ more tail follow.
           let (no_more, no_tail) = both_none more tail (follow ∙ none) in (
@@ -169,14 +158,12 @@ module _ (s : LineState) {bytes : List ℕ} {scan : Scan} (l : ScansIn (first_mo
             IsEnded.by_text (ap (λ t. t ++ tail) no_more ∙ no_tail),
           )))
       -- with bytes that begin no character
-      by (Err f) (open_yet, inl (more, kind, place)) =
-          let size = place ∙ way_here way start in
+      by (Err f) (open_yet, inl (more, kind, place)) = let size = place ∙ way_here way start in
           faulty (read_in l) s (all_within l.read f.place size) (λ fault at text lines first is.
           ended_bytes text s lines l.read l.rest (known (read_in l) text lines first is some) (whole (read_in l) text lines first is some) way open_yet more fault
           (subst (λ (k : FaultKind). IsFaultAfter s k (byte_len l.read) (encode_utf8_all l.read) fault) kind (subst (λ (n : ℕ). IsFaultAfter s f.kind n (encode_utf8_all l.read) fault) size at)) l.stops.none)
       -- or where it may not end
-      by (Err f) (open_yet, inr (none, unfinished)) =
-          let w = unfinished_within s.place l.read way (some_read none) f unfinished in
+      by (Err f) (open_yet, inr (none, unfinished)) = let w = unfinished_within s.place l.read way (some_read none) f unfinished in
           faulty (read_in l) s w (λ fault at text lines first is.
           ended_unfinished text s lines l.read l.rest (known (read_in l) text lines first is some) (whole (read_in l) text lines first is some) way open_yet none (some_read none) f unfinished fault w at)
 
@@ -208,8 +195,7 @@ passes_next r {bytes} {stop} h from no_fault =
 
 -- a text's first lines reach to a place in it, and the lines before it are no more than its bytes
 pub lines_within : {text : List ℕ} {place line : ℕ} {lines : List LogicalLine} → AreFirstLines text place line lines → (place ≤ length text) × (line ≤ place + 1)
-lines_within first =
-    let front = spelled first.pieces in (
-      omega (arith, first.here, ap length first.decodes.spell, length-append (encode_utf8_all first.characters) first.tail, ap byte_len first.spell, byte_len-append front first.rest),
-      omega (arith, first.here, first.number, line_ends-bytes front),
-    )
+lines_within first = let front = spelled first.pieces in (
+  omega (arith, first.here, ap length first.decodes.spell, length-append (encode_utf8_all first.characters) first.tail, ap byte_len first.spell, byte_len-append front first.rest),
+  omega (arith, first.here, first.number, line_ends-bytes front),
+)

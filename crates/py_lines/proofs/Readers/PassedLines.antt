@@ -112,13 +112,11 @@ passes_line r no_fault read after beyond split line =
     let next = line_read has r.place r.line {scan = line.scan} (record { line = whole_read (first_mode r.place) line; stop = stop; ends = own.ends; after = own.after; fit = own.fit }) (λ more tail follow. (
       fits_on at more (follows_whole read after more tail beyond line.whole follow),
       IsEnded.by_line at.body at.last refl at.are.class at.are.level,
-    )) in
-    subst (PassesLine r (line_of r.place r.line (pieces_of line))) (λ i. further r (stop i) (line_ends (ends i))) (passes_next r next refl no_fault)
+    )) in subst (PassesLine r (line_of r.place r.line (pieces_of line))) (λ i. further r (stop i) (line_ends (ends i))) (passes_next r next refl no_fault)
 
 -- CR at the end of a line that was passed has no LF after it
 pub apart : (line later after : List ℕ) → EndsWhole line (encode_utf8_all later ++ after) → ends is_return line && begins is_line_feed later ≡ false
-apart line later after whole = false_from_ne_true _ (λ both.
-    let parts = and_parts _ _ both in
+apart line later after whole = false_from_ne_true _ (λ both. let parts = and_parts _ _ both in
     both_ways _ (follows_whole line (encode_utf8_all later ++ after) later after [] whole (sym (append-nil (encode_utf8_all later ++ after))) parts.0) parts.1)
 
 -- lines that they begin with
@@ -145,8 +143,7 @@ passes_all (t ∷ texts) r read after beyond no_fault split are =
 
 -- the lines that the code has found, with so many line ends
 pub passes_found : (r : Reader) (before len ends : ℕ) → r.fault ≡ None → r.place < before → before ≤ length r.text → BeginWithLines (take (before - r.place) (drop r.place r.text)) len
-    → ends ≡ line_ends (take len (take (before - r.place) (drop r.place r.text)))
-    → PassesUpTo r before len (further r len ends)
+    → ends ≡ line_ends (take len (take (before - r.place) (drop r.place r.text))) → PassesUpTo r before len (further r len ends)
 passes_found r before len ends no_fault ordered within found count =
     let rest = drop r.place r.text in let slice = take (before - r.place) rest in let read = found.read in let after = drop len slice in let beyond = drop (before - r.place) rest in
     let long : length slice ≡ before - r.place = length-take-le (before - r.place) rest (omega (arith, length-drop r.place r.text, within)) in
@@ -159,8 +156,7 @@ passes_found r before len ends no_fault ordered within found count =
       passes = subst (PassesLines r (lines_at found.texts r.place r.line read after found.whole)) (λ i. further r (size i) (sym number i)) (passes_all found.texts r read after beyond no_fault split found.whole);
       place = refl;
       within = λ some. omega (arith, found.within, long, ordered);
-      same = λ none.
-          let place : r.place + len ≡ r.place = omega (arith, none) in
+      same = λ none. let place : r.place + len ≡ r.place = omega (arith, none) in
           let line : r.line + ends ≡ r.line = omega (arith, none, size, number, line_ends-bytes read) in
           λ i. record { text = r.text; place = place i; line = line i; fault = r.fault };
     }

@@ -1,13 +1,11 @@
 -- The bits of a word of 64 after the lowest of them are cleared, or the lowest that is set, or LF below the lowest of the others.
-use Rattle.std.proofs.Common.{◌≡◌, ℕ, zero, suc, ◌+◌, ◌-◌, ◌*◌, ◌/◌, ◌%◌, ◌^◌, ◌<◌, ◌≤◌, min, true, false, eqb, bit_and, bit_xor, inl, inr}
-use Rattle.std.proofs.Common.{sym, ap, ◌∙◌, arith, w64, eqb-true}
+use Rattle.std.proofs.Common.{◌≡◌, ℕ, zero, suc, ◌+◌, ◌-◌, ◌*◌, ◌/◌, ◌%◌, ◌^◌, ◌<◌, ◌≤◌, min, true, false, eqb, bit_and, bit_xor, inl, inr, sym, ap, ◌∙◌, arith, w64, eqb-true}
 use Rattle.std.specs.Int.{bit_at, trailing_zeros}
 use Rattle.std.specs.Int.Count.{count_leading_zeros}
 use Rattle.std.proofs.Math.Nat.{pow-suc}
 use Rattle.std.proofs.lemmas.Bool.{cases_order}
 use Rattle.std.proofs.lemmas.Nat.{and_le_l, leading_top}
-use Rattle.std.proofs.lemmas.Nat.Bits.{bit_at_above, bit_at_and, bit_at_cat_high, bit_at-lt, bit_at_lowest, bit_at_mask_below, bit_at_mask_inside}
-use Rattle.std.proofs.lemmas.Nat.Bits.{bit_at_not, bit_at_ones, bit_at-suc, bit_at-trailing_zeros, bit_at_xor, bit_at-zero, ones_shl}
+use Rattle.std.proofs.lemmas.Nat.Bits.{bit_at_above, bit_at_and, bit_at_cat_high, bit_at-lt, bit_at_lowest, bit_at_mask_below, bit_at_mask_inside, bit_at_not, bit_at_ones, bit_at-suc, bit_at-trailing_zeros, bit_at_xor, bit_at-zero, ones_shl}
 use Rattle.py_lines.specs.Private.Marks.{is_set}
 
 -- whether a bit is set whose value is known
@@ -57,8 +55,7 @@ pub record HasLowest (bits t : ℕ) : Type 0 where
 pub lowest : (bits : ℕ) → 0 < bits → bits < 2 ^ 64 → HasLowest bits (trailing_zeros w64 bits)
 unfolding is_set
 lowest bits some fits =
-    let t = trailing_zeros w64 bits in
-    let left = bit_and bits (bits - 1) in
+    let t = trailing_zeros w64 bits in let left = bit_and bits (bits - 1) in
     let facts = bit_at-trailing_zeros w64 bits some fits in
     let less : (i : ℕ) → _ = λ i. less_one t bits i some facts.1 facts.2 in
     record {
@@ -74,8 +71,7 @@ below_lowest : (word j i : ℕ) → word < 2 ^ 64 → j < 64 → i ≤ j → bit
     bit_at less j ≡ 1 → (bit_at word i ≡ 0) × (bit_at less i ≡ 1)
 below_lowest zero j i fits near le clear set = (bit_at-zero i, bit_at_ones 64 i (omega (arith, le, near)))
 below_lowest (suc n) j i fits near le clear set =
-    let t = trailing_zeros w64 (suc n) in
-    let facts = bit_at-trailing_zeros w64 (suc n) (omega arith) fits in
+    let t = trailing_zeros w64 (suc n) in let facts = bit_at-trailing_zeros w64 (suc n) (omega arith) fits in
     let less_is : (suc n + (2 ^ 64 - 1)) % 2 ^ 64 ≡ suc n - 1 = omega (arith, fits) in
     let less : (k : ℕ) → _ = λ k. less_one t (suc n) k (omega arith) facts.1 facts.2 in
     let under : j < t = elim (cases_order j t) [
@@ -134,8 +130,7 @@ first_feeds-are bits feeds fits feeds_fit some =
 
     top_set : bit_at run j ≡ 1
     top_set =
-        let is : run ≡ 1 * 2 ^ j + (run - 2 ^ j) = omega (arith, top.2) in
-        let none : j - j ≡ 0 = omega arith in
+        let is : run ≡ 1 * 2 ^ j + (run - 2 ^ j) = omega (arith, top.2) in let none : j - j ≡ 0 = omega arith in
         ap (λ n. bit_at n j) is ∙ bit_at_cat_high 1 j (run - 2 ^ j) j (omega (arith, top.2, top.3, pow-suc 2 j)) (omega arith) ∙ ap (bit_at 1) none
 
     run_at : (i : ℕ) → bit_at run i ≡ min (min (bit_at bits i) (bit_at feeds i)) (bit_at less i)

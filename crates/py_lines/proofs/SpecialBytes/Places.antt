@@ -1,12 +1,11 @@
 -- The marks of a text after some of it is passed.
 use Rattle.std.proofs.lemmas.Bool.Decides.{nat_tests}
-use Rattle.std.proofs.Common.{◌≡◌, ℕ, ◌+◌, ◌-◌, ◌*◌, ◌%◌, ◌^◌, ◌<◌, ◌≤◌, Bool, true, false, ◌&&◌, ◌||◌, not, eqb, Some, List, length, slice_index}
-use Rattle.std.proofs.Common.{zero, suc, cond, max, ◌/◌, bit_and, bit_or, bit_xor, refl, sym, ap, ◌∙◌, inl, inr, arith, w64, ◌++◌, drop, replicate}
+use Rattle.std.proofs.Common.{◌≡◌, ℕ, ◌+◌, ◌-◌, ◌*◌, ◌%◌, ◌^◌, ◌<◌, ◌≤◌, Bool, true, false, ◌&&◌, ◌||◌, not, eqb, Some, List, length, slice_index, zero, suc, cond, max, ◌/◌, bit_and, bit_or, bit_xor, refl, sym, ap, ◌∙◌, inl, inr, arith, w64, ◌++◌, drop, replicate, le_refl, length-append, length-drop, get_or-drop}
 use Rattle.std.specs.Int.{bit_at, trailing_zeros}
 use Rattle.std.specs.Int.Count.{count_leading_zeros, ones, ones-le, ones_step}
 use Rattle.std.proofs.Math.Nat.{pow-suc}
 use Rattle.std.specs.Prelude.{nat_lt}
-use Rattle.std.proofs.lemmas.Bool.{cases_Bool, cases_eq, cases_lt}
+use Rattle.std.proofs.lemmas.Bool.{cases_Bool, cases_eq, cases_lt, le-leb, le-ltb, lt-ltb}
 use Rattle.std.proofs.lemmas.List.{at_drop_more, get_or_append_left}
 use Rattle.std.proofs.lemmas.Nat.Bits.{bit_at_lowest, bit_at-suc, bit_at_set_other, bit_at_set_same}
 use Rattle.py_lines.specs.declared.marks.Marks.{Marks}
@@ -14,9 +13,10 @@ use Rattle.py_lines.specs.Balance.{is_closing, is_opening}
 use Rattle.py_lines.specs.Character.{is_line_feed, is_operator, is_return, is_space}
 use Rattle.py_lines.specs.LogicalLine.{line_ends}
 use Rattle.py_lines.specs.Private.Run.{is_ascii_word}
-use Rattle.py_lines.specs.Private.Marks.{Advances, ArePlain, EndInFeed, FindsNext, HasMarks, IsSpecial, PassesFeeds}
-use Rattle.py_lines.specs.Private.Marks.{is_feed, is_mark, is_plain, is_set}
+use Rattle.py_lines.specs.Private.Marks.{Advances, ArePlain, EndInFeed, FindsNext, HasMarks, IsSpecial, PassesFeeds, is_feed, is_mark, is_plain, is_set}
+use Rattle.py_lines.proofs.PassedPieces.LineFeeds.{plain_on}
 use Rattle.py_lines.proofs.Text.Lanes.{filled_past}
+use Rattle.py_lines.proofs.FieldScans.TextLengths.{rest_is, rest_of}
 use Rattle.py_lines.proofs.SpecialBytes.Bits.{HasFeeds, HasLowest, cleared_below-is, first_feeds, first_feeds-are, lowest, unset}
 
 -- a byte of the text that isn't plain
@@ -39,8 +39,11 @@ later_mark text from to k a b = grind (arith, nat_tests)
 unmarked_plain : (text : List ℕ) (from k : ℕ) → is_mark text from k ≡ false → from ≤ k → k < length text → is_plain (slice_index text k) ≡ true
 unmarked_plain text from k none le within = grind (arith, nat_tests)
 
-marked : (text : List ℕ) (from k : ℕ) → from ≤ k → k < length text → is_mark text from k ≡ not (is_plain (slice_index text k))
+pub marked : (text : List ℕ) (from k : ℕ) → from ≤ k → k < length text → is_mark text from k ≡ not (is_plain (slice_index text k))
 marked text from k le within = grind (arith, nat_tests)
+
+pub fed : (text : List ℕ) (k : ℕ) → k < length text → is_feed text k ≡ is_line_feed (slice_index text k)
+fed text k within = rw (lt-ltb k (length text) within) refl
 
 -- a place in the block of 64
 in_block : (base k : ℕ) → base ≤ k → base + (k - base) ≡ k
@@ -50,9 +53,8 @@ in_block base k le = omega (arith, le)
 unset_plain : (text : List ℕ) (from : ℕ) (m : Marks) (k : ℕ) → HasMarks text from m → from ≤ k → k < m.base + 64 → k < length text
     → is_set m.bits (k - m.base) ≡ false → is_plain (slice_index text k) ≡ true
 unset_plain text from m k has le near within none =
-    let here = in_block m.base k (omega (arith, le, has.base)) in
     let bit = has.bits (k - m.base) (omega (arith, near, le, has.base)) in
-    unmarked_plain text from k (ap (is_mark text from) (sym here) ∙ sym bit ∙ none) le within
+    unmarked_plain text from k (ap (is_mark text from) (sym (in_block m.base k (omega (arith, le, has.base)))) ∙ sym bit ∙ none) le within
 
 -- the bytes are passed up to `to`, in the block: the bits before it are cleared
 passed_to : (text : List ℕ) (from to bits : ℕ) (m : Marks) → HasMarks text from m → from ≤ to → to ≤ length text → to ≤ m.base + 64
@@ -90,12 +92,10 @@ kept text place m base reach (within, special) has =
       bits = λ k less. elim (cases_eq k j) [
         | inl same ↦
             let here : m.base + k ≡ place = omega (arith, same, base) in
-            ap (λ i. eqb (bit_at (bit_or m.bits (1 * 2 ^ j % 2 ^ 64)) i) 1) same
-            ∙ ap (λ b. eqb b 1) (bit_at_set_same w64 m.bits j near)
+            ap (λ i. eqb (bit_at (bit_or m.bits (1 * 2 ^ j % 2 ^ 64)) i) 1) same ∙ ap (λ b. eqb b 1) (bit_at_set_same w64 m.bits j near)
             ∙ sym (ap (is_mark text place) here ∙ marked text place place (omega arith) within ∙ ap not special)
         | inr other ↦
-            ap (λ b. eqb b 1) (bit_at_set_other w64 m.bits j near k other)
-            ∙ has.bits k less
+            ap (λ b. eqb b 1) (bit_at_set_other w64 m.bits j near k other) ∙ has.bits k less
             ∙ elim (cases_lt (m.base + k) place) [
               | inl low ↦ no_mark_before text (place + 1) (m.base + k) (omega (arith, low)) ∙ sym (no_mark_before text place (m.base + k) low)
               | inr high ↦ later_mark text (place + 1) place (m.base + k) (omega (arith, high, other, base)) high
@@ -112,8 +112,7 @@ kept text place m base reach (within, special) has =
 
 -- where no bit is set, the block's bytes are plain
 pub none_left : (text : List ℕ) (from : ℕ) (m : Marks) → HasMarks text from m → m.bits ≡ 0 → ArePlain text from (m.base + 64)
-none_left text from m has none i le near within =
-    unset_plain text from m i has le near within (ap (λ n. is_set n (i - m.base)) none ∙ unset (i - m.base))
+none_left text from m has none i le near within = unset_plain text from m i has le near within (ap (λ n. is_set n (i - m.base)) none ∙ unset (i - m.base))
 
 -- plain bytes were passed, up to those of the marks
 pub record HasPassed (text : List ℕ) (from : ℕ) (m : Marks) : Type 0 where
@@ -122,26 +121,25 @@ pub record HasPassed (text : List ℕ) (from : ℕ) (m : Marks) : Type 0 where
   pub marks : HasMarks text to m
   pub plain : ArePlain text from to
 
-more_plain : (text : List ℕ) (a b c : ℕ) → ArePlain text a b → ArePlain text b c → ArePlain text a c
-more_plain text a b c first rest i le less within = elim (cases_lt i b) [ inl low ↦ first i le low within | inr high ↦ rest i high less within ]
+-- none were passed yet
+pub none_passed : (text : List ℕ) (from : ℕ) (m : Marks) → HasMarks text from m → HasPassed text from m
+none_passed text from m has = record { to = from; after = le_refl from; marks = has; plain = λ i le less. absurd (omega (arith, le, less)) }
 
 -- the next block
 pub passes_block : (text : List ℕ) (from : ℕ) (m next : Marks) → HasPassed text from m → Advances text m true next → HasPassed text from next
 passes_block text from m next passed on =
     let (plain, has) = on passed.to passed.marks in
-    let all = more_plain text from passed.to (m.base + 64) passed.plain plain in
+    let all = plain_on text from passed.to (m.base + 64) passed.plain plain in
     record { to = m.base + 64; after = omega (arith, passed.after, passed.marks.reach); marks = has; plain = all }
 
 -- no byte that isn't plain is left
-pub finds_end : (text : List ℕ) (from : ℕ) (m : Marks) → HasPassed text from m → m.bits ≡ 0 → length text ≤ m.base + 64
-    → FindsNext text from (length text) m
+pub finds_end : (text : List ℕ) (from : ℕ) (m : Marks) → HasPassed text from m → m.bits ≡ 0 → length text ≤ m.base + 64 → FindsNext text from (length text) m
 finds_end text from m passed none last =
     record {
       after = omega (arith, passed.after, passed.marks.within);
       within = omega arith;
       plain = λ k le less.
-          let plain = none_left text passed.to m passed.marks none in
-          more_plain text from passed.to (m.base + 64) passed.plain plain k le (omega (arith, less, last)) less;
+          plain_on text from passed.to (m.base + 64) passed.plain (none_left text passed.to m passed.marks none) k le (omega (arith, less, last)) less;
       special = λ less. absurd (omega (arith, less));
       rest = λ less. absurd (omega (arith, less));
       held = λ less. absurd (omega (arith, less));
@@ -154,7 +152,7 @@ finds_lowest text from m passed some fits =
     record {
       after = omega (arith, passed.after, mark.unpassed);
       within = omega (arith, mark.within);
-      plain = λ k le less. more_plain text from passed.to (m.base + t) passed.plain plain k le less (omega (arith, less, mark.within));
+      plain = λ k le less. plain_on text from passed.to (m.base + t) passed.plain plain k le less (omega (arith, less, mark.within));
       special = λ less. mark.special;
       rest = λ less.
           passed_to text passed.to (m.base + t + 1) _ m passed.marks (omega (arith, mark.unpassed)) (omega (arith, mark.within))
@@ -179,10 +177,10 @@ finds_lowest text from m passed some fits =
 feed_is : (text : List ℕ) (k : ℕ) → is_feed text k ≡ true → is_line_feed (slice_index text k) ≡ true
 feed_is text k h = grind (arith, nat_tests)
 
--- LF and CR are not plain
-ends_special : (is_plain 10 ≡ false) × (is_plain 13 ≡ false)
+-- LF and CR are not plain, and space is
+pub ends_special : (is_plain 10 ≡ false) × (is_plain 13 ≡ false) × (is_plain 32 ≡ true)
 unfolding is_plain is_ascii_word is_space is_operator is_opening is_closing
-ends_special = (refl, refl)
+ends_special = (refl, refl, refl)
 
 -- a byte that is plain, or LF, adds to the line ends if it is LF
 feed_counted : (text : List ℕ) (i : ℕ) → i < length text → (is_plain (slice_index text i) || is_line_feed (slice_index text i)) ≡ true
@@ -203,15 +201,12 @@ feeds_counted text from to (suc n) at bits start ends upto fits is marks =
     ap (λ b. eqb b 1) (sym (bit_at-suc bits k)) ∙ marks (suc k) (omega (arith, less)) ∙ ap (is_mark text from) (omega arith)) in
     let first : is_set bits 0 ≡ is_mark text from at = marks 0 (omega arith) ∙ ap (is_mark text from) (omega arith) in
     elim (cases_lt at from) [
-      | inl low ↦
-          let more = rest start (omega (arith, is, low)) in
-          grind (arith, more, ones_step bits, bit_at_lowest bits, first, no_mark_before text from at low)
+      | inl low ↦ grind (arith, rest start (omega (arith, is, low)), ones_step bits, bit_at_lowest bits, first, no_mark_before text from at low)
       | inr high ↦
           let within : at < length text = omega (arith, upto, ends.within) in
           let here : start ≡ at = omega (arith, is, high) in
           let one = feed_counted text at within (ends.each at high (omega (arith, upto))) in
-          let more = rest (at + 1) (omega (arith, high)) in
-          rw here (grind (arith, more, ones_step bits, bit_at_lowest bits, first, marked text from at high within, one))
+          rw here (grind (arith, rest (at + 1) (omega (arith, high)), ones_step bits, bit_at_lowest bits, first, marked text from at high within, one))
     ]
 
 -- the LF before any other byte that isn't plain
@@ -264,14 +259,6 @@ passes_feeds text from m has fits feeds_fit some =
           last = ap (λ i. is_line_feed (slice_index text i)) here ∙ feed t (omega arith) first.set;
         }
 
-space_plain : not (is_plain 32) ≡ false
-unfolding is_plain is_ascii_word is_space
-space_plain = refl
-
-space_no_feed : is_line_feed 32 ≡ false
-unfolding is_line_feed
-space_no_feed = refl
-
 -- what a test that fails at a space says of the bytes of a text that has fewer than 64, with spaces after them
 tested : (f : ℕ → Bool) (text block : List ℕ) (k : ℕ) → f 32 ≡ false → block ≡ text → length text < 64 → k < 64
     → f (slice_index (block ++ drop (length text) (replicate 64 32)) k) ≡ (nat_lt k (length text) && f (slice_index text k))
@@ -284,8 +271,46 @@ tested f text block k space same few less =
 
 pub filled : (text block : List ℕ) (k : ℕ) → block ≡ text → length text < 64 → k < 64
     → not (is_plain (slice_index (block ++ drop (length text) (replicate 64 32)) k)) ≡ is_mark text 0 k
-filled text block k same few less = tested (λ c. not (is_plain c)) text block k space_plain same few less ∙ grind (arith, nat_tests)
+filled text block k same few less = tested (λ c. not (is_plain c)) text block k (ap not ends_special.2) same few less ∙ grind (arith, nat_tests)
 
 pub filled_feeds : (text block : List ℕ) (k : ℕ) → block ≡ text → length text < 64 → k < 64
     → is_line_feed (slice_index (block ++ drop (length text) (replicate 64 32)) k) ≡ is_feed text k
-filled_feeds text block k = tested is_line_feed text block k space_no_feed
+unfolding is_line_feed
+filled_feeds text block k = tested is_line_feed text block k refl
+
+-- a block with spaces after the text is full
+pub filled_length : (text block : List ℕ) → block ≡ text → length text < 64 → length (block ++ drop (length text) (replicate 64 32)) ≡ 64
+filled_length text block same few =
+    omega (arith, few, ap length same, length-append {A = ℕ} block (drop (length text) (replicate 64 32)), length-drop {A = ℕ} (length text) (replicate 64 32))
+
+-- the marks of a text from a byte on are those of the rest of it
+module _ (text : List ℕ) (from : ℕ) (m : Marks) (there : from ≤ length text) (base : m.base ≡ from) where
+  abbrev rest : List ℕ
+  rest = rest_of text from
+
+  abbrev here : (k : ℕ) → slice_index rest k ≡ slice_index text (m.base + k)
+  here k = ap (λ xs. slice_index xs k) (rest_is text from) ∙ get_or-drop from text k 0 ∙ ap (λ b. slice_index text (b + k)) (sym base)
+
+  abbrev size : length rest ≡ length text - from
+  size = ap length (rest_is text from) ∙ length-drop from text
+
+  pub has_marks : ((k : ℕ) → k < 64 → is_set m.bits k ≡ is_mark rest 0 k) → ((k : ℕ) → k < 64 → is_set m.feeds k ≡ is_feed rest k) → HasMarks text from m
+  has_marks bits feeds = record {
+    base = omega (arith, base);
+    within = there;
+    reach = omega (arith, base);
+    bits = λ k less. bits k less ∙ mark k;
+    feeds = λ k less. feeds k less ∙ feed k;
+  }
+    where
+      inside : (k : ℕ) → nat_lt k (length rest) ≡ nat_lt (m.base + k) (length text)
+      inside k = elim (cases_lt k (length rest)) [
+        | inl low ↦ lt-ltb _ _ low ∙ sym (lt-ltb _ _ (omega (arith, low, size, base)))
+        | inr high ↦ le-ltb _ _ high ∙ sym (le-ltb _ _ (omega (arith, high, size, base, there)))
+      ]
+
+      mark : (k : ℕ) → is_mark rest 0 k ≡ is_mark text from (m.base + k)
+      mark k = rw (inside k, here k, le-leb 0 k (omega arith), le-leb from (m.base + k) (omega (arith, base))) refl
+
+      feed : (k : ℕ) → is_feed rest k ≡ is_feed text (m.base + k)
+      feed k = rw (inside k, here k) refl

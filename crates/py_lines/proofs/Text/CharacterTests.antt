@@ -17,16 +17,13 @@ Each P (d ∷ ds) = P d × Each P ds
 pub each_of : (P : ℕ → Type 0) (ds : List ℕ) (c : ℕ) → Each P ds → is_one_of ds c ≡ true → P c
 each_of P [] c each one = absurd (both_ways _ refl one)
 each_of P (d ∷ ds) c each one =
-    ⊎_elim
-    (λ same. subst P (sym (eqb-true c d same)) each.0)
-    (λ later. each_of P ds c each.1 later) (or_cases (eqb c d) (is_one_of ds c) one)
+    ⊎_elim (λ same. subst P (sym (eqb-true c d same)) each.0) (λ later. each_of P ds c each.1 later) (or_cases (eqb c d) (is_one_of ds c) one)
 
 -- what is one of a list, none of which passes, doesn't pass
 pub none_of : (p : ℕ → Bool) (ds : List ℕ) (c : ℕ) → list_any p ds ≡ false → is_one_of ds c ≡ true → p c ≡ false
 none_of p [] c none one = absurd (both_ways _ refl one)
 none_of p (d ∷ ds) c none one =
-    ⊎_elim
-    (λ same. ap p (eqb-true c d same) ∙ (or_parts (p d) (list_any p ds) none).0)
+    ⊎_elim (λ same. ap p (eqb-true c d same) ∙ (or_parts (p d) (list_any p ds) none).0)
     (λ later. none_of p ds c (or_parts (p d) (list_any p ds) none).1 later) (or_cases (eqb c d) (is_one_of ds c) one)
 
 -- what passes one test and fails what another one passes, fails that other one

@@ -10,11 +10,8 @@ use Rattle.py_lines.proofs.Text.Utf8Prefixes.{NoneLonger, opening_text, one_deco
 longest : (bytes : List ℕ) (most : ℕ) → NoneLonger bytes most → (n : ℕ) × (IsUtf8 (take n bytes)) × NoneLonger bytes n
 longest bytes zero none = (0, IsUtf8-nil, none)
 longest bytes (suc most) none =
-    ⊎_elim
-    (λ is. (suc most, IsUtf8-from_is_utf8 _ is, none))
-    (λ is_not. longest bytes most (λ m above within utf8. ⊎_elim
-    (λ (more : suc most < m). none m more within utf8)
-    (λ (no_more : m ≤ suc most).
+    ⊎_elim (λ is. (suc most, IsUtf8-from_is_utf8 _ is, none)) (λ is_not. longest bytes most (λ m above within utf8. ⊎_elim
+    (λ (more : suc most < m). none m more within utf8) (λ (no_more : m ≤ suc most).
     let same : m ≡ suc most = omega arith in
     both_ways _ is_not (is_utf8-from_IsUtf8 _ (subst (λ (k : ℕ). IsUtf8 (take k bytes)) same utf8))) (cases_lt (suc most) m)))
     (cases_Bool (is_utf8 (take (suc most) bytes)))

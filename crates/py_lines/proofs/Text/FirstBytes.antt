@@ -16,13 +16,9 @@ first_self c low = (low_scalar c (omega (arith, low)), own_first c low)
 
 -- and no other begins with it
 pub first_low : (b c : ℕ) → b < 128 → IsFirstByte b c → c ≡ b
-first_low b c low (scalar, first) = ⊎_elim
-    (λ narrow. sym (own_first c narrow) ∙ first)
-    (λ wide.
-    let bytes = high_bytes c wide in
-    let is : bytes.first ≡ b = sym (ap (λ t. slice_index t 0) bytes.is) ∙ first in
-    absurd (omega (arith, low, bytes.high.0, is)))
-    (cases_lt c 128)
+first_low b c low (scalar, first) = ⊎_elim (λ narrow. sym (own_first c narrow) ∙ first) (λ wide.
+    let bytes = high_bytes c wide in let is : bytes.first ≡ b = sym (ap (λ t. slice_index t 0) bytes.is) ∙ first in
+    absurd (omega (arith, low, bytes.high.0, is))) (cases_lt c 128)
 
 -- a character that begins with another byte than one of ASCII is another one
 pub first_other : (b c d : ℕ) → IsFirstByte b c → d < 128 → (b ≡ d → ⊥) → c == d ≡ false

@@ -1,6 +1,6 @@
 -- The character that bytes begin with.
 use Rattle.std.proofs.lemmas.Bool.Decides.{nat_tests}
-use Rattle.std.proofs.Common.{◌≡◌, ◌==◌, true, false, ℕ, ◌+◌, ◌-◌, ◌<◌, ◌≤◌, Option, List, [], ◌∷◌, ◌++◌, length, take, drop, slice_get, sym, ap, ◌∙◌, subst, append_assoc, arith, length-append, length-take, take-append-drop}
+use Rattle.std.proofs.Common.{◌≡◌, ◌==◌, Bool, true, false, ℕ, ◌+◌, ◌-◌, ◌<◌, ◌≤◌, Option, List, [], ◌∷◌, ◌++◌, length, take, drop, slice_get, sym, ap, ◌∙◌, subst, append_assoc, arith, length-append, length-take, take-append-drop}
 use Rattle.std.specs.Prelude.{min, encode_utf8, encode_utf8_all, IsUtf8, MatchOption}
 use Rattle.std.specs.Str.{StartsWithNoChar, all_scalars, chars}
 use Rattle.std.specs.Char.{IsScalar, len_utf8}
@@ -9,6 +9,7 @@ use Rattle.std.proofs.lemmas.Bool.{and_parts}
 use Rattle.std.proofs.lemmas.List.{take-take}
 use Rattle.std.proofs.lemmas.Str.{chars_from_encodes, length-encode, len_utf8_bounds}
 use Rattle.std.proofs.Math.Seq.{take-add, take-append_seam, drop-append_seam}
+use Rattle.py_lines.specs.Piece.{begins}
 use Rattle.py_lines.specs.Private.Run.{BeginsWith}
 
 -- the bytes after the character don't matter
@@ -21,6 +22,11 @@ begins_with bytes rest c scalar is = record {
 -- so many bytes it has
 pub first_size : {bytes : List ℕ} {c : ℕ} → BeginsWith bytes c → len_utf8 c + length (drop (len_utf8 c) bytes) ≡ length bytes
 first_size {bytes = bytes} {c = c} next = omega (arith, ap length next.spell, length-append (encode_utf8 c) (drop (len_utf8 c) bytes), length-encode c)
+
+-- there are some bytes
+pub begins_some : (passes : ℕ → Bool) (bytes : List ℕ) → begins passes bytes ≡ true → 0 < length bytes
+begins_some passes [] is = absurd (cc)
+begins_some passes (c ∷ rest) is = omega arith
 
 pub some_bytes : (bytes : List ℕ) → length bytes == 0 ≡ false → 0 < length bytes
 some_bytes bytes none = grind (arith, nat_tests)

@@ -23,30 +23,25 @@ bounds x y i = grind (arith, nat_tests)
 -- bytes that are a character
 two_char : (x y : ℕ) (r : List ℕ) → 194 ≤ x → x < 224 → Follows y → StartsWithNoChar (x ∷ y ∷ r) → ⊥
 two_char x y r low high f none =
-    let c = (x - 192) * 64 + (y - 128) in
-    let p : x ≡ 192 + c / 64 = omega arith in
+    let c = (x - 192) * 64 + (y - 128) in let p : x ≡ 192 + c / 64 = omega arith in
     let q : y ≡ next c = omega arith in
     none c r (low_scalar c (omega arith)) ((λ i. p i ∷ q i ∷ r) ∙ ap (λ l. l ++ r) (sym (two c (omega arith) (omega arith))))
 
 three_char : (x y z : ℕ) (r : List ℕ) → 224 ≤ x → x < 240 → In x y → Follows z → StartsWithNoChar (x ∷ y ∷ z ∷ r) → ⊥
 three_char x y z r low high i f none =
-    let b = bounds x y i in
-    let c = (x - 224) * 4096 + (y - 128) * 64 + (z - 128) in
+    let b = bounds x y i in let c = (x - 224) * 4096 + (y - 128) * 64 + (z - 128) in
     let least : 2048 ≤ c = grind (arith, b) in
     let apart : (c < 55296) ⊎ (57344 ≤ c) = ⊎_elim inl (λ (h : 55296 ≤ c). inr (grind (arith, b))) (cases_lt c 55296) in
-    let p : x ≡ 224 + c / 4096 = omega arith in
-    let q : y ≡ next (c / 64) = omega arith in
+    let p : x ≡ 224 + c / 4096 = omega arith in let q : y ≡ next (c / 64) = omega arith in
     let t : z ≡ next c = omega arith in
     none c r (⊎_elim (λ (h : c < 55296). low_scalar c h) (λ (h : 57344 ≤ c). high_scalar c h (omega arith)) apart) ((λ i. p i ∷ q i ∷ t i ∷ r) ∙ ap (λ l. l ++ r) (sym (three c least (omega arith))))
 
 four_char : (x y z w : ℕ) (r : List ℕ) → 240 ≤ x → x ≤ 244 → In x y → Follows z → Follows w → StartsWithNoChar (x ∷ y ∷ z ∷ w ∷ r) → ⊥
 four_char x y z w r low high i f g none =
-    let b = bounds x y i in
-    let least : 16 ≤ (x - 240) * 64 + (y - 128) = grind (arith, b) in
+    let b = bounds x y i in let least : 16 ≤ (x - 240) * 64 + (y - 128) = grind (arith, b) in
     let most : (x - 240) * 64 + (y - 128) < 272 = grind (arith, b) in
     let c = (x - 240) * 262144 + (y - 128) * 4096 + (z - 128) * 64 + (w - 128) in
-    let p : x ≡ 240 + c / 262144 = omega arith in
-    let q : y ≡ next (c / 4096) = omega arith in
+    let p : x ≡ 240 + c / 262144 = omega arith in let q : y ≡ next (c / 4096) = omega arith in
     let d : c / 64 ≡ (x - 240) * 4096 + (y - 128) * 64 + (z - 128) = omega arith in
     let t : z ≡ next (c / 64) = subst (λ (m : ℕ). z ≡ next m) (sym d) (omega arith) in
     let u : w ≡ next c = omega arith in
@@ -86,8 +81,7 @@ in_or_out a b c P inside outside =
 after_two : (x y : ℕ) (r : List ℕ) → 194 ≤ x → x ≤ 244 → In x y → StartsWithNoChar (x ∷ y ∷ r) → Verdict (x ∷ y ∷ r) (error_len_after_two (x ∷ y ∷ r))
 after_two x y [] low high i none = part_two x y low high i
 after_two x y (z ∷ r) low high i none = rw (le-ltb (length (x ∷ y ∷ z ∷ r)) 3 (omega arith))
-    (in_or_out 128 191 z (λ b. Verdict (x ∷ y ∷ z ∷ r) (cond b (cond (nat_lt (length (x ∷ y ∷ z ∷ r)) 4) None (Some 3)) (Some 2)))
-    (λ f. third r f none)
+    (in_or_out 128 191 z (λ b. Verdict (x ∷ y ∷ z ∷ r) (cond b (cond (nat_lt (length (x ∷ y ∷ z ∷ r)) 4) None (Some 3)) (Some 2))) (λ f. third r f none)
     (λ out. no_longer (x ∷ y ∷ z ∷ r) none (λ n more beyond g. omega arith)))
   where
     third : (q : List ℕ) → IsInRange 128 191 z → StartsWithNoChar (x ∷ y ∷ z ∷ q) → Verdict (x ∷ y ∷ z ∷ q) (cond (nat_lt (length (x ∷ y ∷ z ∷ q)) 4) None (Some 3))
@@ -96,16 +90,14 @@ after_two x y (z ∷ r) low high i none = rw (le-ltb (length (x ∷ y ∷ z ∷ 
 
 -- from the second byte on
 after_one : (x : ℕ) (r : List ℕ) → 194 ≤ x → x ≤ 244 → StartsWithNoChar (x ∷ r) → Verdict (x ∷ r) (error_len_after_one (x ∷ r))
-after_one x [] low high none =
-    λ hopeless. part_two x (second_byte_min x) low high (grind (arith, nat_tests)) (λ more. hopeless (second_byte_min x ∷ more))
+after_one x [] low high none = λ hopeless. part_two x (second_byte_min x) low high (grind (arith, nat_tests)) (λ more. hopeless (second_byte_min x ∷ more))
 after_one x (y ∷ r) low high none = rw (le-ltb (length (x ∷ y ∷ r)) 2 (omega arith))
     (in_or_out (second_byte_min x) (second_byte_max x) y (λ b. Verdict (x ∷ y ∷ r) (cond b (error_len_after_two (x ∷ y ∷ r)) (Some 1)))
     (λ i. after_two x y r low high i none)
     (λ out. no_longer (x ∷ y ∷ r) none (λ n more beyond g. out_of_bounds x y low high out (g.second (omega arith)).2 g.in_three g.in_four)))
 
 of_some : (x : ℕ) (r : List ℕ) → StartsWithNoChar (x ∷ r) → Verdict (x ∷ r) (error_len_of_some (x ∷ r))
-of_some x r none = in_or_out 194 244 x (λ b. Verdict (x ∷ r) (cond b (error_len_after_one (x ∷ r)) (Some 1)))
-    (λ i. after_one x r i.0 i.1 none)
+of_some x r none = in_or_out 194 244 x (λ b. Verdict (x ∷ r) (cond b (error_len_after_one (x ∷ r)) (Some 1))) (λ i. after_one x r i.0 i.1 none)
     (λ out. no_longer (x ∷ r) none (λ n more beyond g. omega arith))
 
 verdict : (bytes : List ℕ) → StartsWithNoChar bytes → Verdict bytes (utf8_error_len bytes)

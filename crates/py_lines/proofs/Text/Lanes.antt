@@ -30,9 +30,8 @@ pub gives : (p : ℕ → Bool) (vs : List ℕ) {ms : List ℕ} → Shows p vs ms
 gives p vs e = ap (λ l. map (of_z w8) (map (to_z w8) l)) e ∙ given p vs
 
 -- a comparison with a byte
-pub compared : (t : ℕ → ℕ → Bool) (vs : List ℕ) (y : ℕ) → length vs ≡ 16
-    → Shows (λ x. t x y) vs (zip2 (λ a b. cond (t a b) 255 0) vs (replicate 16 y))
-compared t vs y long = zip2_splat (λ a b. cond (t a b) 255 0) vs 16 y long
+pub compared : {n : ℕ} (t : ℕ → ℕ → Bool) (vs : List ℕ) (y : ℕ) → length vs ≡ n → Shows (λ x. t x y) vs (zip2 (λ a b. cond (t a b) 255 0) vs (replicate n y))
+compared t vs y long = zip2_splat (λ a b. cond (t a b) 255 0) vs _ y long
 
 -- both of two tests, one of them, and none
 module _ (p q : ℕ → Bool) (vs : List ℕ) where
@@ -59,6 +58,9 @@ none p vs e = ap (map (bit_not w8)) e ∙ map-map (bit_not w8) (λ x. cond (p x)
 top_of : (b : Bool) → top 7 (cond b 255 0) ≡ b
 top_of b = grind arith
 
+pub tops : (p : ℕ → Bool) (vs : List ℕ) {ms : List ℕ} → Shows p vs ms → map (top 7) ms ≡ map p vs
+tops p vs e = ap (map (top 7)) e ∙ map-map (top 7) (λ x. cond (p x) 255 0) vs ∙ (λ i. map (λ x. top_of (p x) i) vs)
+
 -- bits from the lowest on: one more, and what comes after it
 next_bit : (b : Bool) (k m r : ℕ) → m < 2 ^ k → count_trailing_zeros k (2 ^ k - 1 - m) ≡ r
     → count_trailing_zeros (suc k) (2 ^ suc k - 1 - (cond b 1 0 + 2 * m)) ≡ cond b (1 + r) 0
@@ -82,16 +84,14 @@ ones_first p (v ∷ vs) (suc k) less =
 pub set_first : (p : ℕ → Bool) (vs : List ℕ) {ms : List ℕ} {n : ℕ} → length vs ≡ 16 → Shows p vs ms
     → n ≡ trailing_ones w64 (mask_l (map (top 7) ms) % 2 ^ 64) → n ≡ prefix_len p vs
 set_first p vs long e counted =
-    let bits = ap (map (top 7)) e ∙ map-map (top 7) (λ x. cond (p x) 255 0) vs ∙ (λ i. map (λ x. top_of (p x) i) vs) in
-    counted ∙ ap (λ l. trailing_ones w64 (mask_l l % 2 ^ 64)) bits
+    counted ∙ ap (λ l. trailing_ones w64 (mask_l l % 2 ^ 64)) (tops p vs e)
     ∙ ap (trailing_ones w64) (mask_l-mod (map p vs) 64 (omega (arith, length-map vs p, long))) ∙ ones_first p vs 64 (omega (arith, long))
 
 -- a run ends in sixteen bytes, or goes on after them
 pub ends_within : (p : ℕ → Bool) (xs : List ℕ) (i : ℕ) → i + 16 ≤ length xs → prefix_len p (chunk i 16 xs) < 16
     → prefix_len p (drop i xs) ≡ prefix_len p (chunk i 16 xs)
 ends_within p xs i room short =
-    let split = ap (prefix_len p) (chunk-drop i 16 xs) ∙ prefix_len-append p (chunk i 16 xs) (drop (i + 16) xs) in
-    grind (arith, nat_tests, split, length-chunk i 16 xs room)
+    grind (arith, nat_tests, ap (prefix_len p) (chunk-drop i 16 xs) ∙ prefix_len-append p (chunk i 16 xs) (drop (i + 16) xs), length-chunk i 16 xs room)
 
 pub sixteen_on : (p : ℕ → Bool) (xs : List ℕ) (i : ℕ) → i + 16 ≤ length xs → 16 ≤ prefix_len p (chunk i 16 xs)
     → prefix_len p (drop i xs) ≡ 16 + prefix_len p (drop (i + 16) xs)
@@ -102,8 +102,7 @@ sixteen_on p xs i room all =
 -- the run of a list that goes on is as long, up to its end
 pub shorter_run : (p : ℕ → Bool) (xs zs ys : List ℕ) (r n : ℕ) → zs ≡ xs → r ≡ prefix_len p (zs ++ ys) → n ≡ min r (length xs) → n ≡ prefix_len p xs
 shorter_run p xs zs ys r n same counted least =
-    let on = counted ∙ ap (λ l. prefix_len p (l ++ ys)) same ∙ prefix_len-append p xs ys in
-    grind (arith, nat_tests, least, on, prefix_len-le-length p xs)
+    grind (arith, nat_tests, least, counted ∙ ap (λ l. prefix_len p (l ++ ys)) same ∙ prefix_len-append p xs ys, prefix_len-le-length p xs)
 
 pub run_is : (p : ℕ → Bool) (xs : List ℕ) (n : ℕ) → n ≡ prefix_len p xs → IsRunOf p xs n
 run_is p xs n is =

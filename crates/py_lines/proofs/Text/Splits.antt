@@ -11,8 +11,7 @@ pub either : {A : Type 0} (xs ys zs ws : List A) → xs ++ ys ≡ zs ++ ws → E
 either [] ys zs ws same = Either.shorter zs refl
 either (x ∷ xs) ys [] ws same = Either.longer x xs (xs ++ ys) refl (sym same)
 either (x ∷ xs) ys (z ∷ zs) ws same =
-    let first : x ≡ z = cc in
-    let later : xs ++ ys ≡ zs ++ ws = cc in
+    let first : x ≡ z = cc in let later : xs ++ ys ≡ zs ++ ws = cc in
     go first (either xs ys zs ws later)
   where
     go : x ≡ z → Either xs zs ws → Either (x ∷ xs) (z ∷ zs) ws

@@ -24,13 +24,11 @@ all_scalars-append (c ∷ cs) b h k = let parts = and_parts _ _ h in and_from _ 
 pub all_scalars-parts : (a b : List ℕ) → all_scalars (a ++ b) ≡ true → (all_scalars a ≡ true) × (all_scalars b ≡ true)
 all_scalars-parts [] b h = (refl, h)
 all_scalars-parts (c ∷ cs) b h =
-    let parts = and_parts _ _ h in
-    let others = all_scalars-parts cs b parts.1 in
+    let parts = and_parts _ _ h in let others = all_scalars-parts cs b parts.1 in
     (and_from _ _ parts.0 others.0, others.1)
 
 -- the characters with one more, before what is left
-pub spell_more : (read rest held : List ℕ) (c : ℕ) → encode_utf8_all read ++ (encode_utf8 c ++ rest) ≡ held
-    → encode_utf8_all (read ++ c ∷ []) ++ rest ≡ held
+pub spell_more : (read rest held : List ℕ) (c : ℕ) → encode_utf8_all read ++ (encode_utf8 c ++ rest) ≡ held → encode_utf8_all (read ++ c ∷ []) ++ rest ≡ held
 spell_more read rest held c spell =
     let more = encodes-append read (c ∷ []) ∙ ap (λ t. encode_utf8_all read ++ t) (append-nil (encode_utf8 c)) in
     ap (λ t. t ++ rest) more ∙ append_assoc (encode_utf8_all read) (encode_utf8 c) rest ∙ spell
@@ -52,8 +50,7 @@ NoneLonger bytes n = (m : ℕ) → n < m → m ≤ length bytes → ¬ (IsUtf8 (
 -- after the longest prefix that is text, no character begins
 pub opening_text : (bytes : List ℕ) (n : ℕ) → IsUtf8 (take n bytes) → NoneLonger bytes n → StartsWithNoChar (drop n bytes)
 opening_text bytes n front longest c rest scalar e =
-    let k = length (encode_utf8 c) in
-    let some : 1 ≤ k = omega (arith, length-encode c, len_utf8_bounds c) in
+    let k = length (encode_utf8 c) in let some : 1 ≤ k = omega (arith, length-encode c, len_utf8_bounds c) in
     let room : length bytes ≡ n + k + length rest = omega (arith, ap length e, length-append (encode_utf8 c) rest, length-drop n bytes, some) in
     let grown = take-add n k bytes ∙ ap (λ t. take n bytes ++ t) (ap (take k) e ∙ take-append_seam (encode_utf8 c) rest) in
     longest (n + k) (omega (arith, some)) (omega (arith, room))

@@ -35,8 +35,7 @@ by_size : (P : List ℕ → Type 0) (c : ℕ) → (c < 128 → P (c ∷ [])) →
     → (2048 ≤ c → c < 65536 → P ((224 + c / 4096) ∷ next (c / 64) ∷ next c ∷ [])) → (65536 ≤ c → P ((240 + c / 262144) ∷ next (c / 4096) ∷ next (c / 64) ∷ next c ∷ []))
     → P (encode c)
 by_size P c of1 of2 of3 of4 =
-    ⊎_elim (λ h. subst P (sym (one c h)) (of1 h))
-    (λ l. ⊎_elim (λ h. subst P (sym (two c l h)) (of2 l h))
+    ⊎_elim (λ h. subst P (sym (one c h)) (of1 h)) (λ l. ⊎_elim (λ h. subst P (sym (two c l h)) (of2 l h))
     (λ l. ⊎_elim (λ h. subst P (sym (three c l h)) (of3 l h)) (λ l. subst P (sym (four c l)) (of4 l)) (cases_lt c 65536)) (cases_lt c 2048)) (cases_lt c 128)
 
 -- a character of n bytes, and what it begins with

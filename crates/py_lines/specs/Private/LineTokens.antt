@@ -5,7 +5,7 @@ use Rattle.std.specs.Str.{all_scalars}
 use Rattle.py_lines.specs.Character.{is_digit}
 use Rattle.py_lines.specs.Piece.{Class, word, string, operator, comment, join, Piece, begins, begins_marked, is_mark_class, spelled}
 use Rattle.py_lines.specs.Fields.{AreReadBefore, IsShallow}
-use Rattle.py_lines.specs.LogicalLine.{byte_len, line_ends, first_or_zero, token, tokens_from, kind_of, indent_of}
+use Rattle.py_lines.specs.LogicalLine.{byte_len, end_len_of, line_ends, first_or_zero, token, tokens_from, kind_of, indent_of}
 use Rattle.py_lines.specs.Private.Machine.{begins_string}
 use Rattle.py_lines.specs.Private.Run.{word_spelling}
 use Rattle.py_lines.specs.Token.{is_comment}
@@ -101,13 +101,17 @@ pub record AreTokensOf (pieces : List Piece) (line : ℕ) (t : LineTokens) : Typ
   pub indent : t.indent ≡ indent_of pieces
   pub tokens : t.tokens.items ≡ tokens_from 0 line pieces
 
--- so for all pieces of a line of this text
-abbrev pub HoldsTokens : List ℕ → ℕ → LineTokens → Type 0
-HoldsTokens text line t = (pieces : List Piece) → AreLineText text pieces → AreTokensOf pieces line t
+-- the pieces of a line of this text, which has so many bytes of line end
+abbrev pub AreLineOf : List ℕ → ℕ → List Piece → Type 0
+AreLineOf text end_len pieces = AreLineText text pieces × (end_len ≡ end_len_of pieces)
 
--- the line after a line of this text
-abbrev pub IsLineAfter : ℕ → List ℕ → ℕ → Type 0
-IsLineAfter line text after = (pieces : List Piece) → AreLineText text pieces → after ≡ line + line_ends (spelled pieces)
+-- so for all pieces of such a line
+abbrev pub HoldsTokens : List ℕ → ℕ → ℕ → LineTokens → Type 0
+HoldsTokens text end_len line t = (pieces : List Piece) → AreLineOf text end_len pieces → AreTokensOf pieces line t
+
+-- the line after such a line
+abbrev pub IsLineAfter : ℕ → List ℕ → ℕ → ℕ → Type 0
+IsLineAfter line text end_len after = (pieces : List Piece) → AreLineOf text end_len pieces → after ≡ line + line_ends (spelled pieces)
 
 -- what a line holds with a comment more
 abbrev pub with_comment : UnitKind → UnitKind
@@ -148,16 +152,17 @@ pub record HaveReadOf (text : List ℕ) (pieces left : List Piece) (first start 
   pub unmarked : begins_marked left ≡ false
   pub depth : ℕ
   pub are : AreTextAt depth (drop start text) left
+  pub ends : end_len_of left ≡ end_len_of pieces
   pub lines : line + line_ends (spelled left) ≡ first + line_ends (spelled pieces)
   pub kind : kind_of pieces ≡ kind_on t.kind left
   pub indent : t.indent ≡ indent_of pieces
   pub tokens : tokens_from 0 first pieces ≡ t.tokens.items ++ tokens_from start line left
 
--- so for all pieces of a line of this text
-abbrev pub HaveRead : List ℕ → ℕ → ℕ → ℕ → LineTokens → Type 0
-HaveRead text first start line t =
-    (pieces : List Piece) → AreLineText text pieces → (left : List Piece) × HaveReadOf text pieces left first start line t
+-- so for all pieces of a line of this text, which has so many bytes of line end
+abbrev pub HaveRead : List ℕ → ℕ → ℕ → ℕ → ℕ → LineTokens → Type 0
+HaveRead text end_len first start line t =
+    (pieces : List Piece) → AreLineOf text end_len pieces → (left : List Piece) × HaveReadOf text pieces left first start line t
 
--- the text is that of a line
-abbrev pub IsLineText : List ℕ → Type 0
-IsLineText text = (pieces : List Piece) × AreLineText text pieces
+-- the text is that of a line, which has so many bytes of line end
+abbrev pub IsLineText : List ℕ → ℕ → Type 0
+IsLineText text end_len = (pieces : List Piece) × AreLineOf text end_len pieces

@@ -1,5 +1,5 @@
 -- Bytes that aren't plain, and where they stand, in blocks of 64.
-use Rattle.std.specs.Prelude.{bit_and, ◌≡◌, ℕ, ◌+◌, ◌-◌, ◌/◌, ◌<◌, ◌≤◌, Bool, true, false, ◌==◌, ◌&&◌, ◌||◌, not, nat_lt, nat_le}
+use Rattle.std.specs.Prelude.{◌≡◌, ℕ, ◌+◌, ◌-◌, ◌<◌, ◌≤◌, Bool, true, false, ◌==◌, ◌&&◌, ◌||◌, not, nat_lt, nat_le}
 use Rattle.std.specs.Prelude.{Option, None, Some, List, length, slice_index}
 use Rattle.std.specs.Int.{bit_at}
 use Rattle.py_lines.specs.Character.{is_backslash, is_hash, is_line_feed, is_operator, is_quote, is_return, is_space}
@@ -8,7 +8,6 @@ use Rattle.py_lines.specs.Private.LineEnds.{CountsTo}
 use Rattle.py_lines.specs.Private.Run.{is_apart, is_ascii_word}
 use Rattle.py_lines.specs.declared.class.Class.{Class}
 use Rattle.py_lines.specs.declared.class.Class.TheVariants as class
-use Rattle.py_lines.specs.declared.class.TheConstants.{PLAIN, UPPER}
 use Rattle.py_lines.specs.declared.marks.Marks.{Marks}
 
 -- what opens and closes nothing outside strings and comments: bytes of words, space, and operators that are no brackets
@@ -33,14 +32,6 @@ is_of_class class.Hash b = is_hash b
 is_of_class class.Backslash b = is_backslash b
 is_of_class class.Wide b = nat_le 128 b
 is_of_class class.Other b = begins_nothing b
-
--- the upper halves with which the lower half of a byte is plain, a bit for each
-unfoldable pub plain_uppers : ℕ → ℕ
-plain_uppers b = slice_index PLAIN (bit_and b 15)
-
--- the bit of the upper half of a byte
-unfoldable pub upper_bit : ℕ → ℕ
-upper_bit b = slice_index UPPER (b / 16)
 
 -- whether this bit of a number is set
 unfoldable pub is_set : ℕ → ℕ → Bool

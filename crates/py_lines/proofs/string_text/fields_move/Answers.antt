@@ -1,9 +1,11 @@
-use Rattle.std.proofs.Common.{◌≡◌, ◌∙◌, ◌==◌, true, false, ◌∷◌, drop, ap, inl, inr, arith, refl, subst}
+use Rattle.std.proofs.Common.{◌≡◌, ◌∙◌, ◌==◌, ℕ, true, false, List, ◌∷◌, drop, slice_index, ap, inl, inr, arith, refl, subst}
+use Rattle.std.proofs.lemmas.Bool.{ne_eqb}
 use Rattle.std.proofs.lemmas.Bool.Decides.{nat_tests}
 use Rattle.std.proofs.lemmas.List.{take_rest}
 use Rattle.std.specs.Str.{byte}
 use Rattle.py_lines.specs.Character.{is_backslash, is_break, is_quote}
 use Rattle.py_lines.specs.Piece.{begins}
+use Rattle.py_lines.specs.declared.host.Region.{Region}
 use Rattle.py_lines.specs.declared.host.Region.TheVariants as regions
 use Rattle.py_lines.specs.declared.mode.Mode.TheVariants as opens
 use Rattle.py_lines.specs.Private.FieldMachine.{between_move, body_move, field_move}
@@ -32,6 +34,27 @@ returns-in-Some-eq123 c quotes = let bytes = c.args.bytes.now in
     (subst (λ t. GrowsInText (text_in c.args.host regions.Literal false) t (opens.Fields c.args.host regions.Literal false) 2) spell
     (grows_braces c.args.host quotes (drop 1 (drop 1 bytes))))
 
+-- a `{` that opens a field
+brace_first : (bytes : List ℕ) → slice_index bytes 0 ≡ 123 → begins (λ c. c == byte "{") bytes ≡ true
+brace_first bytes is = subst (λ t. begins (λ c. c == byte "{") t ≡ true) (first_byte_at bytes 123 is (omega arith)) refl
+
+apart : (region : Region) → region ≡ regions.Specification → region ≡ regions.Literal → ⊥
+apart region specification literal = cc
+
+pub returns-in-123-Specification : goal.returns-in-123-Specification
+returns-in-123-Specification c quotes = record {
+  is = ap (λ named. text_in c.args.host c.args.region named) c.if-not-named.true;
+  brace = brace_first c.args.bytes.now c.in-123-Specification.is-0;
+  next = λ literal. absurd (apart c.args.region c.in-123-Specification.is-1 literal);
+}
+
+pub returns-in-Some : goal.returns-in-Some
+returns-in-Some c quotes = let bytes = c.args.bytes.now in record {
+  is = ap (λ named. text_in c.args.host c.args.region named) c.if-not-named-2.true;
+  brace = brace_first bytes c.in-123-Literal.is-0;
+  next = λ literal. (c.in-Some.field-0, rw (← take_rest bytes 1) c.in-Some.ensures, ne_eqb c.in-Some.field-0 123 c.in-Some.field-0-test.1);
+}
+
 -- a `}` that ends the field, and one that stands for itself
 pub returns-in-125-Specification : goal.returns-in-125-Specification
 unfolding field_move body_move between_move is_backslash is_break is_quote
@@ -44,7 +67,17 @@ pub returns-in-125-default : goal.returns-in-125-default
 returns-in-125-default c quotes = end_grows _ _ _ _ quotes c.in-125-Specification.is-0 (inr c.if-not-named-3.false)
 
 pub returns-in-125-default-2 : goal.returns-in-125-default-2
-returns-in-125-default-2 c quotes = end_grows _ _ _ _ quotes c.in-125-default.is-0 (inl (λ same. absurd (cc)))
+returns-in-125-default-2 c quotes = end_grows c.args.host c.args.region c.args.named c.args.bytes.now quotes c.in-125-default.is-0
+    (inl (λ same. apart c.args.region same c.in-125-default.is-1))
+
+pub text_move-requires-clause-some : goal.text_move-requires-clause-some
+text_move-requires-clause-some c = c.requires.some
+
+pub text_move-requires-clause-quote : goal.text_move-requires-clause-quote
+text_move-requires-clause-quote c = c.requires.quote
+
+pub returns-in-92-default : goal.returns-in-92-default
+returns-in-92-default c = c.escape_move.ensures
 
 -- what another byte does
 text_does : (c : After-text_move) → WouldDo (text_in c.args.host c.args.region c.args.named) c.args.bytes.now c.text_move.result

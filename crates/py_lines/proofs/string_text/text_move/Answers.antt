@@ -1,7 +1,6 @@
 use Rattle.std.proofs.Common.{◌≡◌, ◌∙◌, ℕ, Option, Some, None, List, drop, slice_index, sym, ap, subst, arith}
 use Rattle.std.proofs.lemmas.Bool.{ne_eqb}
 use Rattle.std.proofs.lemmas.Bool.Decides.{nat_tests}
-use Rattle.std.specs.Char.{len_utf8}
 use Rattle.py_lines.specs.Character.{is_backslash, is_break}
 use Rattle.py_lines.specs.Private.Run.{BeginsWith}
 use Rattle.py_lines.specs.Private.Scan.{IsTextAt, mode_from, quotes_in}
@@ -21,7 +20,8 @@ returns-in-Some-eq10-clause-does c at =
 
 pub returns-in-Some-eq3-clause-does : goal.returns-in-Some-eq3-clause-does
 returns-in-Some-eq3-clause-does c at =
-    (quotes_come c.args.mode _ _ _ c.args.bytes.now c.requires.quote c.in-Some.ensures c.if-c-quote-2.true (grind arith) at).0 (cc)
+    (quotes_come c.args.mode _ _ _ c.args.bytes.now c.requires.quote c.in-Some.ensures c.if-c-quote-2.true (grind arith) at).0
+    (sym c.in-Some-eq3.ensures ∙ ap Some c.in-Some-eq3.field-0-test)
 
 come_here : (c : Joined-c-quote-2) → IsTextAt (mode_from c.args.mode) c.args.quote c.args.is_long (slice_index c.args.bytes.now 0)
     → (o : Option ℕ) → c.if-c-quote-2.len ≡ o → Comes c.args.mode c.args.bytes.now o
@@ -33,7 +33,7 @@ come_here c at o told = rw (← told) (elim c.if-c-quote-2.branch [
       let first = first_byte_is bytes 92 (omega arith) (subst (BeginsWith bytes) w.in-Some-eq92.field-0-test c.in-Some.ensures) in
       rw (w.len-is, w.escape_len-len.ensures) (escapes_come c.args.mode _ _ _ bytes at c.requires.quote (ap is_backslash first)
       (plain_escapes _ c.args.quote c.args.is_long (slice_index bytes 1) (drop 2 bytes) (rw (← first) at) c.requires.quote))
-  | else-c-quote-2+in-Some-3 w ↦ let size : c.if-c-quote-2.len ≡ Some (len_utf8 c.in-Some.c) = cc in
+  | else-c-quote-2+in-Some-3 w ↦ let size = w.len-is ∙ ap Some w.len_utf8.ensures.value in
       rw size (grows_other c.args.mode _ _ _ bytes c.requires.quote c.in-Some.ensures (ne_eqb _ c.args.quote w.if-c-quote-2.false)
       (grind (arith, nat_tests)) (grind (arith, nat_tests)) at)
 ])

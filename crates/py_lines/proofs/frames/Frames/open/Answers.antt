@@ -1,33 +1,46 @@
-use Rattle.std.proofs.Common.{◌+◌, ap, ◌∙◌, arith}
-use Rattle.py_lines.proofs.FieldScans.FrameArrays.{opened}
+use Rattle.std.proofs.Common.{◌+◌, ap, ◌∙◌, arith, sym, refl}
+use Rattle.py_lines.proofs.FieldScans.FrameArrays.{opened, Opened}
+use Rattle.py_lines.proofs.frames.Frames.open.Goals.{Else-len-eq-MAX_DEPTH}
 use Rattle.py_lines.proofs.frames.Frames.open.Goals as goal
+
+-- one more is opened
+more : (c : Else-len-eq-MAX_DEPTH) → Opened c.self.inside.frames c.self.inside.depth c.args.frame c.args.self.now c.self.inside.fields
+more c = opened c.self.inside.frames c.self.inside.depth c.args.frame c.args.self.now c.self.inside.fields c.self.invariant c.self.view_is
+    (λ full. c.if-len-eq-MAX_DEPTH.false (c.len.ensures.is ∙ full))
 
 pub overflow_add-self-in-Field : goal.overflow_add-self-in-Field
 overflow_add-self-in-Field c =
-    let more = opened c.self.inside.frames c.self.inside.depth c.args.frame c.args.self.now c.self.inside.fields c.self.invariant c.self.view_is
-    (λ full. c.if-len-eq-MAX_DEPTH.false (c.len.ensures.is ∙ full)) in
-    omega (arith, more.few, more.short)
+    let all = more (goal.at.overflow_add-self-in-Field c).Else-len-eq-MAX_DEPTH in
+    omega (arith, all.few, all.short)
 
 pub invariant_of-self : goal.invariant_of-self
 invariant_of-self c =
-    let more = opened c.self.inside.frames c.self.inside.depth c.args.frame c.args.self.now c.self.inside.fields c.self.invariant c.self.view_is
-    (λ full. c.if-len-eq-MAX_DEPTH.false (c.len.ensures.is ∙ full)) in
-    (more.size, omega (arith, more.room), rw (more.is, c.in-Field.is) (ap (λ n. n + 1) more.counted))
+    let all = more (goal.at.invariant_of-self c).Else-len-eq-MAX_DEPTH in
+    (all.size, omega (arith, all.room), rw (all.is, c.in-Field.is) (ap (λ n. n + 1) all.counted))
 
 pub invariant_of-self-in_default : goal.invariant_of-self-in_default
 invariant_of-self-in_default c =
-    let more = opened c.self.inside.frames c.self.inside.depth c.args.frame c.args.self.now c.self.inside.fields c.self.invariant c.self.view_is
-    (λ full. c.if-len-eq-MAX_DEPTH.false (c.len.ensures.is ∙ full)) in
-    (more.size, omega (arith, more.room), rw (more.is, c.in_default.is) more.counted)
+    let all = more (goal.at.invariant_of-self-in_default c).Else-len-eq-MAX_DEPTH in
+    (all.size, omega (arith, all.room), rw (all.is, c.in_default.is) all.counted)
 
 pub returns-in-Field : goal.returns-in-Field
 returns-in-Field c =
-    let more = opened c.self.inside.frames c.self.inside.depth c.args.frame c.args.self.now c.self.inside.fields c.self.invariant c.self.view_is
-    (λ full. c.if-len-eq-MAX_DEPTH.false (c.len.ensures.is ∙ full)) in
-    (more.short, more.is)
+    let all = more (goal.at.returns-in-Field c).Else-len-eq-MAX_DEPTH in
+    (all.short, all.is)
 
 pub returns-in_default : goal.returns-in_default
 returns-in_default c =
-    let more = opened c.self.inside.frames c.self.inside.depth c.args.frame c.args.self.now c.self.inside.fields c.self.invariant c.self.view_is
-    (λ full. c.if-len-eq-MAX_DEPTH.false (c.len.ensures.is ∙ full)) in
-    (more.short, more.is)
+    let all = more (goal.at.returns-in_default c).Else-len-eq-MAX_DEPTH in
+    (all.short, all.is)
+
+pub returns-then-len-eq-MAX_DEPTH : goal.returns-then-len-eq-MAX_DEPTH
+returns-then-len-eq-MAX_DEPTH c = (sym c.len.ensures.is ∙ c.if-len-eq-MAX_DEPTH.true, refl)
+
+pub offset_bounds-self-inside-self-inside : goal.offset_bounds-self-inside-self-inside
+offset_bounds-self-inside-self-inside c = omega (arith, c.self.invariant.1)
+
+pub bounds-self-inside-self-inside : goal.bounds-self-inside-self-inside
+bounds-self-inside-self-inside c = (more (goal.at.bounds-self-inside-self-inside c).Else-len-eq-MAX_DEPTH).room
+
+pub overflow_add-self : goal.overflow_add-self
+overflow_add-self c = omega (arith, (more (goal.at.overflow_add-self c).Else-len-eq-MAX_DEPTH).room)

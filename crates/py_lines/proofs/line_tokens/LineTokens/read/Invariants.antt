@@ -3,7 +3,7 @@ use Rattle.py_lines.specs.Private.LineTokens.{HaveRead}
 use Rattle.py_lines.proofs.line_tokens.LineTokens.read.Given as goal
 
 abbrev pub invariant-pieces : goal.invariant-pieces
-invariant-pieces l = HaveRead l.text l.line l.start l.line_here l.self
+invariant-pieces l = HaveRead l.text l.end_len l.line l.start l.line_here l.self
 
 abbrev pub decreases-pieces : goal.decreases-pieces
 decreases-pieces l = l.len - l.start

@@ -1,6 +1,7 @@
-use Rattle.std.proofs.Common.{arith, subst, sym}
+use Rattle.std.proofs.Common.{arith, subst, sym, ap}
+use Rattle.py_lines.proofs.PassedPieces.Counts.{few_ends}
 use Rattle.py_lines.specs.Private.Marks.{HasMarks}
-use Rattle.py_lines.proofs.PassedPieces.LineFeeds.{base_kept, begins_there, block_next, block_passed, special_found}
+use Rattle.py_lines.proofs.PassedPieces.LineFeeds.{base_kept, begins_there, block_next, block_passed, special_found, counted_so}
 use Rattle.py_lines.proofs.passing.Passing.next.Goals as goal
 
 pub feeds-init : goal.feeds-init
@@ -19,3 +20,25 @@ pub returns : goal.returns
 returns c =
     special_found c.feeds.invariant c.next.result c.next.new.self
     (λ from has. c.next.ensures from (subst (HasMarks c.args.bytes.now from) (sym c.feeds-test.ensures.marks.0) has))
+
+pub pass_feeds-requires : goal.pass_feeds-requires
+pass_feeds-requires c =
+    let marked = c.requires.marked in
+    record {
+      fits = omega (arith, marked.base, marked.within, c.well_formed);
+      few = omega (arith, few_ends c.args.bytes.now c.args.self.now c.requires.counted, c.well_formed);
+    }
+
+pub advance-requires : goal.advance-requires
+advance-requires c = let marked = c.feeds.invariant.marked in omega (arith, marked.base, marked.within)
+
+pub pass_feeds-requires-in-feeds : goal.pass_feeds-requires-in-feeds
+pass_feeds-requires-in-feeds c = record {
+  fits = omega (arith, c.feeds-test.ensures.base, c.well_formed);
+  few = omega (arith, few_ends c.args.bytes.now c.feeds.self (counted_so c.feeds.invariant c.requires.counted), c.well_formed);
+}
+
+pub next-requires : goal.next-requires
+next-requires c =
+    let marked = c.feeds.invariant.marked in
+    omega (arith, marked.base, marked.within, ap (λ m. m.base) c.feeds-test.ensures.marks.0)

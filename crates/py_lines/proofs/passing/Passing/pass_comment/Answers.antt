@@ -1,4 +1,6 @@
-use Rattle.std.proofs.Common.{◌<◌, ◌∙◌, arith, length, sym}
+use Rattle.std.proofs.Common.{◌<◌, ◌∙◌, arith, length, sym, true, false, refl, slice_index}
+use Rattle.std.proofs.Math.Utf8.{low_scalar}
+use Rattle.std.proofs.lemmas.Bool.{both_ways}
 use Rattle.py_lines.specs.Character.{is_break, is_hash}
 use Rattle.py_lines.proofs.PassedPieces.Reads.{comment_begun, comment_item, comment_passed, reads_on}
 use Rattle.py_lines.proofs.passing.Passing.pass_comment.Goals as goal
@@ -29,5 +31,28 @@ returns c =
     record {
       passed = λ _ place b. comment_passed bytes at end c.specials.marks c.args.self.now _ b place c.requires.next read within
           c.requires.hash ends (c.keep.ensures bytes (within, read.next.special within) (read.next.rest within));
-      same = λ h. absurd (cc);
+      same = λ h. absurd (both_ways true h refl);
     }
+
+pub next-end-requires : goal.next-end-requires
+next-end-requires c = omega (arith, (c.requires.next.held c.requires.within).0, c.requires.within)
+
+pub bounds-bytes-end : goal.bounds-bytes-end
+bounds-bytes-end c = c.specials-test.true
+
+pub next-end-requires-in-specials : goal.next-end-requires-in-specials
+next-end-requires-in-specials c = omega (arith, (c.specials.invariant.next.held c.specials-test.true).0, c.specials-test.true)
+
+pub bounds-bytes-end-else-end-bytes : goal.bounds-bytes-end-else-end-bytes
+bounds-bytes-end-else-end-bytes c = omega (arith, c.if-end-bytes.false)
+
+pub char-bytes : goal.char-bytes
+char-bytes c = low_scalar (slice_index c.args.bytes.now c.specials.end) (omega (arith, c.type_inv.bytes c.specials.end))
+
+pub returns-then-end-bytes : goal.returns-then-end-bytes
+returns-then-end-bytes c = record { passed = λ so. absurd (both_ways false refl so); same = λ _. refl }
+
+pub keep-requires : goal.keep-requires
+keep-requires c =
+    let held = c.specials.invariant.next.held (omega (arith, c.if-end-bytes.false)) in
+    record { base = held.0; reach = held.1 }

@@ -1,4 +1,5 @@
-use Rattle.std.proofs.Common.{◌+◌, ◌∙◌, Some, ap, arith, drop, get_or-drop, length-drop, refl, slice_index, subst, sym}
+use Rattle.std.proofs.Common.{◌+◌, ◌∙◌, Some, ap, arith, drop, get_or-drop, length-drop, refl, slice_index, subst, sym, true, false, le_refl, length, ◌<◌, ◌≡◌}
+use Rattle.std.proofs.lemmas.Bool.{both_ways}
 use Rattle.py_lines.specs.Private.Passing.{MeetsString, TellsFields, word_before}
 use Rattle.py_lines.specs.Private.Scan.{quotes_in}
 use Rattle.py_lines.proofs.FieldScans.TextLengths.{rest_is}
@@ -7,7 +8,7 @@ use Rattle.py_lines.proofs.PassedPieces.FirstBytes.{bytes_from, first_later}
 use Rattle.py_lines.proofs.PassedPieces.Items.{empty_over}
 use Rattle.py_lines.proofs.PassedPieces.Passed.{passes_same}
 use Rattle.py_lines.proofs.PassedPieces.Reads.{second_quote}
-use Rattle.py_lines.proofs.passing.Passing.pass_string.Goals.{In-Some-eq1}
+use Rattle.py_lines.proofs.passing.Passing.pass_string.Goals.{In-Some-eq1, In-Some-eq2}
 use Rattle.py_lines.proofs.passing.Passing.pass_string.Goals as goal
 
 meets : (c : In-Some-eq1) → MeetsString c.args.bytes.now c.args.at c.args.self.now
@@ -38,14 +39,21 @@ returns-in-Some-true c = record { passed = c.pass_fields.ensures.passed; same = 
 pub returns-in-Some-false : goal.returns-in-Some-false
 returns-in-Some-false c = record { passed = λ so place. c.pass_text.ensures.passed so place c.args.frames.now; same = c.pass_text.ensures.same }
 
+-- two quotes stand there
+told : (c : In-Some-eq2) → Some 2 ≡ quotes_in (drop c.args.at c.args.bytes.now)
+told c = ap Some (sym c.in-Some-eq2.field-0-test) ∙ sym c.in-Some-eq2.is ∙ c.quotes_len.ensures ∙ ap quotes_in (rest_is c.args.bytes.now c.args.at)
+
+two_quotes : (c : In-Some-eq2) → (1 < length (drop c.args.at c.args.bytes.now)) × (slice_index (drop c.args.at c.args.bytes.now) 1 ≡ slice_index (drop c.args.at c.args.bytes.now) 0)
+two_quotes c = second_quote (drop c.args.at c.args.bytes.now) (told c)
+
 pub returns-in-Some-eq2 : goal.returns-in-Some-eq2
 returns-in-Some-eq2 c =
     let bytes = c.args.bytes.now in
     let at = c.args.at in
     let next = c.requires.next in
     let q = slice_index bytes at in
-    let told = ap Some (sym c.in-Some-eq2.field-0-test) ∙ sym c.in-Some-eq2.is ∙ c.quotes_len.ensures ∙ ap quotes_in (rest_is bytes at) in
-    let two = second_quote (drop at bytes) told in
+    let all = (goal.at.returns-in-Some-eq2 c).In-Some-eq2 in
+    let two = two_quotes all in
     record {
       passed = λ _ place. passes_same bytes at c.args.self.now next c.requires.within _ c.args.frames.now 2 place (omega arith)
           (omega (arith, two.0, length-drop at bytes)) refl refl
@@ -53,6 +61,47 @@ returns-in-Some-eq2 c =
           (omega (arith, two.0, length-drop at bytes)) c.requires.quote (sym (get_or-drop at bytes 1 0) ∙ two.1 ∙ first_later bytes at) refl))
           (c.pass.ensures (at + 1) (next.rest c.requires.within) (omega arith))
           (λ scan p frames. empty_over p q (next.special c.requires.within) c.requires.quote (drop (at + 1) bytes)
-          (told ∙ ap quotes_in (bytes_from bytes at c.requires.within)));
-      same = λ h. absurd (cc);
+          (told all ∙ ap quotes_in (bytes_from bytes at c.requires.within)));
+      same = λ h. absurd (both_ways true h refl);
     }
+
+pub slice_bounds-quotes_len-count : goal.slice_bounds-quotes_len-count
+slice_bounds-quotes_len-count c = c.requires.next.within
+
+pub slice_bounds-quotes_len-start : goal.slice_bounds-quotes_len-start
+slice_bounds-quotes_len-start c = c.requires.next.within
+
+pub slice_bounds-quotes_len-end : goal.slice_bounds-quotes_len-end
+slice_bounds-quotes_len-end c = le_refl (length c.args.bytes.now)
+
+pub slice_bounds-fields_after-count : goal.slice_bounds-fields_after-count
+slice_bounds-fields_after-count c = c.requires.next.after
+
+pub slice_bounds-fields_after-start : goal.slice_bounds-fields_after-start
+slice_bounds-fields_after-start c = c.requires.next.after
+
+pub slice_bounds-fields_after-end : goal.slice_bounds-fields_after-end
+slice_bounds-fields_after-end c = c.requires.next.within
+
+pub overflow_add-self : goal.overflow_add-self
+overflow_add-self c = omega (arith, (two_quotes c).0, length-drop c.args.at c.args.bytes.now, c.well_formed)
+
+pub overflow_add-at : goal.overflow_add-at
+overflow_add-at c = let two = two_quotes (goal.at.overflow_add-at c).In-Some-eq2 in omega (arith, two.0, length-drop c.args.at c.args.bytes.now, c.well_formed)
+
+pub pass-requires : goal.pass-requires
+pass-requires c =
+    let two = two_quotes (goal.at.pass-requires c).In-Some-eq2 in
+    record {
+      base = omega (arith, (c.requires.next.held c.requires.within).0);
+      within = omega (arith, two.0, length-drop c.args.at c.args.bytes.now);
+    }
+
+pub returns-in_default : goal.returns-in_default
+returns-in_default c = record { passed = λ so. absurd (both_ways false refl so); same = λ _. refl }
+
+pub returns-in_default-2 : goal.returns-in_default-2
+returns-in_default-2 c = record { passed = λ so. absurd (both_ways false refl so); same = λ _. refl }
+
+pub returns-in-None : goal.returns-in-None
+returns-in-None c = record { passed = λ so. absurd (both_ways false refl so); same = λ _. refl }

@@ -1,5 +1,4 @@
 use Rattle.std.proofs.Common.{◌≡◌, List, ℕ, ltb, arith}
-use Rattle.std.proofs.lemmas.Bool.Decides.{nat_tests}
 use Rattle.py_lines.specs.Character.{is_backslash, is_brace, is_space}
 use Rattle.py_lines.specs.declared.run.ByteRun.{ByteRun}
 use Rattle.py_lines.specs.Private.Run.{is_code_sign, is_in_run}
@@ -17,8 +16,7 @@ returns c =
     let ascii = compared ltb v 128 c.fits-lanes.0 in
     set_first (is_in_run c.args.self) v c.fits-lanes.0 (elim c.match-self.branch [
       | in-Word w ↦ by_arm v w.in-Word.is w.passing-is w.words-passing.ensures
-      | in-WideWord w ↦ by_arm v w.in-WideWord.is w.passing-is
-          (same _ _ v (either _ _ v w.words.ensures (none _ v ascii)) (λ x. grind (arith, nat_tests)))
+      | in-WideWord w ↦ by_arm v w.in-WideWord.is w.passing-is w.wide_words-passing.ensures
       | in-Space w ↦ by_arm v w.in-Space.is w.passing-is
           (same _ _ v (either _ _ v (either _ _ v w.equal.ensures w.equal-in-Space.ensures) w.equal-in-Space-2.ensures) (λ x. grind arith))
       | in-Body w ↦ by_arm v w.in-Body.is w.passing-is w.body-passing.ensures
@@ -30,5 +28,8 @@ returns c =
           (both _ _ v (same _ _ v (none _ v (either _ _ v w.equal-in-LongText.ensures w.equal-in-LongText-2.ensures)) (λ x. grind arith)) ascii)
       | in-Code w ↦ by_arm v w.in-Code.is w.passing-is
           (let signs = either _ _ v w.between.ensures w.between-in-Code.ensures in
-          same _ _ v (either _ _ v (either _ _ v w.words-in-Code.ensures signs) w.equal-in-Code.ensures) (λ x. grind arith))
+          same _ _ v (either _ _ v (either _ _ v w.words.ensures signs) w.equal-in-Code.ensures) (λ x. grind arith))
     ]) c.trailing_ones.ensures
+
+pub overflow_cast-result : goal.overflow_cast-result
+overflow_cast-result c = omega (arith, c.trailing_ones.type_inv)

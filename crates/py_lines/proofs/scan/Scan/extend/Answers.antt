@@ -1,4 +1,4 @@
-use Rattle.std.proofs.Common.{◌≤◌, ◌-◌, arith}
+use Rattle.std.proofs.Common.{◌≤◌, ◌-◌, ◌∙◌, arith, sym}
 use Rattle.py_lines.proofs.LineScan.LineStops.{ComesAlong, comes_along, gone}
 use Rattle.py_lines.proofs.LineScan.Reaching.{ends_over, reached_over}
 use Rattle.py_lines.proofs.scan.Scan.extend.Goals as goal
@@ -26,8 +26,34 @@ returns-in-Some c = let (before, ends) = c.in-Some.ensures in record {
   stops = λ m whole start r. ends_over start (c.pieces.invariant.goes m whole start r) c.take_pieces.new.self before c.in-Some.len ends;
 }
 
-pub take_items-requires-clause-way : goal.take_items-requires-clause-way
-take_items-requires-clause-way c = (gone c.requires.way (come (goal.at.take_items-requires-clause-way c).Joined-is_in_code).0.goes).way
+pub overflow_sub-self : goal.overflow_sub-self
+overflow_sub-self c = c.pieces.invariant.further
+
+pub slice_bounds-take_pieces-count : goal.slice_bounds-take_pieces-count
+slice_bounds-take_pieces-count c = c.pieces.invariant.within
+
+pub slice_bounds-take_pieces-start : goal.slice_bounds-take_pieces-start
+slice_bounds-take_pieces-start c = c.pieces.invariant.within
+
+pub take_pieces-requires : goal.take_pieces-requires
+take_pieces-requires c = record {
+  code = sym c.is_in_code.ensures ∙ c.if-is_in_code.true;
+  bytes = omega (arith, (gone c.requires.way c.pieces.invariant.goes).room, c.requires.bytes);
+}
+
+pub overflow_sub-self-in-pieces : goal.overflow_sub-self-in-pieces
+overflow_sub-self-in-pieces c = (come (goal.at.overflow_sub-self-in-pieces c).Joined-is_in_code).0.further
+
+pub slice_bounds-take_items-count : goal.slice_bounds-take_items-count
+slice_bounds-take_items-count c = (come (goal.at.slice_bounds-take_items-count c).Joined-is_in_code).0.within
+
+pub slice_bounds-take_items-start : goal.slice_bounds-take_items-start
+slice_bounds-take_items-start c = (come (goal.at.slice_bounds-take_items-start c).Joined-is_in_code).0.within
+
+pub take_items-requires : goal.take_items-requires
+take_items-requires c =
+    let at = gone c.requires.way (come (goal.at.take_items-requires c).Joined-is_in_code).0.goes in
+    record { way = at.way; bytes = omega (arith, at.room, c.requires.bytes) }
 
 pub returns-in-Some-take_items : goal.returns-in-Some-take_items
 returns-in-Some-take_items c = record {

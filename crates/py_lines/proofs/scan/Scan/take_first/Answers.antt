@@ -1,4 +1,5 @@
-use Rattle.std.proofs.Common.{◌-◌, length, take, drop, sym, ap, ◌∙◌, arith, length-drop}
+use Rattle.std.proofs.Common.{◌-◌, ◌≤◌, length, take, drop, sym, ap, ◌∙◌, arith, length-append, length-drop}
+use Rattle.std.specs.Prelude.{encode_utf8_all}
 use Rattle.std.proofs.lemmas.List.{take_rest}
 use Rattle.py_lines.specs.Private.Scan.{GoesOver}
 use Rattle.py_lines.specs.declared.scan.Scan.{Scan}
@@ -9,11 +10,11 @@ use Rattle.py_lines.proofs.scan.Scan.take_first.Goals.{Else-is_in_code}
 pub items-init : goal.items-init
 items-init c = record { first = at_start c.args.bytes.now c.requires.start }
 
-pub step-requires-clause-some : goal.step-requires-clause-some
-step-requires-clause-some c = let (p, is, begin) = c.requires.string in some_left c.items.invariant.first p is begin
-
-pub step-requires-clause-bytes : goal.step-requires-clause-bytes
-step-requires-clause-bytes c = let stands = first_stands c.items.invariant.first in omega (arith, c.requires.bytes, stands.room)
+pub step-requires : goal.step-requires
+step-requires c =
+    let (p, is, begin) = c.requires.string in
+    let stands = first_stands c.items.invariant.first in
+    record { some = some_left c.items.invariant.first p is begin; bytes = omega (arith, c.requires.bytes, stands.room); quote = stands.quote }
 
 pub pass-requires : goal.pass-requires
 pass-requires c =
@@ -45,10 +46,21 @@ over c =
 goes : (c : Else-is_in_code) → InFirst c.args.bytes.now c.step.new.self (drop c.in-Going.len c.items.rest.now)
 goes c = step_on c.items.invariant.first (over c) (sym c.is_in_code.ensures ∙ c.if-is_in_code.false)
 
-pub hold-rest-requires-clause-bytes : goal.hold-rest-requires-clause-bytes
-hold-rest-requires-clause-bytes c =
-    let stands = first_stands (goes (goal.at.hold-rest-requires-clause-bytes c).Else-is_in_code) in
-    omega (arith, c.requires.bytes, stands.room, ap length (take_rest c.items.rest.now c.in-Going.len))
+within : (c : Else-is_in_code) → c.in-Going.len ≤ length c.items.rest.now
+within c =
+    let item = over c in
+    omega (arith, item.size, ap length item.spell, length-append (encode_utf8_all item.run) (drop c.in-Going.len c.items.rest.now))
+
+pub slice_bounds-hold-count : goal.slice_bounds-hold-count
+slice_bounds-hold-count c = within (goal.at.slice_bounds-hold-count c).Else-is_in_code
+
+pub slice_bounds-hold-start : goal.slice_bounds-hold-start
+slice_bounds-hold-start c = within (goal.at.slice_bounds-hold-start c).Else-is_in_code
+
+pub hold-rest-requires : goal.hold-rest-requires
+hold-rest-requires c =
+    let stands = first_stands (goes (goal.at.hold-rest-requires c).Else-is_in_code) in
+    record { bytes = omega (arith, c.requires.bytes, stands.room, ap length (take_rest c.items.rest.now c.in-Going.len)); quote = stands.quote }
 
 pub items-smaller : goal.items-smaller
 items-smaller c =

@@ -1,10 +1,13 @@
-use Rattle.std.proofs.Common.{◌≡◌, refl, sym, subst, ap, ◌∙◌}
+use Rattle.std.proofs.Common.{◌≡◌, ◌==◌, ◌∷◌, arith, drop, length, length-append, refl, sym, subst, ap, ◌∙◌}
+use Rattle.std.specs.Prelude.{encode_utf8_all}
+use Rattle.std.specs.Str.{byte}
 use Rattle.py_lines.specs.FieldStrings.{specification}
 use Rattle.py_lines.specs.Private.FieldMachine.{FieldMode, closes, refused, text_place}
 use Rattle.py_lines.specs.Private.Scan.{GrowsInText, QuotesInText}
 use Rattle.py_lines.proofs.FieldScans.Ends.{specification_place}
 use Rattle.py_lines.proofs.FieldScans.Openings.{ends_over, opens_in}
 use Rattle.py_lines.proofs.FieldScans.TextItems.{breaks_there, closes_over, ends_specification_there, grows_over, waits_over}
+use Rattle.py_lines.proofs.Text.FirstCharacters.{begins_some}
 use Rattle.py_lines.proofs.scan.Scan.take_text.Goals as goal
 
 pub returns-in-Grows : goal.returns-in-Grows
@@ -53,3 +56,23 @@ returns-in-EndsSpecification c = λ t follow.
           (subst (λ (m : FieldMode). QuotesInText m c.args.bytes.now does.0 refused) follow.mode does.1) there place refl,
       refl,
     )
+
+pub overflow_add-self : goal.overflow_add-self
+overflow_add-self c =
+    let does = rw c.in-Grows.is at c.requires.does in
+    omega (arith, does.size, ap length does.spell, length-append (encode_utf8_all does.run) (drop c.in-Grows.len c.args.bytes.now), c.requires.bytes)
+
+pub pass-requires : goal.pass-requires
+pass-requires c =
+    let does = rw c.in-Closes.is at c.requires.does in
+    omega (arith, does.size, ap length does.spell, length-append does.run (does.quote ∷ drop c.in-Closes.len c.args.bytes.now), c.requires.bytes)
+
+pub pass-requires-in-OpensField : goal.pass-requires-in-OpensField
+pass-requires-in-OpensField c =
+    let does = rw c.in-OpensField.is at c.requires.does in
+    omega (arith, begins_some (λ c. c == byte "{") c.args.bytes.now does.brace, c.requires.bytes)
+
+pub end_field-requires : goal.end_field-requires
+end_field-requires c =
+    let does = rw c.in-EndsField.is at c.requires.does in
+    omega (arith, begins_some (λ c. c == byte "}") c.args.bytes.now does.1, c.requires.bytes)

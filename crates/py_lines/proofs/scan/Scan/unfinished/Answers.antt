@@ -1,4 +1,4 @@
-use Rattle.std.proofs.Common.{◌≡◌, ℕ, Bool, Option, Some, None, true, false, refl, sym, ap, ◌∙◌, arith}
+use Rattle.std.proofs.Common.{◌≡◌, Bool, Option, Some, None, true, false, refl, sym, ap, ◌∙◌, arith}
 use Rattle.std.proofs.lemmas.Bool.{le-ltb, lt-ltb}
 use Rattle.py_lines.specs.declared.frames.Frame.{Frame}
 use Rattle.py_lines.specs.declared.frames.Frame.TheVariants as frame
@@ -10,6 +10,7 @@ use Rattle.py_lines.specs.declared.mode.Mode.TheVariants as opens
 use Rattle.py_lines.specs.Character.{is_quote}
 use Rattle.py_lines.specs.Private.Frames.{IsInnermostFrame}
 use Rattle.py_lines.specs.Private.Scan.{EndsOpen, is_text, lone_of}
+use Rattle.py_lines.proofs.FieldScans.CodeItems.{code_mode}
 use Rattle.py_lines.proofs.FieldScans.Ends.{IsStringOf, brace_left, code_left, frame_fault, quote_left, slash_left, specification_left, string_left}
 use Rattle.py_lines.proofs.scan.Scan.unfinished.Goals as goal
 use Rattle.py_lines.proofs.scan.Scan.unfinished.Goals.{In_default-3, In-Fields, In-Fields-default-Literal-false, In_default}
@@ -55,14 +56,6 @@ returns-in-Short c = string_left c.args.self.now c.args.bytes.now c.requires.pen
 
 pub returns-in-Long : goal.returns-in-Long
 returns-in-Long c = string_left c.args.self.now c.args.bytes.now c.requires.pending true _ (rw c.in-Long.is refl) refl refl
-
--- no text of a string is open
-code_mode : (m : OpenMode) → ((q : ℕ) → m ≡ opens.Short q → ⊥) → ((q : ℕ) → m ≡ opens.Long q → ⊥)
-    → ((host : StringWithFields) (region : Region) (named : Bool) → m ≡ opens.Fields host region named → ⊥) → is_text m ≡ false
-code_mode (opens.Short q) short long fields = absurd (short q refl)
-code_mode (opens.Long q) short long fields = absurd (long q refl)
-code_mode (opens.Fields host region named) short long fields = absurd (fields host region named refl)
-code_mode m short long fields = refl
 
 code : (c : In_default) → is_text c.args.self.now.mode ≡ false
 code c = code_mode c.args.self.now.mode c.in_default.not-Short c.in_default.not-Long c.in_default.not-Fields

@@ -1,8 +1,8 @@
-use Rattle.std.proofs.Common.{ap, ◌∙◌, arith, subst}
+use Rattle.std.proofs.Common.{ap, ◌∙◌, arith, subst, sym}
 use Rattle.std.proofs.lemmas.Result.{err_from_is_err_and}
 use Rattle.py_lines.specs.Private.Feed.{StandsSo}
 use Rattle.py_lines.specs.ScannerState.{ScannerState}
-use Rattle.py_lines.proofs.Feeds.EndedHeld.{finish_errs, finish_read, finish_short, same_room}
+use Rattle.py_lines.proofs.Feeds.EndedHeld.{ends_known, finish_errs, finish_read, finish_short, same_room}
 use Rattle.py_lines.proofs.Feeds.ReadyLines.{none_ready}
 use Rattle.py_lines.proofs.scanner.Scanner.finish.Goals as goal
 
@@ -42,3 +42,12 @@ invariant_of-self-2 c = (finish_read c.self.invariant c.in_default.is c.in_ok-en
 
 pub returns : goal.returns
 returns c = record { finishes = rw (← c.self.view_is) (finish_read c.self.invariant c.in_default.is c.in_ok-end_text.ensures c.in_ok-read_tokens.ensures).0 }
+
+pub returns-in-Some : goal.returns-in-Some
+returns-in-Some c = record { finishes = ends_known c.args.self.now (ap (λ (s : ScannerState). s.fault) (sym c.self.view_is) ∙ c.in-Some.is) }
+
+pub returns-in_err-read_tokens : goal.returns-in_err-read_tokens
+returns-in_err-read_tokens c =
+    let f = c.self.inside.feed in
+    let (error, is, same) = err_from_is_err_and c.from_residual-in_err-read_tokens.result c.from_residual-in_err-read_tokens.ensures.1 in
+    record { finishes = rw (← c.self.view_is, is, same) (finish_short c.self.invariant c.in_default.is c.in_ok-end_text.ensures (none_ready f f.ready (ap (λ (s : ScannerState). s.ready) c.self.view_is ∙ c.requires.released)) (omega (arith, c.len-all.ensures)) _ c.in_err-read_tokens.ensures).0 }

@@ -1,13 +1,10 @@
-use Rattle.std.proofs.Common.{rules, ◌≡◌, take, length, length-take, arith, sym, subst, ap, ◌∙◌}
+use Rattle.std.proofs.Common.{rules, take, length-take, arith, sym, subst, ap, ◌∙◌}
 use Rattle.std.proofs.lemmas.List.{length-take-le}
-use Rattle.std.proofs.lemmas.Bool.Decides.{Decides-eqb}
-use Rattle.std.proofs.lemmas.Slice.Eq.{starts_is}
-use Rattle.std.proofs.Math.Seq.{take-append_seam}
 use Rattle.py_lines.specs.LogicalLine.{line_ends}
 use Rattle.py_lines.specs.ScannerState.{PassesPieceLines, ScannerState, StandsAtLine}
 use Rattle.py_lines.specs.Private.LineState.{BeginsAnew}
 use Rattle.py_lines.specs.Private.Feed.{Feed, IsSoundFeed, LineState, ready_of, scanning_of}
-use Rattle.py_lines.proofs.Feeds.PassedLines.{begun_none, end_within, none_found, passed}
+use Rattle.py_lines.proofs.Feeds.PassedLines.{began_with, begun_none, end_within, none_found, passed}
 use Rattle.py_lines.proofs.Feeds.LastBytes.{ends_with_return, one_most}
 use Rattle.py_lines.proofs.Feeds.ReadyLines.{none_is}
 use Rattle.py_lines.proofs.LineScan.LineCount.{few_first}
@@ -54,8 +51,7 @@ some_passed : (c : goal.After-restart-2) → StandsAtLine (scanning_of c.self.in
     PassesPieceLines (scanning_of c.self.inside.feed) c.args.bytes.now c.args.before c.pass_lines-len.result.0 (scanning_of new) × IsSoundFeed new
 some_passed c at =
     let f = c.self.inside.feed in let bytes = c.args.bytes.now in let lines = c.pass_lines-len.ensures.lines in
-    let begins = rw c.deref.ensures.value at ((starts_is Decides-eqb bytes _ c.starts_with-begins.result c.starts_with-begins.ensures.value).0 c.if-not-begins.false) in
-    let began : take (length f.held.items) bytes ≡ f.held.items = ap (take (length f.held.items)) begins ∙ take-append_seam f.held.items _ in
+    let began = began_with bytes f.held.items c.deref.result.now c.starts_with-begins.result c.deref.ensures.value c.starts_with-begins.ensures.value c.if-not-begins.false in
     passed f bytes c.args.before c.min.result c.pass_lines-len.result.0 at began c.min.ensures lines c.drop-drain.new.self.0
     c.ends_with.result c.ends_with.ensures.value (search rules)
     (c.pass_lines-len.ensures.ends ∙ ap line_ends (sym lines.spell) ∙ line_ends-encoded lines.read)

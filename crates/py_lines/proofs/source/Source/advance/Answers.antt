@@ -9,7 +9,7 @@ use Rattle.py_lines.specs.declared.fault.LexError.{LexError}
 use Rattle.py_lines.specs.declared.line_state.LineState.{LineState}
 use Rattle.py_lines.specs.declared.scan.LineFault.{LineFault}
 use Rattle.py_lines.specs.Private.LineState.{HasNextFault, HasNextLine, IsFaultAfter, KeepsFault, passed, rescanned, with_tokens}
-use Rattle.py_lines.specs.Private.LineTokens.{AreTokensOf, HoldsTokens, IsLineAfter}
+use Rattle.py_lines.specs.Private.LineTokens.{AreLineOf, AreTokensOf, HoldsTokens, IsLineAfter}
 use Rattle.py_lines.specs.Private.Source.{line_between}
 use Rattle.py_lines.proofs.FieldScans.TextLengths.{rest_is, rest_of}
 use Rattle.py_lines.proofs.Lexings.FirstLines.{all_first}
@@ -29,15 +29,15 @@ record Moves (s new : LineState) (bytes : List ℕ) (stop : ℕ) (pieces : List 
 
 moves : {s scanned read new : LineState} {bytes : List ℕ} {stop end_len line : ℕ} (h : HasNextLine s.place s.line bytes stop end_len)
     → scanned ≡ rescanned s scanned → read ≡ with_tokens scanned read → new ≡ passed read stop line
-    → HoldsTokens (take stop bytes) scanned.line read.tokens → IsLineAfter scanned.line (take stop bytes) line → Moves s new bytes stop h.is.pieces
-moves {s} {scanned} {read} {new} {bytes} {stop} h first second third tokens after =
+    → HoldsTokens (take stop bytes) end_len scanned.line read.tokens → IsLineAfter scanned.line (take stop bytes) end_len line → Moves s new bytes stop h.is.pieces
+moves {s} {scanned} {read} {new} {bytes} {stop} {end_len} h first second third tokens after =
     let u = h.is.pieces in
-    let text = h.is.text in
+    let text : AreLineOf (take stop bytes) end_len u = (h.is.text, h.is.ends) in
     let same = ap (λ (t : LineState). t.line) first in
     let kept = ap (λ (t : LineState). t.tokens) third in record {
       place = ap (λ (t : LineState). t.place) third ∙ ap (λ (t : LineState). t.place + stop) (second ∙ ap (λ t. with_tokens t read) first);
       line = ap (λ (t : LineState). t.line) third ∙ after u text ∙ ap (λ n. n + line_ends (spelled u)) same;
-      few = omega (arith, line_ends-bytes (spelled u), ap length text.spell, length-take-le stop bytes h.is.within);
+      few = omega (arith, line_ends-bytes (spelled u), ap length h.is.text.spell, length-take-le stop bytes h.is.within);
       fault = ap (λ (t : LineState). t.fault) third ∙ ap (λ (t : LineState). t.fault) (second ∙ ap (λ t. with_tokens t read) first);
       tokens = subst (λ t. AreTokensOf u s.line t) (sym kept) (subst (λ (n : ℕ). AreTokensOf u n read.tokens) same (tokens u text));
     }
