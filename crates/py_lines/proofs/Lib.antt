@@ -53,7 +53,8 @@
 -- The tokens of a whole line (proofs/LineTokens): they are read from its text alone, piece by piece, and so for all pieces
 -- that the text spells. Each class of pieces begins with other bytes. A word, a space or a comment is the run of bytes that
 -- the text begins with, since what follows it can't go on with it. A string is what the scan closes first (FirstString): by one
--- reading no other piece stands there. So what was read is always the first part of the line's pieces, and at the end all of them.
+-- reading no other piece stands there. So what was read is always the first part of the line's pieces, and at the end all of them. A simple
+-- line is read before its end is known: each of its pieces is the same wherever after it the line ends (Anyway).
 --
 -- Bytes that open or close something (proofs/SpecialBytes), and LF, are found by masks of 64 bytes.
 --

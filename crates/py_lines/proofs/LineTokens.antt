@@ -7,3 +7,4 @@ pub mod StringRuns
 pub mod FirstString
 pub mod Strings
 pub mod Lines
+pub mod Anyway

@@ -10,11 +10,13 @@ pub mod FieldText
 pub mod LineScan
 pub mod LineEnds
 pub mod LineState
+pub mod SimpleLine
 pub mod LineTokens
 pub mod Source
 pub mod Run
 pub mod Marks
 pub mod Passing
+pub mod LongStrings
 pub mod TakenPieces
 pub mod WholeLines
 pub mod Feed

@@ -2,7 +2,7 @@
 
 ghost use Rattle.std.specs.Prelude.{◌≡◌, ◌<◌, ◌≤◌, ℕ, true, length, not, slice_index};
 ghost use Rattle.py_lines.specs.Character.{is_line_feed};
-ghost use Rattle.py_lines.specs.Private.Marks.{is_of_class, is_plain, is_set};
+ghost use Rattle.py_lines.specs.Private.Marks.{CountsFeeds, is_of_class, is_plain, is_set};
 
 use crate::class::Class::{
     Backslash as K, Closing as E, Hash as H, LineFeed as L, Opening as B, Operator as O,
@@ -86,7 +86,8 @@ pub fn special64(bytes: &[u8]) -> u64
 #[inline(always)]
 pub fn feeds64(bytes: &[u8]) -> u64
     requires { 64 ≤ length bytes.now }
-    ensures { (k : ℕ) → k < 64 → is_set result k ≡ is_line_feed (slice_index bytes.now k) }
+    ensures bits { (k : ℕ) → k < 64 → is_set result k ≡ is_line_feed (slice_index bytes.now k) }
+    ensures count { CountsFeeds bytes.now result }
 {
     u8x64::from_slice(bytes)
         .simd_eq(u8x64::splat(b'\n'))

@@ -19,6 +19,7 @@ mod passing;
 mod run;
 mod scan;
 mod scanner;
+mod simple_line;
 mod source;
 mod string_text;
 mod token;

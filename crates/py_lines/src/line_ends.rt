@@ -6,9 +6,9 @@ ghost use Rattle.memchr.specs.Find.{is_byte};
 ghost use Rattle.py_lines.specs.LogicalLine.{line_ends};
 ghost use Rattle.py_lines.specs.Private.LineEnds.{HasOuterEnd};
 
-use std::simd::prelude::*;
+use crate::class::feeds64;
 
-/// How many of these bytes are LF. They are looked at 64 at a time.
+/// How many of these bytes are LF. They are looked at 64 at a time, the last ones with spaces after them.
 #[inline(always)]
 fn line_feeds(bytes: &[u8]) -> u64
     ensures { result ≡ count_by (is_byte 10) bytes.now }
@@ -16,11 +16,12 @@ fn line_feeds(bytes: &[u8]) -> u64
     let mut count = 0;
     let mut rest = bytes;
     while rest.len() >= 64 {
-        let lanes = u8x64::from_slice(rest);
-        count += lanes.simd_eq(u8x64::splat(b'\n')).to_bitmask().count_ones() as u64;
+        count += feeds64(rest).count_ones() as u64;
         rest = &rest[64..];
     }
-    count + memchr::memchr_iter(b'\n', rest).count() as u64
+    let mut block = [b' '; 64];
+    block[..rest.len()].copy_from_slice(rest);
+    count + feeds64(&block).count_ones() as u64
 }
 
 /// How many line ends the bytes of characters hold: LF, CR LF and CR (Python Language Reference, 2.1.2).

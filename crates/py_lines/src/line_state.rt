@@ -3,12 +3,14 @@
 ghost use Rattle.py_lines.specs.Private.LineScan.{first_open};
 ghost use Rattle.py_lines.specs.Private.LineState.{first_mode};
 ghost use Rattle.std.specs.Prelude.{◌≡◌, ℕ, ◌+◌, ◌<◌, ◌≤◌, ◌^◌, length, take, IfOk, IsUtf8, OnOk};
+ghost use Rattle.std.specs.Option.{IfSome};
 
 use crate::fault::{Fault, FaultKind, LexError};
 use crate::line_ends::line_ends;
 use crate::line_tokens::LineTokens;
 use crate::mode::Mode;
 use crate::scan::{LineFault, Scan, Stop};
+use crate::simple_line::read_simple_line;
 use crate::unit::Unit;
 use std::alloc::{AllocError, Global};
 
@@ -37,8 +39,8 @@ pub struct LineState {
 impl LineState {
     ghost use Rattle.py_lines.specs.Token.{EachLiesIn};
     ghost use Rattle.py_lines.specs.UnitLine.{line_in};
-    ghost use Rattle.py_lines.specs.Private.LineState.{BeginsAnew, BeginsAt, KeepsFault, ScansLine};
-    ghost use Rattle.py_lines.specs.Private.LineState.{first_mode, passed, read_line, rescanned, with_tokens};
+    ghost use Rattle.py_lines.specs.Private.LineState.{BeginsAnew, BeginsAt, KeepsFault, ReadsLine, ScansLine};
+    ghost use Rattle.py_lines.specs.Private.LineState.{first_mode, passed, read_line, reread, rescanned, with_tokens};
     ghost use Rattle.py_lines.specs.Private.LineTokens.{HoldsTokens, IsLineAfter, IsLineText};
 
     /// At this byte of a text, which is on this line. Nothing of the next line is read.
@@ -71,6 +73,20 @@ impl LineState {
         self.scan.restart(first_mode(self.place));
     }
 
+    /// Reads the line with which the last bytes of a text begin, with its tokens, if it is simple and no text's first: how many bytes its line
+    /// end has, and the line after it. `None` promises nothing of it.
+    pub fn read_simple(&mut self, bytes: &[u8]) -> Result<Option<(usize, u64)>, AllocError>
+        requires { self.old.line + length bytes.now < 2 ^ 64 }
+        ensures same { self.new ≡ reread self.old self.new }
+        ensures reads { IfOk result (λ r. IfSome r (λ read. ReadsLine self.old bytes.now read.0 read.1 self.new)) }
+    {
+        if self.place == 0 {
+            return Ok(None);
+        }
+        self.scan.restart(Mode::Free);
+        read_simple_line(&mut self.scan, &mut self.tokens, bytes, self.line)
+    }
+
     /// Scans the line with which the last bytes of a text begin, up to its end or the text's: how many bytes its line end has, or what is wrong.
     pub fn scan_line(&mut self, bytes: &[u8]) -> Result<usize, LineFault>
         requires { 0 < length bytes.now }
@@ -99,9 +115,8 @@ impl LineState {
         ensures after { IfOk result (IsLineAfter self.old.line (take self.old.scan.stop bytes.now) end_len) }
     {
         let stop = self.scan.stop;
-        let read = self
-            .tokens
-            .read(&mut self.scan, bytes, stop, end_len, self.line);
+        let text = &bytes[..stop];
+        let read = self.tokens.read(&mut self.scan, text, end_len, self.line);
         self.scan.stop = stop;
         read
     }

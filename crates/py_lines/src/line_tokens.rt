@@ -1,12 +1,14 @@
 //! The tokens of a whole logical line, which are read from its text alone.
 
-ghost use Rattle.std.specs.Prelude.{◌≡◌, ℕ, ◌+◌, ◌<◌, ◌≤◌, ◌^◌, false, true, [], drop, length, take, IfOk, OnOk};
+ghost use Rattle.std.specs.Prelude.{◌≡◌, ℕ, ◌+◌, ◌<◌, ◌≤◌, ◌^◌, false, true, [], drop, length, slice_index, take, IfOk, MatchOption, OnOk};
+ghost use Rattle.std.specs.Char.{is_ascii_digit};
 ghost use Rattle.py_lines.specs.Character.{is_quote, is_space};
 ghost use Rattle.py_lines.specs.Piece.{Piece, begins, string};
 ghost use Rattle.py_lines.specs.Private.Run.{IsRunOf, is_wide_word, word_spelling};
 ghost use Rattle.py_lines.specs.Private.Machine.{is_field_spelling};
+ghost use Rattle.py_lines.specs.Private.Marks.{is_of_class};
 ghost use Rattle.py_lines.specs.Private.LineTokens.{AddsPiece, BeginWithPiece, HoldsTokens, IsFirstPiece, IsLineAfter, IsLineText};
-ghost use Rattle.py_lines.specs.Private.LineTokens.{ReadsPiece, is_prefix_word, line_end_len, mark_len};
+ghost use Rattle.py_lines.specs.Private.LineTokens.{ReadsAnyway, ReadsPiece, StaysUnread, is_prefix_word, line_end_len, mark_len, word_kind};
 ghost use Rattle.py_lines.specs.Private.LineTokens.{string_piece, token_of, token_piece};
 
 use crate::character::{is_quote, is_space};
@@ -47,16 +49,24 @@ fn string_len(scan: &mut Scan, bytes: &[u8], prefix: usize, has_fields: bool) ->
     (scan.stop, line_ends(&bytes[..scan.stop]))
 }
 
-/// The word that the bytes begin with, or the string whose prefix it is: what token that is, how many bytes it has, and how many line ends
-/// it holds. `ahead` are these bytes, and maybe more.
-#[inline(always)]
-fn word_or_string(scan: &mut Scan, bytes: &[u8], ahead: &[u8]) -> (TokKind, usize, u64)
+/// The kind of a word that begins with this byte: a number begins with a digit (Python Language Reference, 2.4).
+fn word_kind(first: u8) -> TokKind
+    ensures { result ≡ word_kind (is_ascii_digit first) }
+{
+    if first.is_ascii_digit() {
+        TokKind::Number
+    } else {
+        TokKind::Name
+    }
+}
+
+/// The word that the bytes begin with, or the string whose prefix it is: its kind, how many bytes it has, and how many line ends.
+fn word_or_string(scan: &mut Scan, bytes: &[u8]) -> (TokKind, usize, u64)
     requires piece { (p : Piece) × BeginWithPiece bytes.now p }
     requires word { begins is_wide_word bytes.now ≡ true }
-    requires ahead { take (length bytes.now) ahead.now ≡ bytes.now }
     ensures { IsFirstPiece bytes.now (token_piece result.0 result.1 result.2) }
 {
-    let len = ByteRun::WideWord.len_in(ahead).min(bytes.len());
+    let len = ByteRun::WideWord.len_in(bytes);
     if len < bytes.len() && is_quote(bytes[len] as char) {
         let spelling = Spelling::of_word(&bytes[..len]);
         if spelling.is_prefix() {
@@ -64,16 +74,10 @@ fn word_or_string(scan: &mut Scan, bytes: &[u8], ahead: &[u8]) -> (TokKind, usiz
             return (TokKind::Str, whole, line_ends);
         }
     }
-    let kind = if bytes[0].is_ascii_digit() {
-        TokKind::Number
-    } else {
-        TokKind::Name
-    };
-    (kind, len, 0)
+    (word_kind(bytes[0]), len, 0)
 }
 
 /// How many bytes the mark has that the bytes begin with, if they begin with one.
-#[inline(always)]
 fn mark_len(bytes: &[u8]) -> usize
     ensures { result ≡ mark_len bytes.now }
 {
@@ -119,7 +123,13 @@ impl LineTokens {
 
     /// Adds a token of so many bytes that stands at this byte of the line, and on this line of the text.
     #[inline(always)]
-    fn add(&mut self, kind: TokKind, start: usize, len: usize, line: u64) -> Result<(), AllocError>
+    pub fn add(
+        &mut self,
+        kind: TokKind,
+        start: usize,
+        len: usize,
+        line: u64,
+    ) -> Result<(), AllocError>
         requires { start + len < 2 ^ 64 }
         ensures { OnOk result (AddsPiece self.old (token_of kind) start (start + len) line self.new) }
     {
@@ -137,88 +147,119 @@ impl LineTokens {
         Ok(())
     }
 
-    /// Reads the piece with which the bytes begin, which is no mark, and stands at this byte of the line and on this line of the text: how
-    /// many bytes it has, and how many line ends it holds. `ahead` are these bytes, and maybe more.
-    #[tactic(auto, using(crate::proofs::LineTokens::FirstCharacters::some_bytes))]
+    /// Reads the indentation of a line that begins with these bytes, after a mark. No token is read yet.
     #[inline(always)]
+    pub fn begin(&mut self, bytes: &[u8])
+        ensures kind { self.new.kind ≡ UnitKind.Blank }
+        ensures indent { IsRunOf is_space bytes.now self.new.indent }
+        ensures tokens { self.new.tokens.items ≡ [] }
+    {
+        self.kind = UnitKind::Blank;
+        self.indent = space_len(bytes);
+        self.tokens.clear();
+    }
+
+    /// Reads the piece that stands at this byte of a line, and on this line of the text, where it is the same wherever after it the line ends: how
+    /// many bytes it has, and how many line ends it holds. `None` where a byte of this class, as the first one is, may begin another piece.
+    #[inline(always)]
+    pub fn read_anyway(
+        &mut self,
+        class: Class,
+        bytes: &[u8],
+        start: usize,
+        line: u64,
+    ) -> Result<Option<(usize, u64)>, AllocError>
+        requires within { start < length bytes.now }
+        requires class { is_of_class class (slice_index bytes.now start) ≡ true }
+        ensures { IfOk result (λ r. MatchOption r (StaysUnread class self.old self.new) (λ piece.
+            ReadsAnyway (drop start bytes.now) self.old start line piece.0 piece.1 self.new)) }
+    {
+        let rest = &bytes[start..];
+        match class {
+            Class::Word => {
+                let len = ByteRun::WideWord.len_in(rest);
+                // It may be the prefix of a string.
+                if len < rest.len() && is_quote(rest[len] as char) {
+                    return Ok(None);
+                }
+                self.add(word_kind(rest[0]), start, len, line)?;
+                Ok(Some((len, 0)))
+            }
+            Class::Operator | Class::Opening | Class::Closing => {
+                self.add(TokKind::Op(rest[0]), start, 1, line)?;
+                Ok(Some((1, 0)))
+            }
+            Class::Hash => {
+                let len = 1 + comment_run(&rest[1..]);
+                self.add(TokKind::Remark, start, len, line)?;
+                Ok(Some((len, 0)))
+            }
+            Class::Space => Ok(Some((space_len(rest), 0))),
+            Class::LineFeed => Ok(Some((1, 1))),
+            _ => Ok(None),
+        }
+    }
+
+    /// Reads the piece that stands at this byte of a line, and on this line of the text, and is no mark: how many bytes it has, and how many line
+    /// ends it holds.
     fn read_piece(
         &mut self,
         scan: &mut Scan,
-        bytes: &[u8],
-        ahead: &[u8],
+        text: &[u8],
         start: usize,
         line: u64,
     ) -> Result<(usize, u64), AllocError>
-        requires piece { (p : Piece) × BeginWithPiece bytes.now p }
-        requires ahead { take (length bytes.now) ahead.now ≡ bytes.now }
-        requires fits { start + length bytes.now < 2 ^ 64 }
-        ensures { IfOk result (λ r. ReadsPiece bytes.now self.old start line r.0 r.1 self.new) }
+        requires within { start < length text.now }
+        requires piece { (p : Piece) × BeginWithPiece (drop start text.now) p }
+        ensures { IfOk result (λ r. ReadsPiece (drop start text.now) self.old start line r.0 r.1 self.new) }
     {
-        let first = bytes[0];
-        match Class::of(first) {
+        let rest = &text[start..];
+        let class = Class::of(rest[0]);
+        if let Some(piece) = self.read_anyway(class, text, start, line)? {
+            return Ok(piece);
+        }
+        match class {
             Class::Word | Class::Wide => {
-                let (kind, len, line_ends) = word_or_string(scan, bytes, ahead);
+                let (kind, len, line_ends) = word_or_string(scan, rest);
                 self.add(kind, start, len, line)?;
                 Ok((len, line_ends))
             }
-            Class::Operator | Class::Opening | Class::Closing => {
-                self.add(TokKind::Op(first), start, 1, line)?;
-                Ok((1, 0))
-            }
             Class::Quote => {
-                let (len, line_ends) = string_len(scan, bytes, 0, false);
+                let (len, line_ends) = string_len(scan, rest, 0, false);
                 self.add(TokKind::Str, start, len, line)?;
                 Ok((len, line_ends))
-            }
-            Class::Hash => {
-                let len = 1 + comment_run(&bytes[1..]);
-                self.add(TokKind::Remark, start, len, line)?;
-                Ok((len, 0))
             }
             // A join of two lines (Python Language Reference, 2.1.5).
             Class::Backslash => {
                 self.kind = UnitKind::Code;
-                Ok((1 + line_end_len(&bytes[1..]), 1))
+                Ok((1 + line_end_len(&rest[1..]), 1))
             }
-            Class::LineFeed | Class::Return => Ok((line_end_len(bytes), 1)),
-            Class::Space => Ok((space_len(bytes), 0)),
-            Class::Other => unreachable!(),
+            Class::Return => Ok((line_end_len(rest), 1)),
+            _ => unreachable!(),
         }
     }
 
-    /// Reads the tokens of a whole logical line without fault, which begins on this line, and answers the line after it. Its text is
-    /// the first `len` of these bytes, and the last `end_len` of them are its line end. The scan goes through the strings that aren't
-    /// simple. If there is no memory for the tokens, nothing is said of those that it holds.
+    /// Reads the tokens of a whole logical line without fault, which has this text and begins on this line: the line after it. Its last
+    /// `end_len` bytes are its line end. The scan goes through its strings. Without memory nothing is said of the tokens that are held.
     pub fn read(
         &mut self,
         scan: &mut Scan,
-        bytes: &[u8],
-        len: usize,
+        text: &[u8],
         end_len: usize,
         line: u64,
     ) -> Result<u64, AllocError>
-        requires within { len ≤ length bytes.now }
-        requires text { IsLineText (take len bytes.now) end_len }
-        requires lines { line + len < 2 ^ 64 }
-        ensures tokens { OnOk result (HoldsTokens (take len bytes.now) end_len line self.new) }
-        ensures after { IfOk result (IsLineAfter line (take len bytes.now) end_len) }
+        requires text { IsLineText text.now end_len }
+        requires lines { line + length text.now < 2 ^ 64 }
+        ensures tokens { OnOk result (HoldsTokens text.now end_len line self.new) }
+        ensures after { IfOk result (IsLineAfter line text.now end_len) }
     {
-        let text = &bytes[..len];
         let mark = mark_len(text);
-        self.kind = UnitKind::Blank;
-        self.indent = space_len(&text[mark..]);
-        self.tokens.clear();
+        self.begin(&text[mark..]);
         let mut start = mark + self.indent;
         let mut line_here = line;
-        let content_len = len - end_len;
+        let content_len = text.len() - end_len;
         'pieces: while start < content_len {
-            let (piece, line_ends) = self.read_piece(
-                scan,
-                &text[start..],
-                &bytes[start..],
-                start,
-                line_here,
-            )?;
+            let (piece, line_ends) = self.read_piece(scan, text, start, line_here)?;
             line_here += line_ends;
             start += piece;
             // Mostly no space follows, or one.

@@ -2,11 +2,12 @@
 
 ghost use Rattle.std.specs.Prelude.{◌≡◌, ℕ, ◌+◌, ◌<◌, ◌≤◌, ◌^◌, ◌==◌, true, false, IsTrue, List, Some, length, slice_index};
 ghost use Rattle.py_lines.specs.Character.{is_hash, is_quote};
+ghost use Rattle.py_lines.specs.Private.LongStrings.{HasLongString};
 ghost use Rattle.py_lines.specs.Private.Marks.{FindsNext, HasMarks};
 ghost use Rattle.py_lines.specs.Private.Passing.{IsCounted, PassesBlock, PassesPiece, PassesSo, PassesSpecial};
 ghost use Rattle.py_lines.specs.Private.Passing.{FindsSpecial, MeetsString, TellsFields, tail_of, word_before};
 ghost use Rattle.py_lines.specs.Private.Passing.{line_end_special, nothing_passed, passed_line_end, passed_to};
-ghost use Rattle.py_lines.specs.Private.Run.{is_line_byte};
+ghost use Rattle.py_lines.specs.Private.Run.{IsShortStringAt, is_line_byte};
 
 use crate::character::is_break;
 use crate::class::Class;
@@ -16,7 +17,7 @@ use crate::line_scan::word_start;
 use crate::marks::Marks;
 use crate::mode::Spelling;
 use crate::string_text::quotes_len;
-use crate::whole_strings::text_len;
+use crate::whole_strings::{long_text_len, text_len};
 
 /// What a byte that isn't plain came to.
 #[derive(Clone, Copy)]
@@ -40,7 +41,7 @@ fn is_line_byte(b: u8) -> bool
 /// Whether the string has fields that a quote begins after these plain bytes, where they end with its prefix or with no word. `None`
 /// promises nothing.
 #[inline(always)]
-fn fields_after(plain: &[u8]) -> Option<bool>
+pub fn fields_after(plain: &[u8]) -> Option<bool>
     ensures { TellsFields (tail_of plain.now) result }
 {
     let start = word_start(plain);
@@ -54,6 +55,22 @@ fn fields_after(plain: &[u8]) -> Option<bool>
     } else {
         None
     }
+}
+
+/// Where the string without fields ends that three quotes at this byte begin, after plain bytes from another on. `None` promises nothing. It
+/// stands apart, so that what passes short strings stays small.
+#[inline(never)]
+fn long_string_end(bytes: &[u8], from: usize, at: usize) -> Option<usize>
+    requires after { from ≤ at }
+    requires quote { is_quote (slice_index bytes.now at) ≡ true }
+    requires within { at + 3 ≤ length bytes.now }
+    ensures { HasLongString bytes.now from at result }
+{
+    let Some(false) = fields_after(&bytes[from..at]) else {
+        return None;
+    };
+    let len = long_text_len(bytes[at] as char, &bytes[at + 3..])?;
+    Some(at + 3 + len)
 }
 
 /// How far bytes were passed.
@@ -152,10 +169,11 @@ impl Passing {
     /// Passes the string without fields that the quote at this byte begins, and answers whether it did: it does for most that are short and
     /// ASCII on one line. `false` promises that nothing changed, and no more.
     #[inline(always)]
-    fn pass_text(&mut self, bytes: &[u8], at: usize) -> bool
-        requires quote { MeetsString bytes.now at self.old }
+    pub fn pass_text(&mut self, bytes: &[u8], at: usize) -> bool
+        requires quote { MeetsString bytes.now at self.old 1 }
         requires plain { TellsFields (word_before bytes.now at self.old) (Some false) }
         ensures passed { IsTrue result → PassesPiece bytes.now at self.old self.new }
+        ensures string { IsTrue result → IsShortStringAt bytes.now at self.new.all }
         ensures same { result ≡ false → self.new ≡ self.old }
     {
         let quote = bytes[at];
@@ -179,7 +197,7 @@ impl Passing {
     /// few brackets are open. `false` promises that nothing changed, and no more.
     #[inline(always)]
     fn pass_fields(&mut self, frames: &Frames, bytes: &[u8], at: usize) -> bool
-        requires quote { MeetsString bytes.now at self.old }
+        requires quote { MeetsString bytes.now at self.old 1 }
         requires fields { TellsFields (word_before bytes.now at self.old) (Some true) }
         ensures passed { IsTrue result
             → (place : ℕ) → PassesSo bytes.now at place self.old frames.now self.new frames.now }
@@ -196,13 +214,30 @@ impl Passing {
         true
     }
 
-    /// Passes the string that the quote at this byte begins, and answers whether it did: it does for most strings, as empty ones, and those
-    /// that are short and simple. `false` promises that nothing changed, and no more.
+    /// Passes the string of three quotes that begins at this byte, and answers whether it did: it does for most without fields that the bytes
+    /// hold whole. `false` promises that nothing changed, and no more.
+    #[inline(always)]
+    fn pass_long_text(&mut self, bytes: &[u8], at: usize) -> bool
+        requires quote { MeetsString bytes.now at self.old 3 }
+        requires counted { IsCounted bytes.now self.old }
+        ensures passed { IsTrue result → PassesPiece bytes.now at self.old self.new }
+        ensures same { result ≡ false → self.new ≡ self.old }
+    {
+        let Some(end) = long_string_end(bytes, self.all, at) else {
+            return false;
+        };
+        self.pass_to(bytes, end);
+        true
+    }
+
+    /// Passes the string that the quote at this byte begins, and answers whether it did: it does for most strings, as empty ones, those that
+    /// are short and simple, and those of three quotes without fields. `false` promises that nothing changed, and no more.
     #[inline(always)]
     fn pass_string(&mut self, frames: &Frames, bytes: &[u8], at: usize) -> bool
         requires next { FindsNext bytes.now self.old.all at self.old.marks }
         requires within { at < length bytes.now }
         requires quote { is_quote (slice_index bytes.now at) ≡ true }
+        requires counted { IsCounted bytes.now self.old }
         ensures passed { IsTrue result
             → (place : ℕ) → PassesSo bytes.now at place self.old frames.now self.new frames.now }
         ensures same { result ≡ false → self.new ≡ self.old }
@@ -219,6 +254,7 @@ impl Passing {
                 self.marks.pass(bytes, at + 2);
                 true
             }
+            Some(3) => self.pass_long_text(bytes, at),
             _ => false,
         }
     }

@@ -30,6 +30,11 @@ impl<'t> Source<'t> {
         if rest.is_empty() {
             return Ok(None);
         }
+        if let Some((end_len, line)) = self.state.read_simple(rest)? {
+            let len = self.state.scan.stop;
+            self.state.pass(len, line);
+            return Ok(Some(end_len));
+        }
         match self.state.scan_line(rest) {
             Ok(end_len) => {
                 let len = self.state.scan.stop;

@@ -1,4 +1,4 @@
-//! Strings that bytes hold whole, where they are short and simple: the machine need not go through them.
+//! Strings that bytes hold whole, where they are short and simple, or have no fields: the machine need not go through them.
 
 ghost use Rattle.std.specs.Prelude.{◌≡◌, false, true};
 ghost use Rattle.py_lines.specs.FieldStrings.{begins_open};
@@ -6,10 +6,13 @@ ghost use Rattle.py_lines.specs.Character.{is_quote};
 ghost use Rattle.py_lines.specs.Piece.{begins};
 ghost use Rattle.py_lines.specs.Private.Run.{BeginsPlainString, HasWholePlainString, IsRunOf, is_literal_byte};
 ghost use Rattle.py_lines.specs.Private.FieldText.{HasSimpleCode, HasCode, HasField, HasPart, HasText};
+ghost use Rattle.py_lines.specs.Private.LongStrings.{HasLongText};
 
 use crate::character::{is_brace, is_quote};
 use crate::frames::closing_of;
-use crate::run::{ByteRun, is_ascii_word};
+use crate::mode::Mode;
+use crate::run::{ByteRun, characters_in, is_ascii_word};
+use crate::string_text::{TextMove, text_move};
 
 /// How many bytes the string has that the bytes begin with, where it has no prefix, is short, holds something, and is ASCII with no
 /// escape.
@@ -114,4 +117,23 @@ pub fn text_len(quote: u8, bytes: &[u8]) -> usize
         len += literal_run(quote, &bytes[len..]);
     }
     len
+}
+
+/// How many bytes the text of a string of three such quotes has that the bytes go on with, and the quotes that close it. The string has no
+/// fields. `None` promises nothing.
+pub fn long_text_len(quote: char, bytes: &[u8]) -> Option<usize>
+    requires { is_quote quote ≡ true }
+    ensures { HasLongText quote bytes.now result }
+{
+    let mode = Mode::Long(quote);
+    let mut len = characters_in(mode, bytes);
+    'items: while len < bytes.len() {
+        match text_move(mode, quote, true, &bytes[len..]) {
+            TextMove::Grows(_, more) => len += more,
+            TextMove::Closes(quotes) => return Some(len + quotes),
+            _ => return None,
+        }
+        len += characters_in(mode, &bytes[len..]);
+    }
+    None
 }

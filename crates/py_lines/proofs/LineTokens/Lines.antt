@@ -1,11 +1,11 @@
 -- How a line begins, with its mark and its indentation, and how its pieces are read one after another.
 use mir.Val.{bool_byte}
-use Rattle.std.proofs.Common.{◌≡◌, ℕ, ◌+◌, ◌-◌, ◌<◌, ◌≤◌, Bool, true, false, cond, ◌||◌, List, [], ◌∷◌, ◌++◌, length, take, drop, refl, sym, ap, ◌∙◌, subst, append_assoc, append-nil, arith, length-drop, zero, suc, ◌⊎◌, inl, inr, ⊎_elim, zero-add, add-zero, slice_index}
+use Rattle.std.proofs.Common.{◌≡◌, ℕ, ◌+◌, ◌<◌, ◌≤◌, Bool, true, false, cond, ◌||◌, List, [], ◌∷◌, ◌++◌, length, drop, refl, sym, ap, ◌∙◌, subst, append_assoc, append-nil, arith, length-drop, zero, suc, ◌⊎◌, inl, inr, ⊎_elim, zero-add, add-zero, slice_index}
 use Rattle.std.specs.Prelude.{encode_utf8_all, if◌then◌else◌, nat_eq, nat_lt}
 use Rattle.std.specs.List.{list_any, starts_with}
 use Rattle.std.proofs.Math.Bool.{or-false, or_assoc}
 use Rattle.std.proofs.Math.Seq.{drop-append_seam}
-use Rattle.std.proofs.lemmas.List.{drop-drop, drop-take, length-take-le}
+use Rattle.std.proofs.lemmas.List.{drop-drop}
 use Rattle.std.proofs.lemmas.Str.{encodes-append, length-le-encodes}
 use Rattle.std.proofs.lemmas.Bool.{both_ways, false_from_ne_true}
 use Rattle.std.proofs.lemmas.Bool.Decides.{Decides-eqb}
@@ -229,17 +229,6 @@ pub byte_within : (text : List ℕ) (start : ℕ) (is : Bool) → start ≤ leng
     → start + bool_byte is ≤ length text
 byte_within text start false less some = omega (arith, less)
 byte_within text start true less some = omega (arith, some refl, ap length (rest_is text start), length-drop start text)
-
--- what is left of a line, and of the bytes that it begins
-pub left_ahead : (bytes : List ℕ) (len start : ℕ) → len ≤ length bytes → start ≤ len
-    → take (length (rest_of (take len bytes) start)) (rest_of bytes start) ≡ rest_of (take len bytes) start
-left_ahead bytes len start within less =
-    let left : start + (len - start) ≡ len = omega (arith, less) in
-    let is : rest_of (take len bytes) start ≡ take (len - start) (drop start bytes)
-    = rest_is (take len bytes) start ∙ ap (λ k. drop start (take k bytes)) (sym left) ∙ drop-take start (len - start) bytes in
-    let size : length (rest_of (take len bytes) start) ≡ len - start
-    = omega (arith, ap length is, length-take-le (len - start) (drop start bytes) (omega (arith, length-drop start bytes))) in
-    ap (λ k. take k (rest_of bytes start)) size ∙ ap (take (len - start)) (rest_is bytes start) ∙ sym is
 
 -- the line end of pieces is among their bytes
 pub end_within : (ps : List Piece) → end_len_of ps ≤ byte_len (spelled ps)

@@ -1,20 +1,21 @@
--- A string without fields and without escapes, which is passed at once, is the first piece of the bytes.
-use Rattle.std.proofs.Common.{◌≡◌, ℕ, ◌+◌, ◌<◌, inl, inr, true, false, List, [], ◌∷◌, ◌++◌, length, drop, refl, sym, ap, ◌∙◌, subst, append_assoc, append-nil, arith, length-append, take}
+-- A string of ASCII without fields that stands on one line, and is passed at once, is the first piece of the bytes.
+use Rattle.std.proofs.Common.{◌≡◌, ℕ, ◌+◌, ◌-◌, ◌≤◌, inl, inr, true, false, List, [], ◌∷◌, ◌++◌, length, drop, refl, sym, ap, ◌∙◌, subst, append_assoc, append-nil, arith, length-append, take}
 use Rattle.std.specs.Prelude.{encode_utf8_all}
 use Rattle.std.specs.List.{list_all}
-use Rattle.std.proofs.lemmas.Bool.{and_from, and_parts}
+use Rattle.std.proofs.lemmas.Bool.{and_parts}
 use Rattle.std.proofs.lemmas.Bool.Decides.{nat_tests}
 use Rattle.std.proofs.lemmas.List.Folds.{list_all-append}
+use Rattle.std.proofs.Math.Seq.{drop-append_seam, take-add, take-append_seam}
 use Rattle.std.proofs.lemmas.List.{length-take, same_from_push, take-append-drop}
 use Rattle.std.proofs.lemmas.Str.{encodes-append}
-use Rattle.py_lines.specs.Character.{is_backslash, is_barred, is_break, is_quote}
+use Rattle.py_lines.specs.Character.{is_break, is_quote}
 use Rattle.py_lines.specs.Piece.{string, Piece, spelled, begins}
-use Rattle.py_lines.specs.PieceGrammar.{IsNoneOr, IsPrefix, IsShortString, is_short_item, joined}
+use Rattle.py_lines.specs.PieceGrammar.{IsNoneOr, IsPrefix}
 use Rattle.py_lines.specs.FieldStrings.{is_field_prefix}
 use Rattle.py_lines.specs.Fields.{InClass, MayPrecede, fielded}
 use Rattle.py_lines.specs.LogicalLine.{byte_len, line_ends}
 use Rattle.py_lines.specs.Private.Machine.{IsFull, first_spelling, is_field_spelling, spelling_on}
-use Rattle.py_lines.specs.Private.Run.{IsWholePlainString, is_body_byte, is_comment_byte, is_text_byte, word_spelling}
+use Rattle.py_lines.specs.Private.Run.{IsShortStringAt, IsShortText, IsWholePlainString, is_comment_byte, is_line_byte, word_spelling}
 use Rattle.py_lines.specs.Private.LineTokens.{BeginWithPiece, IsFirstPiece, is_prefix_word, string_piece}
 use Rattle.py_lines.proofs.Text.Utf8Prefixes.{prefix_chars}
 use Rattle.py_lines.proofs.Pieces.PieceLists.{piece}
@@ -23,6 +24,7 @@ use Rattle.py_lines.proofs.Fields.Prefixes.{Compared, first_quote, longer, same,
 use Rattle.py_lines.proofs.FieldSoundness.BodyMoves.{quoted_prefix}
 use Rattle.py_lines.proofs.Machine.Spellings.{other_begins, prefix_spelling, word_tells}
 use Rattle.py_lines.proofs.LineScan.AsciiRuns.{all_also, is_low, low_encodes, low_is, quote_ascii}
+use Rattle.py_lines.proofs.LineScan.PlainStrings.{text_run}
 use Rattle.py_lines.proofs.Text.Utf8Shapes.{one}
 use Rattle.py_lines.proofs.LineTokens.FirstPieces.{all_other, begins_at, taken}
 use Rattle.py_lines.proofs.LineTokens.FirstCharacters.{prefix_is_word}
@@ -30,27 +32,6 @@ use Rattle.py_lines.proofs.Text.LineEnds.{unbroken}
 use Rattle.py_lines.proofs.WordBreaks.{word-unbroken}
 use Rattle.py_lines.proofs.LineTokens.Spellings.{fielded_spelling, prefix_low}
 use Rattle.py_lines.proofs.FieldScans.TextLengths.{rest_is, rest_of}
-
--- each character of the text is an item
-singles : List ℕ → List (List ℕ)
-singles [] = []
-singles (c ∷ cs) = (c ∷ []) ∷ singles cs
-
-joined_singles : (cs : List ℕ) → joined (singles cs) ≡ cs
-unfolding singles
-joined_singles [] = refl
-joined_singles (c ∷ cs) = ap (λ t. c ∷ t) (joined_singles cs)
-
-short_item : (q c : ℕ) → is_text_byte q c ≡ true → is_short_item q (c ∷ []) ≡ true
-unfolding is_body_byte is_backslash is_barred
-short_item q c h = grind (arith, nat_tests)
-
-short_items : (q : ℕ) (cs : List ℕ) → list_all (is_text_byte q) cs ≡ true → list_all (is_short_item q) (singles cs) ≡ true
-unfolding singles
-short_items q [] all = refl
-short_items q (c ∷ cs) all =
-    let parts = and_parts (is_text_byte q c) (list_all (is_text_byte q) cs) all in
-    and_from (is_short_item q (c ∷ [])) (list_all (is_short_item q) (singles cs)) (short_item q c parts.0) (short_items q cs parts.1)
 
 -- a word that is the prefix of a string without fields, or nothing
 record IsPlainPrefix (word : List ℕ) : Type 0 where
@@ -81,53 +62,39 @@ first_same w p others (shorter x xs is) = cc
 low_quote : (q : ℕ) (text : List ℕ) → is_quote q ≡ true → encode_utf8_all (q ∷ text) ≡ q ∷ encode_utf8_all text
 low_quote q text is = ap (λ t. t ++ encode_utf8_all text) (one q (quote_ascii q is))
 
-text_low : (q c : ℕ) → is_text_byte q c ≡ true → c < 128
-text_low q c h = low_is c (and_parts (is_body_byte q c) (is_low c) h).1
-
-text_unbroken : (q c : ℕ) → is_text_byte q c ≡ true → is_comment_byte c ≡ true
-unfolding is_body_byte is_break
-text_unbroken q c h = grind (arith, nat_tests)
-
 quote_unbroken : (q : ℕ) → is_quote q ≡ true → is_comment_byte q ≡ true
 unfolding is_quote is_break
 quote_unbroken q h = grind (arith, nat_tests)
 
 -- a string that was passed after its prefix, or with none
-module _ (word : List ℕ) (q : ℕ) (run : List ℕ) (w : IsPlainPrefix word) (quote : is_quote q ≡ true) (full : IsFull run)
-    (all : list_all (is_text_byte q) run ≡ true) where
+module _ (word : List ℕ) (q : ℕ) (text : List ℕ) (w : IsPlainPrefix word) (quote : is_quote q ≡ true) (full : IsFull text)
+    (short : IsShortText q text) where
   whole : List ℕ
-  whole = word ++ (q ∷ (run ++ q ∷ []))
+  whole = word ++ (q ∷ (text ++ q ∷ []))
 
   low : encode_utf8_all whole ≡ whole
   unfolding whole
   low =
-      let last : encode_utf8_all (run ++ q ∷ []) ≡ run ++ q ∷ []
-      = encodes-append run (q ∷ []) ∙ ap (λ t. t ++ encode_utf8_all (q ∷ [])) (low_encodes (is_text_byte q) run (text_low q) all).0
-      ∙ ap (λ t. run ++ t) (low_quote q [] quote) in
-      encodes-append word (q ∷ (run ++ q ∷ [])) ∙ ap (λ t. t ++ encode_utf8_all (q ∷ (run ++ q ∷ []))) w.low
-      ∙ ap (λ t. word ++ t) (low_quote q (run ++ q ∷ []) quote ∙ ap (λ t. q ∷ t) last)
+      let ascii = (low_encodes is_line_byte text (λ c h. low_is c (and_parts (is_low c) (is_comment_byte c) h).0) short.inside).0 in
+      let last : encode_utf8_all (text ++ q ∷ []) ≡ text ++ q ∷ []
+      = encodes-append text (q ∷ []) ∙ ap (λ t. t ++ encode_utf8_all (q ∷ [])) ascii
+      ∙ ap (λ t. text ++ t) (low_quote q [] quote) in
+      encodes-append word (q ∷ (text ++ q ∷ [])) ∙ ap (λ t. t ++ encode_utf8_all (q ∷ (text ++ q ∷ []))) w.low
+      ∙ ap (λ t. word ++ t) (low_quote q (text ++ q ∷ []) quote ∙ ap (λ t. q ∷ t) last)
 
   in_class : InClass string whole
   unfolding whole
   in_class =
-      let short : IsShortString whole = record {
-        prefix = word;
-        quote = q;
-        items = singles run;
-        spell = ap (λ t. word ++ (q ∷ (t ++ q ∷ []))) (sym (joined_singles run));
-        begun = w.begun;
-        opens = quote;
-        each = short_items q run all;
-      } in
-      inl (inl (short, w.no_field))
+      let spell = ap (λ t. word ++ (q ∷ (t ++ q ∷ []))) (sym short.spell) in
+      inl (inl (record { prefix = word; quote = q; items = short.items; spell = spell; begun = w.begun; opens = quote; each = short.each }, w.no_field))
 
   -- it isn't empty, so that no quote after it matters
   precedes : (rest : List ℕ) → MayPrecede string whole rest
   unfolding whole
   precedes rest prefix d is begun opens =
-      let front = same_from_push (word ++ q ∷ run) (prefix ++ d ∷ []) q d
-      (append_assoc word (q ∷ run) (q ∷ []) ∙ is ∙ sym (append_assoc prefix (d ∷ []) (d ∷ []))) in
-      let none : run ≡ [] = cc ((first_quote word prefix run [] q d (quoted_prefix word w.any) (quoted_prefix prefix begun) quote opens front.0).1) in
+      let front = same_from_push (word ++ q ∷ text) (prefix ++ d ∷ []) q d
+      (append_assoc word (q ∷ text) (q ∷ []) ∙ is ∙ sym (append_assoc prefix (d ∷ []) (d ∷ []))) in
+      let none : text ≡ [] = cc ((first_quote word prefix text [] q d (quoted_prefix word w.any) (quoted_prefix prefix begun) quote opens front.0).1) in
       absurd (subst IsFull none full)
 
   is_first : (bytes after : List ℕ) (p : Piece) → whole ++ after ≡ bytes → BeginWithPiece bytes p → piece string whole ≡ p
@@ -138,26 +105,43 @@ module _ (word : List ℕ) (q : ℕ) (run : List ℕ) (w : IsPlainPrefix word) (
       first_same (piece string whole) p b.others (compare_pieces (piece string whole ∷ []) (p ∷ b.others) (y ++ b.text.after) b.text.after
       (in_class, precedes (y ++ b.text.after), refl, tt) b.text.fit at)
 
-  -- nor ends a line in it
-  one_line : 0 ≡ line_ends whole
+  size : length whole ≡ length word + (length text + 2)
   unfolding whole
-  one_line = unbroken whole (simp (list_all-append, w.unbroken, all_also (is_text_byte q) is_comment_byte (text_unbroken q) run all, quote_unbroken q quote))
+  size = omega (arith, length-append word (q ∷ (text ++ q ∷ [])), length-append text (q ∷ []))
 
-  size : length whole ≡ length word + (length run + 2)
+  -- nor ends a line in it
+  string_first : (bytes after : List ℕ) (len : ℕ) → whole ++ after ≡ bytes → len ≡ length word + (length text + 2)
+      → IsFirstPiece bytes (string_piece len 0)
   unfolding whole
-  size = omega (arith, length-append word (q ∷ (run ++ q ∷ [])), length-append run (q ∷ []))
+  string_first bytes after len spell long p b =
+      let is = is_first bytes after p spell b in
+      let inside = all_also is_line_byte is_comment_byte (λ c h. (and_parts (is_low c) (is_comment_byte c) h).1) text short.inside in
+      let one_line : 0 ≡ line_ends whole = unbroken whole (simp (list_all-append, w.unbroken, inside, quote_unbroken q quote)) in
+      taken b string (sym (ap (λ (x : Piece). x.class) is)) refl
+      (omega (arith, long, size, sym (ap (λ (x : Piece). byte_len x.text) is) ∙ ap length low)) (one_line ∙ ap (λ (x : Piece). line_ends x.text) is)
 
 pub plain_taken : (bytes : List ℕ) (n len : ℕ) → begins is_quote (drop n bytes) ≡ true → is_prefix_word (take n bytes) ≡ true
     → is_field_spelling (word_spelling (take n bytes)) ≡ false → IsWholePlainString (rest_of bytes n) len → IsFirstPiece bytes (string_piece (n + len) 0)
 unfolding whole
-plain_taken bytes n len quotes prefix plain s p b =
-    let word = take n bytes in let w = plain_prefix word prefix plain in
-    let spell : whole word s.q s.run w s.quote s.full s.all ++ s.after ≡ bytes
-    = append_assoc word (s.q ∷ (s.run ++ s.q ∷ [])) s.after ∙ ap (λ t. word ++ (s.q ∷ t)) (append_assoc s.run (s.q ∷ []) s.after)
-    ∙ ap (λ t. word ++ t) (s.spell ∙ rest_is bytes n) ∙ take-append-drop n bytes in
-    let is = is_first word s.q s.run w s.quote s.full s.all bytes s.after p spell b in
-    let long = size word s.q s.run w s.quote s.full s.all in
-    let same = sym (ap (λ (x : Piece). byte_len x.text) is) ∙ ap length (low word s.q s.run w s.quote s.full s.all) in
-    taken b string (sym (ap (λ (x : Piece). x.class) is)) refl
-    (omega (arith, long, same, s.size, (begins_at is_quote bytes n quotes).0, length-take n bytes))
-    (one_line word s.q s.run w s.quote s.full s.all ∙ ap (λ (x : Piece). line_ends x.text) is)
+plain_taken bytes n len quotes prefix plain s =
+    let word = take n bytes in
+    string_first word s.q s.run (plain_prefix word prefix plain) s.quote s.full (text_run s.q s.run s.all) bytes s.after (n + len)
+    (append_assoc word (s.q ∷ (s.run ++ s.q ∷ [])) s.after ∙ ap (λ t. word ++ (s.q ∷ t)) (append_assoc s.run (s.q ∷ []) s.after)
+    ∙ ap (λ t. word ++ t) (s.spell ∙ rest_is bytes n) ∙ take-append-drop n bytes)
+    (omega (arith, s.size, (begins_at is_quote bytes n quotes).0, length-take n bytes))
+
+-- one without a prefix, with which so many of the bytes begin
+pub short_taken : (bytes : List ℕ) (at end : ℕ) → IsShortStringAt bytes at end → (n : ℕ) → end - at ≤ n
+    → IsFirstPiece (take n (drop at bytes)) (string_piece (end - at) 0)
+unfolding whole
+short_taken bytes at end s n room =
+    let w = plain_prefix [] refl refl in
+    let text : List ℕ = whole [] s.q s.text w s.quote s.full s.is in
+    let long : length text ≡ end - at = omega (arith, size [] s.q s.text w s.quote s.full s.is, s.size) in
+    let whole_spell : text ++ drop end bytes ≡ drop at bytes = ap (λ t. s.q ∷ t) (append_assoc s.text (s.q ∷ []) (drop end bytes)) ∙ s.spell in
+    let cut : length text + (n - length text) ≡ n = omega (arith, long, room) in
+    string_first [] s.q s.text w s.quote s.full s.is (take n (drop at bytes)) (take (n - length text) (drop end bytes)) (end - at)
+    (sym (ap (λ (k : ℕ). take k (drop at bytes)) (sym cut) ∙ ap (take (length text + (n - length text))) (sym whole_spell)
+    ∙ take-add (length text) (n - length text) (text ++ drop end bytes)
+    ∙ (λ i. take-append_seam text (drop end bytes) i ++ take (n - length text) (drop-append_seam text (drop end bytes) i))))
+    (omega (arith, s.size))

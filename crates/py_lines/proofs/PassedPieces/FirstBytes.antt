@@ -1,8 +1,9 @@
 -- The bytes that a slice begins with: one, two or three of them, or a line end.
-use Rattle.std.proofs.Common.{◌≡◌, ℕ, suc, ◌+◌, ◌<◌, None, List, [], ◌∷◌, length, take, drop, slice_index, refl, ap, ◌∙◌, arith, add-zero, get_or-drop, drop-cons}
+use Rattle.std.proofs.Common.{◌≡◌, ℕ, suc, ◌+◌, ◌<◌, ◌≤◌, None, Some, List, [], ◌∷◌, length, take, drop, slice_index, refl, ap, ◌∙◌, arith, add-zero, get_or-drop, drop-cons}
 use Rattle.std.proofs.lemmas.Bool.Decides.{nat_tests}
 use Rattle.py_lines.specs.Character.{is_break}
 use Rattle.py_lines.specs.Private.LineEnds.{HasOuterEnd}
+use Rattle.py_lines.specs.Private.Scan.{quotes_in}
 
 pub first_later : (bytes : List ℕ) (at : ℕ) → slice_index (drop at bytes) 0 ≡ slice_index bytes at
 first_later bytes at = get_or-drop at bytes 0 0 ∙ ap (slice_index bytes) (add-zero at)
@@ -17,6 +18,13 @@ taken_one (b ∷ bs) within = refl
 pub taken_two : (bytes : List ℕ) → 1 < length bytes → take 2 bytes ≡ slice_index bytes 0 ∷ slice_index bytes 1 ∷ []
 taken_two [] within = absurd (omega (arith, within))
 taken_two (b ∷ bs) within = ap (λ t. b ∷ t) (taken_one bs (omega (arith, within)))
+
+-- so many quotes are some of the bytes
+pub quotes_fit : (bytes : List ℕ) (n : ℕ) → Some n ≡ quotes_in bytes → (0 < n) × (n ≤ length bytes)
+quotes_fit [] n is = absurd (cc)
+quotes_fit (q ∷ []) n is = absurd (cc)
+quotes_fit (q ∷ c ∷ []) n is = grind arith
+quotes_fit (q ∷ c ∷ d ∷ rest) n is = grind arith
 
 -- bytes that begin with CR or LF, and with no line end that is known, are CR alone
 pub no_outer_end : (bytes : List ℕ) → (slice_index bytes 0 ≡ 10 → ⊥) → (1 < length bytes → slice_index bytes 0 ≡ 13 → ⊥) → HasOuterEnd bytes None

@@ -1,11 +1,11 @@
 -- What a byte that isn't plain begins, after plain bytes, as the scan would take it: a bracket, a line end, a join of two lines, a short string
--- of ASCII, or a comment.
+-- of ASCII, a long one without fields, or a comment.
 use Rattle.std.proofs.Common.{◌≡◌, ℕ, ◌+◌, ◌<◌, ◌==◌, not, nat_lt, Bool, true, false, Option, None, Some, List, [], ◌∷◌, ◌++◌, length, drop, refl, sym, ap, ◌∙◌, subst, arith, append_assoc, length-append}
-use Rattle.std.specs.Prelude.{codes}
+use Rattle.std.specs.Prelude.{codes, encode_utf8_all}
 use Rattle.std.specs.Char.{len_utf8}
-use Rattle.std.specs.List.{list_all}
 use Rattle.std.proofs.lemmas.Bool.{and_parts, both_ways, ltb-true, ne_eqb, not-true}
 use Rattle.std.proofs.lemmas.Str.{len_utf8_ascii}
+use Rattle.std.proofs.Math.Nat.{add_assoc}
 use Rattle.std.proofs.Math.Path.{transport}
 use Rattle.std.proofs.Math.Seq.{drop-append_seam}
 use Rattle.py_lines.specs.Balance.{is_closing, is_opening}
@@ -23,8 +23,9 @@ use Rattle.py_lines.specs.Private.FieldMachine.{FieldScanned, closes, closing_mo
 use Rattle.py_lines.specs.Private.LineEnds.{BeginsOuterEnd}
 use Rattle.py_lines.specs.Private.Machine.{begins_string, is_field_spelling, move_of, short_move}
 use Rattle.py_lines.specs.Private.Mode as modes
+use Rattle.py_lines.specs.Private.LongStrings.{TakesLong}
 use Rattle.py_lines.specs.Private.Passing.{EndsAfter, TellsFields, tail_of, with_frames}
-use Rattle.py_lines.specs.Private.Run.{is_body_byte, is_line_byte, is_text_byte}
+use Rattle.py_lines.specs.Private.Run.{Spans, is_body_byte, is_line_byte, is_text_byte, stays}
 use Rattle.py_lines.specs.Private.Scan.{ComesTo, Follows, GoesOver, GrowsInText, IsTextAt, QuotesInText, Steps, Takes, TakesOperator, TextGoes, begun_at, ends_before, grown, is_text, line_end_progress, mode_from, passed, quotes_in, string_mode, with_bytes}
 use Rattle.py_lines.specs.Private.Marks.{is_plain}
 use Rattle.py_lines.proofs.Machine.LiveTexts.{closing-operator}
@@ -33,11 +34,13 @@ use Rattle.py_lines.proofs.FieldScans.CodeItems.{comment_begins, line_end_comes,
 use Rattle.py_lines.proofs.FieldScans.LineEnds.{joins}
 use Rattle.py_lines.proofs.FieldScans.PlainCode.{over_code}
 use Rattle.py_lines.proofs.FieldScans.Operators.{bracket_opens, closes_bracket}
+use Rattle.py_lines.proofs.FieldScans.Runs.{holds_characters}
 use Rattle.py_lines.proofs.FieldScans.StringBytes.{closes_short, grows_low, grows_other}
 use Rattle.py_lines.proofs.FieldScans.StringTexts.{text_as-self}
 use Rattle.py_lines.proofs.FieldScans.Takes.{takes_none, takes_on, takes_step}
 use Rattle.py_lines.proofs.FieldScans.Taking.{free_at}
 use Rattle.py_lines.proofs.FieldScans.TextItems.{closes_over, grows_over}
+use Rattle.py_lines.proofs.FieldScans.TextLengths.{rest_is, rest_of, rest_within}
 use Rattle.py_lines.proofs.LineScan.AsciiRuns.{break_low, is_low_from, quote_ascii}
 use Rattle.py_lines.proofs.LineScan.Runs.{body_parts}
 use Rattle.py_lines.proofs.LogicalLines.Cuts.{break-return}
@@ -50,7 +53,7 @@ use Rattle.py_lines.proofs.Text.FirstBytes.{first_low}
 abbrev pub Stays : OpenMode → List ℕ → Type 0
 Stays m text = (scan : Scan) → scan.mode ≡ m → (rest : List ℕ) → Takes scan (text ++ rest) (length text) (with_bytes scan (length text))
 
-stays_none : (m : OpenMode) → Stays m []
+pub stays_none : (m : OpenMode) → Stays m []
 stays_none m scan mode rest =
     let same : scan.stop ≡ scan.stop + 0 = omega arith in
     subst (Takes scan rest 0) (ap (λ (n : ℕ). record scan { stop = n }) same) (takes_none scan rest)
@@ -63,13 +66,6 @@ stays_on m xs ys first second scan mode rest =
     let more = subst (λ (t : List ℕ). Takes (with_bytes scan a) t b (with_bytes (with_bytes scan a) b)) (sym (drop-append_seam xs (ys ++ rest))) (second (with_bytes scan a) mode rest) in
     transport (λ i. Takes scan (sym (append_assoc xs ys rest) i) (size i) (record scan { stop = far i }))
     (takes_on scan (with_bytes scan a) (with_bytes (with_bytes scan a) b) (xs ++ (ys ++ rest)) a b (first scan mode (ys ++ rest)) more)
-
-pub stays_run : (m : OpenMode) (passes : ℕ → Bool) → ((c : ℕ) → passes c ≡ true → Stays m (c ∷ [])) → (text : List ℕ) → list_all passes text ≡ true
-    → Stays m text
-stays_run m passes each [] all = stays_none m
-stays_run m passes each (c ∷ cs) all =
-    let parts = and_parts (passes c) (list_all passes cs) all in
-    stays_on m (c ∷ []) cs (each c parts.0) (stays_run m passes each cs parts.1)
 
 -- ASCII that ends no line stays in a comment
 pub comment_byte : (c : ℕ) → is_line_byte c ≡ true → Stays opens.Comment (c ∷ [])
@@ -109,6 +105,49 @@ module _ (q : ℕ) (quote : is_quote q ≡ true) where
       (subst (λ m. GrowsInText m (92 ∷ c ∷ rest) (opens.Short q) 2) (sym (ap mode_from mode) ∙ follow.mode)
       (grows_low (plain (modes.Inside q)) (plain (modes.Inside q)) (opens.Short q) (92 ∷ c ∷ []) rest (refl, quote) (rw (is_low_from c low) refl) (omega arith) (slash_goes c none)
       (text_as-self rest (plain (modes.Inside q))))) (ap (λ m. record old { mode = m; stop = old.stop + 2 }) mode))
+
+-- The text of a string of three quotes: a scan takes some bytes of it and then others, a run, an item and a run after it, or its end.
+module _ (q : ℕ) where
+  long_joined : (to : Scan → ℕ → Scan) → ((scan : Scan) (a n : ℕ) → to (with_bytes scan a) n ≡ to scan (a + n)) → (bytes : List ℕ) (a n : ℕ)
+      → TakesLong with_bytes q bytes a → TakesLong to q (rest_of bytes a) n → TakesLong to q bytes (a + n)
+  long_joined to same bytes a n first next = record {
+    within = rest_within bytes a n first.within next.within;
+    over = λ scan mode.
+        let mid = with_bytes scan a in
+        subst (Takes scan bytes (a + n)) (same scan a n) (takes_on scan mid (to mid n) bytes a n (first.over scan mode)
+        (subst (λ xs. Takes mid xs n (to mid n)) (rest_is bytes a) (next.over mid mode)));
+  }
+
+  long_on : (bytes : List ℕ) (a n : ℕ) → TakesLong with_bytes q bytes a → TakesLong with_bytes q (rest_of bytes a) n → TakesLong with_bytes q bytes (a + n)
+  long_on = long_joined with_bytes (λ scan a n. ap (λ (k : ℕ). record scan { stop = k }) (add_assoc scan.stop a n))
+
+  pub long_run : is_quote q ≡ true → (bytes : List ℕ) (n : ℕ) → Spans (stays (opens.Long q)) bytes n → TakesLong with_bytes q bytes n
+  long_run quote bytes n spans =
+      record { within = spans.run.within; over = λ scan mode t follow. (holds_characters scan bytes n (rw mode quote) (rw mode spans) t follow).0 }
+
+  pub long_grown : is_quote q ≡ true → (bytes : List ℕ) (a more n : ℕ) → TakesLong with_bytes q bytes a
+      → GrowsInText (plain (modes.Long q)) (rest_of bytes a) (opens.Long q) more → Spans (stays (opens.Long q)) (rest_of bytes (a + more)) n
+      → TakesLong with_bytes q bytes (a + more + n)
+  long_grown quote bytes a more n first grows spans =
+      let rest = rest_of bytes a in
+      long_on bytes (a + more) n (long_on bytes a more first (record {
+        within = omega (arith, grows.size, ap length grows.spell, length-append (encode_utf8_all grows.run) (drop more rest));
+        over = λ scan mode. takes_step scan (with_bytes scan more) rest more (λ t follow.
+            grows_over scan t follow (ap is_text mode) rest (opens.Long q) more (with_bytes scan more)
+            (subst (λ m. GrowsInText m rest (opens.Long q) more) (sym (ap mode_from mode) ∙ follow.mode) grows)
+            (ap (λ m. record scan { mode = m; stop = scan.stop + more }) mode));
+      })) (long_run quote (rest_of bytes (a + more)) n spans)
+
+  pub long_closed : (bytes : List ℕ) (a n : ℕ) → TakesLong with_bytes q bytes a → QuotesInText (plain (modes.Long q)) (rest_of bytes a) n closes
+      → TakesLong passed q bytes (a + n)
+  long_closed bytes a n first last =
+      let rest = rest_of bytes a in
+      long_joined passed (λ scan a n. ap (free_at scan.frames) (add_assoc scan.stop a n)) bytes a n first (record {
+        within = omega (arith, last.size, ap length last.spell, length-append last.run (last.quote ∷ drop n rest));
+        over = λ scan mode. takes_step scan (passed scan n) rest n (λ t follow.
+            closes_over scan t follow (ap is_text mode) rest n (passed scan n)
+            (subst (λ m. QuotesInText m rest n closes) (sym (ap mode_from mode) ∙ follow.mode) last) refl);
+      })
 
 -- what a byte that isn't plain begins, after plain bytes
 module _ {scan : Scan} {run : List ℕ} (p : PlainTo scan run) (c : ℕ) (rest : List ℕ) (special : is_plain c ≡ false) where
@@ -217,22 +256,39 @@ module _ {scan : Scan} {run : List ℕ} (p : PlainTo scan run) (q : ℕ) (specia
       (takes_step before_it (passed before_it 2) (q ∷ rest) 2 (λ t follow. quotes_empty before_it t (q ∷ rest) follow quote before_quote 2 two refl))
 
   -- one without fields, before whose quote no word stands, or its prefix
-  pub string_over : (text rest : List ℕ) → Some 1 ≡ quotes_in (q ∷ (text ++ q ∷ rest)) → Stays (opens.Short q) text → TellsFields (tail_of run) (Some false)
-      → Over p q (text ++ q ∷ rest) special (1 + (length text + 1)) before_it.frames
-  string_over text rest alone inside before = go (tail_of run) p.tail before
-    where
-      by : (s : Spelling) (start : ℕ) → is_field_spelling s ≡ false → Begins s start
-          → Over p q (text ++ q ∷ rest) special (1 + (length text + 1)) before_it.frames
-      by s start simple begun =
-          string_taken s start (opens.Short q) (length text) (text ++ q ∷ rest) rest begun (rw simple refl) alone
-          refl refl (refl, refl) (drop-append_seam text (q ∷ rest)) (inside (Opened (opens.Short q) start) refl (q ∷ rest))
+  abbrev BeginsPlain : Type 0
+  BeginsPlain = (s : Spelling) × (start : ℕ) × (is_field_spelling s ≡ false) × Begins s start
 
-      go : (o : Option Spelling) → IsTail o before_it.mode → TellsFields o (Some false)
-          → Over p q (text ++ q ∷ rest) special (1 + (length text + 1)) before_it.frames
-      go (Some s) is (begins, simple) = by s before_it.start (sym simple) (with_prefix s is begins)
+  begins_plain : TellsFields (tail_of run) (Some false) → BeginsPlain
+  begins_plain before = go (tail_of run) p.tail before
+    where
+      go : (o : Option Spelling) → IsTail o before_it.mode → TellsFields o (Some false) → BeginsPlain
+      go (Some s) is (begins, simple) = (s, before_it.start, sym simple, with_prefix s is begins)
       go None is none =
           let no_word = other_word before_it (λ s same. subst (IsTail None) same is) in
-          by spellings.Name before_it.stop refl (λ t follow. after_piece before_it t q follow quote before_quote no_word)
+          (spellings.Name, before_it.stop, refl, λ t follow. after_piece before_it t q follow quote before_quote no_word)
+
+  pub string_over : (text rest : List ℕ) → Some 1 ≡ quotes_in (q ∷ (text ++ q ∷ rest)) → Stays (opens.Short q) text → TellsFields (tail_of run) (Some false)
+      → Over p q (text ++ q ∷ rest) special (1 + (length text + 1)) before_it.frames
+  string_over text rest alone inside before =
+      let (s, start, simple, begun) = begins_plain before in
+      string_taken s start (opens.Short q) (length text) (text ++ q ∷ rest) rest begun (rw simple refl) alone
+      refl refl (refl, refl) (drop-append_seam text (q ∷ rest)) (inside (Opened (opens.Short q) start) refl (q ∷ rest))
+
+  -- so one of three quotes
+  pub long_over : (rest : List ℕ) (n : ℕ) → Some 3 ≡ quotes_in (q ∷ rest) → TakesLong passed q (drop 2 rest) n → TellsFields (tail_of run) (Some false)
+      → Over p q rest special (3 + n) before_it.frames
+  long_over rest n three text before =
+      let (s, start, simple, begun) = begins_plain before in
+      let first : OpenMode → Scan = λ m. record before_it { mode = m; start = start; stop = before_it.stop + 3 } in
+      let mid : Scan = first (opens.Long q) in let mode : string_mode s q true ≡ opens.Long q = rw simple refl in
+      let opened = takes_step before_it mid (q ∷ rest) 3 (λ t follow.
+      subst (λ (m : OpenMode). GoesOver t (q ∷ rest) 3 (first m)) mode
+      (quotes_open before_it t (q ∷ rest) follow quote before_quote 3 s start (begun t follow) three (λ two. omega (arith, two)))) in
+      let far : before_it.stop + 3 + n ≡ before_it.stop + (3 + n) = omega arith in
+      over p q rest special (3 + n) before_it.frames
+      (subst (Takes before_it (q ∷ rest) (3 + n)) (ap (λ (k : ℕ). free_at before_it.frames k) far)
+      (takes_on before_it mid (passed mid n) (q ∷ rest) 3 n opened (text.over mid refl)))
 
 -- a comment of ASCII, before a line end
 hash_low : (c : ℕ) → is_hash c ≡ true → c < 128

@@ -1,19 +1,23 @@
 -- The marks of a text after some of it is passed.
 use Rattle.std.proofs.lemmas.Bool.Decides.{nat_tests}
-use Rattle.std.proofs.Common.{◌≡◌, ℕ, ◌+◌, ◌-◌, ◌*◌, ◌%◌, ◌^◌, ◌<◌, ◌≤◌, Bool, true, false, ◌&&◌, ◌||◌, not, eqb, Some, List, length, slice_index, zero, suc, cond, max, ◌/◌, bit_and, bit_or, bit_xor, refl, sym, ap, ◌∙◌, inl, inr, arith, w64, ◌++◌, drop, replicate, le_refl, length-append, length-drop, get_or-drop}
+use Rattle.std.proofs.Common.{◌≡◌, ℕ, ◌+◌, ◌-◌, ◌*◌, ◌%◌, ◌^◌, ◌<◌, ◌≤◌, Bool, true, false, ◌&&◌, ◌||◌, not, eqb, Some, List, length, slice_index, zero, suc, cond, max, ◌/◌, bit_and, bit_or, bit_xor, refl, sym, ap, ◌∙◌, inl, inr, arith, w64, ◌++◌, drop, replicate, le_of_eq, length-append, length-drop, get_or-drop}
 use Rattle.std.specs.Int.{bit_at, trailing_zeros}
 use Rattle.std.specs.Int.Count.{count_leading_zeros, ones, ones-le, ones_step}
 use Rattle.std.proofs.Math.Nat.{pow-suc}
+use Rattle.std.specs.List.{count_by}
 use Rattle.std.specs.Prelude.{nat_lt}
 use Rattle.std.proofs.lemmas.Bool.{cases_Bool, cases_eq, cases_lt, le-leb, le-ltb, lt-ltb}
-use Rattle.std.proofs.lemmas.List.{at_drop_more, get_or_append_left}
+use Rattle.std.proofs.lemmas.List.{at_drop_more, drop_all, get_or_append_left}
+use Rattle.std.proofs.lemmas.List.Folds.{sum_by-replicate}
+use Rattle.std.proofs.lemmas.List.Sums.{sum_by-append, sum_by-take-drop}
 use Rattle.std.proofs.lemmas.Nat.Bits.{bit_at_lowest, bit_at-suc, bit_at_set_other, bit_at_set_same}
+use Rattle.memchr.specs.Find.{is_byte}
 use Rattle.py_lines.specs.declared.marks.Marks.{Marks}
 use Rattle.py_lines.specs.Balance.{is_closing, is_opening}
 use Rattle.py_lines.specs.Character.{is_line_feed, is_operator, is_return, is_space}
 use Rattle.py_lines.specs.LogicalLine.{line_ends}
 use Rattle.py_lines.specs.Private.Run.{is_ascii_word}
-use Rattle.py_lines.specs.Private.Marks.{Advances, ArePlain, EndInFeed, FindsNext, HasMarks, IsSpecial, PassesFeeds, is_feed, is_mark, is_plain, is_set}
+use Rattle.py_lines.specs.Private.Marks.{Advances, ArePlain, CountsFeeds, EndInFeed, FindsNext, HasMarks, IsSpecial, PassesFeeds, is_feed, is_mark, is_plain, is_set}
 use Rattle.py_lines.proofs.PassedPieces.LineFeeds.{plain_on}
 use Rattle.py_lines.proofs.Text.Lanes.{filled_past}
 use Rattle.py_lines.proofs.FieldScans.TextLengths.{rest_is, rest_of}
@@ -120,10 +124,6 @@ pub record HasPassed (text : List ℕ) (from : ℕ) (m : Marks) : Type 0 where
   pub after : from ≤ to
   pub marks : HasMarks text to m
   pub plain : ArePlain text from to
-
--- none were passed yet
-pub none_passed : (text : List ℕ) (from : ℕ) (m : Marks) → HasMarks text from m → HasPassed text from m
-none_passed text from m has = record { to = from; after = le_refl from; marks = has; plain = λ i le less. absurd (omega (arith, le, less)) }
 
 -- the next block
 pub passes_block : (text : List ℕ) (from : ℕ) (m next : Marks) → HasPassed text from m → Advances text m true next → HasPassed text from next
@@ -282,6 +282,15 @@ filled_feeds text block k = tested is_line_feed text block k refl
 pub filled_length : (text block : List ℕ) → block ≡ text → length text < 64 → length (block ++ drop (length text) (replicate 64 32)) ≡ 64
 filled_length text block same few =
     omega (arith, few, ap length same, length-append {A = ℕ} block (drop (length text) (replicate 64 32)), length-drop {A = ℕ} (length text) (replicate 64 32))
+
+-- and has as many LF as the text
+pub filled_count : (text block : List ℕ) (mask : ℕ) → block ≡ text → length text < 64 → CountsFeeds (block ++ drop (length text) (replicate 64 32)) mask
+    → ones mask ≡ count_by (is_byte 10) text
+filled_count text block mask same few counts =
+    let p = is_byte 10 in let f : ℕ → ℕ = λ c. cond (p c) 1 0 in let spaces : List ℕ = replicate 64 32 in let after = drop (length text) spaces in
+    let none : count_by p (drop 64 (block ++ after)) ≡ 0 = ap (count_by p) (drop_all 64 (block ++ after) (le_of_eq (filled_length text block same few))) in
+    let all : count_by p (block ++ after) ≡ count_by p text + count_by p after = ap (λ l. count_by p (l ++ after)) same ∙ sum_by-append f text after in
+    omega (arith, counts, none, all, sum_by-take-drop f spaces (length text), sum_by-replicate f 64 32)
 
 -- the marks of a text from a byte on are those of the rest of it
 module _ (text : List ℕ) (from : ℕ) (m : Marks) (there : from ≤ length text) (base : m.base ≡ from) where

@@ -6,7 +6,7 @@ use Rattle.py_lines.specs.LogicalLine.{LogicalLine, end_len_of, line_ends, line_
 use Rattle.py_lines.specs.Given.{AreFirstLines}
 use Rattle.py_lines.specs.Lexed.{IsLexed}
 use Rattle.py_lines.specs.Private.LineScan.{HasBegun}
-use Rattle.py_lines.specs.Private.LineTokens.{AreLineText}
+use Rattle.py_lines.specs.Private.LineTokens.{AreLineText, HoldsTokens, IsLineAfter}
 use Rattle.py_lines.specs.declared.fault.Fault.{Fault}
 use Rattle.py_lines.specs.declared.fault.FaultKind.{FaultKind}
 use Rattle.py_lines.specs.declared.fault.LexError.{LexError}
@@ -45,6 +45,10 @@ read_line s text offset line end_len = record {
   indent = s.tokens.indent;
   end_len = end_len;
 }
+
+-- the scan and the tokens alone have changed
+abbrev pub reread : LineState → LineState → LineState
+reread old new = record old { scan = new.scan; tokens = new.tokens }
 
 -- the scan alone has changed
 abbrev pub rescanned : LineState → LineState → LineState
@@ -99,6 +103,12 @@ pub record HasNextFault (s : LineState) (bytes : List ℕ) (line_fault : LineFau
   pub within : line_fault.place ≤ length bytes
   pub lexed : (fault : Fault) → IsFaultAfter s line_fault.kind line_fault.place (take line_fault.place bytes) fault
       → WhereLeft s.place s.line bytes (λ text lines. IsLexed text lines (Some fault))
+
+-- the next line was read, with its tokens: so many bytes are its line end, and the line after it is this one
+pub record ReadsLine (s : LineState) (bytes : List ℕ) (end_len after : ℕ) (new : LineState) : Type 0 where
+  pub scans : HasNextLine s.place s.line bytes new.scan.stop end_len
+  pub tokens : HoldsTokens (take new.scan.stop bytes) end_len s.line new.tokens
+  pub after_is : IsLineAfter s.line (take new.scan.stop bytes) end_len after
 
 abbrev pub ScansLine : LineState → List ℕ → Result ℕ LineFault → ℕ → Type 0
 ScansLine s bytes (Ok end_len) stop = HasNextLine s.place s.line bytes stop end_len

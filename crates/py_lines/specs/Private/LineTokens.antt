@@ -1,5 +1,5 @@
 -- The tokens of a whole logical line, which are read from its text alone.
-use Rattle.std.specs.Prelude.{◌≡◌, ℕ, ◌+◌, Bool, true, false, List, [], ◌∷◌, ◌++◌, if◌then◌else◌, encode_utf8_all, drop, nat_eq}
+use Rattle.std.specs.Prelude.{◌≡◌, ℕ, ◌+◌, Bool, true, false, List, [], ◌∷◌, ◌++◌, if◌then◌else◌, encode_utf8_all, drop, length, nat_eq, take, ◌<◌, ◌≤◌}
 use Rattle.std.specs.List.{starts_with}
 use Rattle.std.specs.Str.{all_scalars}
 use Rattle.py_lines.specs.Character.{is_digit}
@@ -9,6 +9,8 @@ use Rattle.py_lines.specs.LogicalLine.{byte_len, end_len_of, line_ends, first_or
 use Rattle.py_lines.specs.Private.Machine.{begins_string}
 use Rattle.py_lines.specs.Private.Run.{word_spelling}
 use Rattle.py_lines.specs.Token.{is_comment}
+use Rattle.py_lines.specs.declared.class.Class.{Class as ByteClass}
+use Rattle.py_lines.specs.declared.class.Class.TheVariants as class
 use Rattle.py_lines.specs.declared.token.Token.{Token}
 use Rattle.py_lines.specs.declared.token.TokKind.{TokKind}
 use Rattle.py_lines.specs.declared.unit.UnitKind.{UnitKind}
@@ -142,6 +144,33 @@ pub record ReadsPiece (bytes : List ℕ) (old : LineTokens) (start line len line
   pub is : IsFirstPiece bytes (record { role = role; len = len; line_ends = line_ends })
   pub adds : AddsPiece old role start (start + len) line new
 
+-- the first piece of these bytes, however many of them are cut off after it
+abbrev pub IsFirstAnyway : List ℕ → FirstPiece → Type 0
+IsFirstAnyway bytes first = (n : ℕ) → first.len ≤ n → n ≤ length bytes → IsFirstPiece (take n bytes) first
+
+-- so it was read
+pub record ReadsAnyway (bytes : List ℕ) (old : LineTokens) (start line len line_ends : ℕ) (new : LineTokens) : Type 0 where
+  pub some : 0 < len
+  pub within : len ≤ length bytes
+  pub few : line_ends ≤ len
+  pub role : Role
+  pub is : IsFirstAnyway bytes (record { role = role; len = len; line_ends = line_ends })
+  pub adds : AddsPiece old role start (start + len) line new
+
+-- whether a byte of this class begins pieces of one kind alone, which are the same wherever after them a text ends
+abbrev pub is_simple : ByteClass → Bool
+is_simple class.Operator = true
+is_simple class.Opening = true
+is_simple class.Closing = true
+is_simple class.Hash = true
+is_simple class.Space = true
+is_simple class.LineFeed = true
+is_simple _ = false
+
+-- a piece that a byte of another class begins was not read
+abbrev pub StaysUnread : ByteClass → LineTokens → LineTokens → Type 0
+StaysUnread k old new = (is_simple k ≡ false) × (new ≡ old)
+
 -- what it holds with these pieces more
 abbrev pub kind_on : UnitKind → List Piece → UnitKind
 kind_on old [] = old
@@ -162,6 +191,17 @@ pub record HaveReadOf (text : List ℕ) (pieces left : List Piece) (first start 
 abbrev pub HaveRead : List ℕ → ℕ → ℕ → ℕ → ℕ → LineTokens → Type 0
 HaveRead text end_len first start line t =
     (pieces : List Piece) → AreLineOf text end_len pieces → (left : List Piece) × HaveReadOf text pieces left first start line t
+
+-- so of each line with which these bytes begin, and whose line end stands there or later
+abbrev pub HaveReadAnyway : List ℕ → ℕ → ℕ → ℕ → LineTokens → Type 0
+HaveReadAnyway bytes first start line t =
+    (n end_len : ℕ) → n ≤ length bytes → start + end_len ≤ n → HaveRead (take n bytes) end_len first start line t
+
+-- the pieces from one byte to another were read: the line is this one there
+pub record ReadsUpTo (bytes : List ℕ) (old : LineTokens) (start line to after : ℕ) (new : LineTokens) : Type 0 where
+  pub further : start ≤ to
+  pub few : after + start ≤ line + to
+  pub reads : (first : ℕ) → HaveReadAnyway bytes first start line old → HaveReadAnyway bytes first to after new
 
 -- the text is that of a line, which has so many bytes of line end
 abbrev pub IsLineText : List ℕ → ℕ → Type 0

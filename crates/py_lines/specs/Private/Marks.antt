@@ -1,7 +1,10 @@
 -- Bytes that aren't plain, and where they stand, in blocks of 64.
 use Rattle.std.specs.Prelude.{◌≡◌, ℕ, ◌+◌, ◌-◌, ◌<◌, ◌≤◌, Bool, true, false, ◌==◌, ◌&&◌, ◌||◌, not, nat_lt, nat_le}
-use Rattle.std.specs.Prelude.{Option, None, Some, List, length, slice_index}
+use Rattle.std.specs.Prelude.{Option, None, Some, List, length, drop, slice_index}
 use Rattle.std.specs.Int.{bit_at}
+use Rattle.std.specs.Int.Count.{ones}
+use Rattle.std.specs.List.{count_by}
+use Rattle.memchr.specs.Find.{is_byte}
 use Rattle.py_lines.specs.Character.{is_backslash, is_hash, is_line_feed, is_operator, is_quote, is_return, is_space}
 use Rattle.py_lines.specs.Balance.{is_closing, is_opening}
 use Rattle.py_lines.specs.Private.LineEnds.{CountsTo}
@@ -17,6 +20,10 @@ is_plain c = is_ascii_word c || (is_space c || (is_operator c && not (is_opening
 -- ASCII that begins no piece
 unfoldable pub begins_nothing : ℕ → Bool
 begins_nothing c = nat_lt c 128 && not (is_plain c || (is_operator c || (is_quote c || is_apart c)))
+
+-- as many bits are set as LF stand in the first 64 bytes
+abbrev pub CountsFeeds : List ℕ → ℕ → Type 0
+CountsFeeds bytes mask = ones mask + count_by (is_byte 10) (drop 64 bytes) ≡ count_by (is_byte 10) bytes
 
 -- whether a byte is of this class
 abbrev pub is_of_class : Class → ℕ → Bool

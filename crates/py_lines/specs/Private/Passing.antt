@@ -74,12 +74,12 @@ PassesBlock bytes from fs old new =
 abbrev pub word_before : List ℕ → ℕ → Passing → Option Spelling
 word_before bytes at p = tail_of (take (at - p.all) (drop p.all bytes))
 
--- the next byte that isn't plain is a quote that stands alone
-pub record MeetsString (bytes : List ℕ) (at : ℕ) (p : Passing) : Type 0 where
+-- the next byte that isn't plain is the first of so many quotes
+pub record MeetsString (bytes : List ℕ) (at : ℕ) (p : Passing) (quotes : ℕ) : Type 0 where
   pub next : FindsNext bytes p.all at p.marks
   pub within : at < length bytes
   pub quote : is_quote (slice_index bytes at) ≡ true
-  pub alone : Some 1 ≡ quotes_in (drop at bytes)
+  pub many : Some quotes ≡ quotes_in (drop at bytes)
 
 -- no LF was passed, or bytes up to one were, with all that stand before it; and then the marks stand where these do
 abbrev pub PassesLineFeeds : List ℕ → List Frame → Passing → Passing → Type 0

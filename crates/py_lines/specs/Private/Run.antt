@@ -5,6 +5,7 @@ use Rattle.std.specs.Str.{byte, IsUtf8}
 use Rattle.std.specs.Char.{is_ascii_alphanumeric, len_utf8, IsScalar}
 use Rattle.std.specs.List.{list_all}
 use Rattle.py_lines.specs.Character.{is_one_of, is_brace, is_space, is_break, is_hash, is_backslash, is_quote}
+use Rattle.py_lines.specs.PieceGrammar.{is_short_item, joined}
 use Rattle.py_lines.specs.Private.Machine.{IsFull, first_spelling, spelling_on}
 use Rattle.py_lines.specs.declared.mode.Mode.{Mode as OpenMode}
 use Rattle.py_lines.specs.declared.mode.Mode.TheVariants as opens
@@ -129,6 +130,23 @@ pub record IsWholePlainString (bytes : List ℕ) (len : ℕ) : Type 0 where
 abbrev pub HasWholePlainString : List ℕ → Option ℕ → Type 0
 HasWholePlainString bytes None = Unit {0}
 HasWholePlainString bytes (Some len) = IsWholePlainString bytes len
+
+-- text of ASCII on one line that may stand in a string between single quotes: such items
+pub record IsShortText (q : ℕ) (text : List ℕ) : Type 0 where
+  pub items : List (List ℕ)
+  pub spell : joined items ≡ text
+  pub each : list_all (is_short_item q) items ≡ true
+  pub inside : list_all is_line_byte text ≡ true
+
+-- a string between single quotes, without a prefix, stands from one byte to another: quotes, and such text between them, which isn't empty
+pub record IsShortStringAt (bytes : List ℕ) (at end : ℕ) : Type 0 where
+  pub q : ℕ
+  pub text : List ℕ
+  pub spell : q ∷ (text ++ q ∷ drop end bytes) ≡ drop at bytes
+  pub size : length text + 2 ≡ end - at
+  pub quote : is_quote q ≡ true
+  pub full : IsFull text
+  pub is : IsShortText q text
 
 -- a string without a prefix begins at this byte: a quote, after no letter, digit or underscore
 pub record BeginsPlainString (bytes : List ℕ) (at : ℕ) : Type 0 where

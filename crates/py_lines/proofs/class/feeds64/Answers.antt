@@ -1,7 +1,8 @@
 use Rattle.std.proofs.Common.{eqb, arith}
 use Rattle.std.proofs.lemmas.Simd.{length-chunk}
+use Rattle.memchr.specs.Find.{is_byte}
 use Rattle.py_lines.specs.Character.{is_line_feed}
-use Rattle.py_lines.proofs.SpecialBytes.LookUps.{bit_shown}
+use Rattle.py_lines.proofs.SpecialBytes.LookUps.{bit_shown, ones_shown}
 use Rattle.py_lines.proofs.Text.Lanes.{compared, same}
 use Rattle.py_lines.proofs.class.feeds64.Goals as goal
 
@@ -9,4 +10,8 @@ pub returns : goal.returns
 unfolding is_line_feed
 returns c =
     let text = c.args.bytes.now in
-    bit_shown is_line_feed text c.requires (same _ _ _ (compared eqb _ 10 (length-chunk 0 64 text c.requires)) (λ b. grind arith))
+    let shown = compared eqb _ 10 (length-chunk 0 64 text c.requires) in
+    record {
+      bits = bit_shown is_line_feed text c.requires (same _ _ _ shown (λ b. grind arith));
+      count = ones_shown (is_byte 10) text c.requires shown;
+    }

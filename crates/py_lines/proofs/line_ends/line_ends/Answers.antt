@@ -11,9 +11,6 @@ loop-at-init c = record {
   count = ends_counted c.args.bytes.now _ c.line_feeds-count.ensures;
 }
 
-pub overflow_add-rest : goal.overflow_add-rest
-overflow_add-rest c = omega (arith, c.well_formed, c.loop-at.invariant.within, c.in-Some.ensures.0.high)
-
 pub overflow_add-count : goal.overflow_add-count
 overflow_add-count c =
     let (first, is) = c.in-Some.ensures in

@@ -49,15 +49,6 @@ none passes bytes = search rules
 pub returns-in_default : goal.returns-in_default
 returns-in_default c = none (stays c.args.mode) c.args.bytes.now
 
-pub returns-in_default-2 : goal.returns-in_default-2
-returns-in_default-2 c = none (stays c.args.mode) c.args.bytes.now
-
-pub returns-in_default-3 : goal.returns-in_default-3
-returns-in_default-3 c = none (stays c.args.mode) c.args.bytes.now
-
-pub returns-in_default-4 : goal.returns-in_default-4
-returns-in_default-4 c = none (stays c.args.mode) c.args.bytes.now
-
 -- the run whose whole characters are taken
 run : (c : Joined-mode) → IsRunOf (stays c.args.mode) c.args.bytes.now c.match-mode.run
 run c = elim c.match-mode.branch [

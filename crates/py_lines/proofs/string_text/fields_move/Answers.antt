@@ -70,15 +70,6 @@ pub returns-in-125-default-2 : goal.returns-in-125-default-2
 returns-in-125-default-2 c quotes = end_grows c.args.host c.args.region c.args.named c.args.bytes.now quotes c.in-125-default.is-0
     (inl (λ same. apart c.args.region same c.in-125-default.is-1))
 
-pub text_move-requires-clause-some : goal.text_move-requires-clause-some
-text_move-requires-clause-some c = c.requires.some
-
-pub text_move-requires-clause-quote : goal.text_move-requires-clause-quote
-text_move-requires-clause-quote c = c.requires.quote
-
-pub returns-in-92-default : goal.returns-in-92-default
-returns-in-92-default c = c.escape_move.ensures
-
 -- what another byte does
 text_does : (c : After-text_move) → WouldDo (text_in c.args.host c.args.region c.args.named) c.args.bytes.now c.text_move.result
 unfolding is_backslash

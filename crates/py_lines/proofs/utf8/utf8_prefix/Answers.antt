@@ -11,12 +11,6 @@ front c = rw c.valid_up_to.ensures c.in-Err.ensures.cases.1
 length_front : (c : After-valid_up_to) → length (take c.valid_up_to.result c.args.bytes.now) ≡ c.valid_up_to.result
 length_front c = length-take-le c.valid_up_to.result c.args.bytes.now (omega (arith, (front c).short))
 
-pub slice_bounds-from_utf8_unchecked-end : goal.slice_bounds-from_utf8_unchecked-end
-slice_bounds-from_utf8_unchecked-end c = sym (length_front c)
-
-pub from_utf8_unchecked-requires : goal.from_utf8_unchecked-requires
-from_utf8_unchecked-requires c = (front c).front
-
 pub returns-in-Ok : goal.returns-in-Ok
 returns-in-Ok c = let is = c.in-Ok.ensures.cases.0 in record {
   prefix = is ∙ sym (take_all (length c.in-Ok.text.now) c.args.bytes.now (omega (arith, ap length is)));

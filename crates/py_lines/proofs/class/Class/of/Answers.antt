@@ -24,9 +24,6 @@ tabled (k ∷ ks) from (suc b) all less =
     let next : from + suc b ≡ from + 1 + b = omega arith in
     ap (is_of_class (slice_index_or ks b class.Word)) next ∙ tabled ks (from + 1) b (and_parts _ _ all).1 (omega arith)
 
-pub bounds-byte : goal.bounds-byte
-bounds-byte c = c.ranges.byte.fits
-
 pub returns : goal.returns
 unfolding is_plain begins_nothing is_space is_operator is_quote is_line_feed is_return is_hash is_backslash is_opening is_closing is_ascii_word is_break
 returns c =

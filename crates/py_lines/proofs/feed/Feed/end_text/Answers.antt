@@ -1,4 +1,4 @@
-use Rattle.std.proofs.Common.{◌≢◌, ◌∙◌, List, ℕ, Ok, Some, ap, length, sym, subst, arith}
+use Rattle.std.proofs.Common.{◌≢◌, ◌∙◌, List, ℕ, Ok, Some, sym, subst, arith}
 use Rattle.std.specs.Vec.{vec_len}
 use Rattle.std.proofs.lemmas.Bool.{eqb-false}
 use Rattle.py_lines.specs.Private.Feed.{EndsText, HasRoomAt}
@@ -20,9 +20,6 @@ returns-in-Ok c =
 
 pub scan_line-requires : goal.scan_line-requires
 scan_line-requires c = omega (arith, eqb-false (vec_len c.args.self.now.held) 0 (sym c.is_empty.ensures ∙ c.if-is_empty.false), c.deref.ensures.len)
-
-pub fail-requires-clause-cut : goal.fail-requires-clause-cut
-fail-requires-clause-cut c = omega (arith, c.in-Err.ensures.scans.within, ap length c.deref.ensures.value)
 
 pub fail-requires-clause-room : goal.fail-requires-clause-room
 fail-requires-clause-room c = subst (λ (s : LineState). HasRoomAt s.place s.line c.args.self.now.held.items 0) (sym c.in-Err.ensures.same) c.requires.room

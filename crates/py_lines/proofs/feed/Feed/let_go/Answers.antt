@@ -4,7 +4,6 @@ use Rattle.std.proofs.lemmas.List.{drop_all}
 use Rattle.py_lines.specs.Private.Feed.{Feed, IsLineAfterHeld, LetsGo, LineState}
 use Rattle.py_lines.specs.Private.LineState.{BeginsAnew, passed}
 use Rattle.py_lines.proofs.Feeds.OpenLine.{begun_open}
-use Rattle.py_lines.proofs.Feeds.ReadyLines.{held_within}
 use Rattle.py_lines.proofs.feed.Feed.let_go.Goals.{then-stop-len, else-stop-len}
 use Rattle.py_lines.proofs.feed.Feed.let_go.Goals as goal
 
@@ -31,9 +30,3 @@ returns c =
           (w.clear.ensures.items ∙ sym (drop_all f.state.scan.stop f.held.items (omega (arith, w.if-stop-len.true, c.len.ensures)))) c.pass.ensures c.requires.after c.restart.ensures
       | else-stop-len w ↦ lets_go f c.if-stop-len.self c.pass.new.self c.restart.new.self _ w.self-is (search rules) c.pass.ensures c.requires.after c.restart.ensures
     ]
-
-pub pass-requires : goal.pass-requires
-pass-requires c = let (end_len, h) = c.requires.holds in omega (arith, held_within c.args.self.now end_len h, c.requires.room.fits)
-
-pub drain-requires-clause-in_bounds : goal.drain-requires-clause-in_bounds
-drain-requires-clause-in_bounds c = let (end_len, h) = c.requires.holds in omega (arith, held_within c.args.self.now end_len h)

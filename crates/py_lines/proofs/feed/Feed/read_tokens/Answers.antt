@@ -1,16 +1,13 @@
 use Rattle.std.proofs.Common.{ℕ, List, sym, ap, subst, length, take, arith}
 use Rattle.py_lines.specs.Private.Feed.{HasReadTokens, HoldsLine, HoldsSo, LineState}
 use Rattle.py_lines.specs.Private.LineTokens.{HoldsTokens, IsLineAfter, IsLineText}
-use Rattle.py_lines.proofs.Feeds.ReadyLines.{held_line_text, held_within, none_read, some_read}
+use Rattle.py_lines.proofs.Feeds.ReadyLines.{held_line_text, held_within, some_read}
 use Rattle.py_lines.proofs.feed.Feed.read_tokens.Goals as goal
 use Rattle.py_lines.proofs.feed.Feed.read_tokens.Goals.{In-Some}
 
 -- the line that stands in what is held
 stands : (c : In-Some) → HoldsLine c.args.self.now c.in-Some.end_len
 stands c = let f = c.args.self.now in (subst (λ r. HoldsSo f r c.requires.holds.0) c.in-Some.is c.requires.holds.1).0
-
-pub returns-in_default : goal.returns-in_default
-returns-in_default c = none_read c.requires.room c.in_default.is c.requires.holds
 
 pub read_tokens-requires : goal.read_tokens-requires
 read_tokens-requires c =

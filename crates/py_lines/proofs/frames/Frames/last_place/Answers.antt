@@ -1,23 +1,8 @@
-use Rattle.std.proofs.Common.{◌∙◌, ap, arith, get_or, sym}
+use Rattle.std.proofs.Common.{◌∙◌, ap, get_or, sym}
 use Rattle.py_lines.specs.declared.frames.Frame.TheVariants as frames
 use Rattle.py_lines.specs.Private.Frames.{place_of}
 use Rattle.py_lines.proofs.FieldScans.FrameArrays.{taken}
 use Rattle.py_lines.proofs.frames.Frames.last_place.Goals as goal
-
-pub overflow_cast-saturating_sub : goal.overflow_cast-saturating_sub
-overflow_cast-saturating_sub c = omega (arith, c.saturating_sub.type_inv)
-
-pub offset_bounds-self-inside-saturating_sub : goal.offset_bounds-self-inside-saturating_sub
-offset_bounds-self-inside-saturating_sub c = omega (arith, c.saturating_sub.type_inv)
-
-pub bounds : goal.bounds
-bounds c = omega (arith, c.saturating_sub.ensures, c.self.invariant.1)
-
-pub bounds-self-inside-saturating_sub : goal.bounds-self-inside-saturating_sub
-bounds-self-inside-saturating_sub c = omega (arith, c.saturating_sub.ensures, c.self.invariant.1)
-
-pub bounds-self-inside : goal.bounds-self-inside
-bounds-self-inside c = omega (arith, c.saturating_sub.ensures, c.self.invariant.1)
 
 pub returns-in-Bracket : goal.returns-in-Bracket
 returns-in-Bracket c frame others is =

@@ -1,4 +1,4 @@
-use Rattle.std.proofs.Common.{◌+◌, ap, ◌∙◌, arith, sym, refl}
+use Rattle.std.proofs.Common.{◌+◌, ap, ◌∙◌, arith}
 use Rattle.py_lines.proofs.FieldScans.FrameArrays.{opened, Opened}
 use Rattle.py_lines.proofs.frames.Frames.open.Goals.{Else-len-eq-MAX_DEPTH}
 use Rattle.py_lines.proofs.frames.Frames.open.Goals as goal
@@ -33,14 +33,5 @@ returns-in_default c =
     let all = more (goal.at.returns-in_default c).Else-len-eq-MAX_DEPTH in
     (all.short, all.is)
 
-pub returns-then-len-eq-MAX_DEPTH : goal.returns-then-len-eq-MAX_DEPTH
-returns-then-len-eq-MAX_DEPTH c = (sym c.len.ensures.is ∙ c.if-len-eq-MAX_DEPTH.true, refl)
-
-pub offset_bounds-self-inside-self-inside : goal.offset_bounds-self-inside-self-inside
-offset_bounds-self-inside-self-inside c = omega (arith, c.self.invariant.1)
-
 pub bounds-self-inside-self-inside : goal.bounds-self-inside-self-inside
 bounds-self-inside-self-inside c = (more (goal.at.bounds-self-inside-self-inside c).Else-len-eq-MAX_DEPTH).room
-
-pub overflow_add-self : goal.overflow_add-self
-overflow_add-self c = omega (arith, (more (goal.at.overflow_add-self c).Else-len-eq-MAX_DEPTH).room)

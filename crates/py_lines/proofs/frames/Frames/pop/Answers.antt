@@ -3,20 +3,9 @@ use Rattle.py_lines.proofs.FieldScans.FrameArrays.{Taken, taken}
 use Rattle.py_lines.proofs.frames.Frames.pop.Goals.{In-Some}
 use Rattle.py_lines.proofs.frames.Frames.pop.Goals as goal
 
-pub returns-in_default : goal.returns-in_default
-returns-in_default c = (c.in_default.ensures, c.in_default.ensures)
-
 -- what is left without it
 less : (c : In-Some) → Taken c.self.inside.frames c.self.inside.depth c.in-Some.frame c.args.self.now c.self.inside.fields
 less c = taken c.self.inside.frames c.self.inside.depth c.in-Some.frame c.args.self.now c.self.inside.fields c.self.invariant c.self.view_is c.in-Some.ensures
-
-pub overflow_sub-self : goal.overflow_sub-self
-overflow_sub-self c = (less c).some
-
-pub overflow_sub-self-in-Field : goal.overflow_sub-self-in-Field
-overflow_sub-self-in-Field c =
-    let counted = rw c.in-Field.is at (less (goal.at.overflow_sub-self-in-Field c).In-Some).counted in
-    omega (arith, counted)
 
 pub invariant_of-self : goal.invariant_of-self
 invariant_of-self c =

@@ -1,4 +1,4 @@
-use Rattle.std.proofs.Common.{◌-◌}
+use Rattle.std.proofs.Common.{◌-◌, length}
 use Rattle.py_lines.specs.Private.LineTokens.{HaveRead}
 use Rattle.py_lines.proofs.line_tokens.LineTokens.read.Given as goal
 
@@ -6,4 +6,4 @@ abbrev pub invariant-pieces : goal.invariant-pieces
 invariant-pieces l = HaveRead l.text l.end_len l.line l.start l.line_here l.self
 
 abbrev pub decreases-pieces : goal.decreases-pieces
-decreases-pieces l = l.len - l.start
+decreases-pieces l = length l.text - l.start

@@ -1,55 +1,102 @@
-use Rattle.std.proofs.Common.{⊎_elim, append-nil, arith, refl, sym}
-use Rattle.py_lines.specs.Private.LineTokens.{Role}
-use Rattle.py_lines.proofs.LineTokens.FirstPieces.{comment_taken, join_taken, line_end_taken, operator_taken, space_taken}
-use Rattle.py_lines.proofs.LineTokens.FirstCharacters.{class_is}
+use Rattle.std.proofs.Common.{◌≡◌, ◌+◌, ◌∙◌, ℕ, List, true, false, ap, append-nil, arith, drop, le_refl, length, length-drop, refl, slice_index, subst, sym, ⊎_elim}
+use Rattle.std.specs.Prelude.{MatchOption, nat_le}
+use Rattle.std.proofs.lemmas.Bool.{both_ways, or_left, or_right}
+use Rattle.std.proofs.lemmas.List.{take_all}
+use Rattle.py_lines.specs.Piece.{Piece}
+use Rattle.py_lines.specs.declared.class.Class.{Class as ByteClass}
+use Rattle.py_lines.specs.declared.class.Class.TheVariants as class
+use Rattle.py_lines.specs.declared.line_tokens.LineTokens.{LineTokens}
+use Rattle.py_lines.specs.declared.unit.UnitKind.TheVariants as unit_kind
+use Rattle.py_lines.specs.Private.LineTokens.{AddsPiece, BeginWithPiece, IsFirstPiece, ReadsAnyway, ReadsPiece, Role, StaysUnread, is_simple}
+use Rattle.py_lines.specs.Private.Marks.{is_of_class}
+use Rattle.py_lines.specs.Private.Run.{is_ascii_word, is_wide_word}
+use Rattle.py_lines.proofs.FieldScans.TextLengths.{rest_is, rest_of}
+use Rattle.py_lines.proofs.LineTokens.Anyway.{begins_from}
+use Rattle.py_lines.proofs.LineTokens.FirstCharacters.{class_is, class_told, some_bytes}
+use Rattle.py_lines.proofs.LineTokens.FirstPieces.{join_taken, line_end_taken}
 use Rattle.py_lines.proofs.LineTokens.FirstString.{first_within}
 use Rattle.py_lines.proofs.line_tokens.LineTokens.read_piece.Goals as goal
+use Rattle.py_lines.proofs.line_tokens.LineTokens.read_piece.Goals.{After-of-class, In_default, In-Some}
+
+-- the piece, as a slice has the bytes
+there : (c : After-of-class) → (p : Piece) × BeginWithPiece (rest_of c.args.text.now c.args.start) p
+there c = subst (λ l. (p : Piece) × BeginWithPiece l p) (sym (rest_is c.args.text.now c.args.start)) c.requires.piece
+
+-- it was not read yet
+unread : (c : In_default) → StaysUnread c.of-class.result c.args.self.now c.read_anyway.new.self
+unread c =
+    let (old, new) : _ × _ = (c.args.self.now, c.read_anyway.new.self) in
+    subst (λ o. MatchOption o (StaysUnread c.of-class.result old new) (λ p. ReadsAnyway (drop c.args.start c.args.text.now) old c.args.start c.args.line p.0 p.1 new))
+    c.in_default.is c.in_ok-piece.ensures
+
+pub returns-in-Some : goal.returns-in-Some
+returns-in-Some c =
+    let l = drop c.args.start c.args.text.now in
+    let (old, new) : _ × _ = (c.args.self.now, c.read_anyway.new.self) in
+    let r : ReadsAnyway l old c.args.start c.args.line c.in-Some.piece.0 c.in-Some.piece.1 new
+    = subst (λ o. MatchOption o (StaysUnread c.of-class.result old new) (λ p. ReadsAnyway l old c.args.start c.args.line p.0 p.1 new)) c.in-Some.is c.in_ok-piece.ensures in
+    record {
+      role = r.role;
+      is = subst (λ x. IsFirstPiece x (record { role = r.role; len = c.in-Some.piece.0; line_ends = c.in-Some.piece.1 })) (take_all (length l) l (le_refl (length l))) (r.is (length l) r.within (le_refl (length l)));
+      adds = r.adds;
+    }
+
+pub word_or_string-kind-requires-clause-word : goal.word_or_string-kind-requires-clause-word
+word_or_string-kind-requires-clause-word c =
+    let rest = rest_of c.args.text.now c.args.start in
+    let first = slice_index rest 0 in
+    let told = c.of-class.ensures in
+    begins_from is_wide_word rest (some_bytes rest (there (goal.at.word_or_string-kind-requires-clause-word c).After-of-class))
+    (⊎_elim (λ is. or_left (is_ascii_word first) (nat_le 128 first) (ap (λ k. is_of_class k first) (sym is) ∙ told))
+    (λ is. or_right (is_ascii_word first) (nat_le 128 first) (ap (λ k. is_of_class k first) (sym is) ∙ told)) c.in-Word.is)
 
 pub add-requires : goal.add-requires
-add-requires c = omega (arith, c.requires.fits, first_within c.requires.piece c.word_or_string-kind.ensures)
+add-requires c =
+    let (text, start) : _ × _ = (c.args.text.now, c.args.start) in
+    omega (arith, c.well_formed, first_within (there (goal.at.add-requires c).After-of-class) c.word_or_string-kind.ensures, ap length (rest_is text start), length-drop start text)
 
 pub string_len-len-requires-clause-string : goal.string_len-len-requires-clause-string
-string_len-len-requires-clause-string c = λ p b. class_is b c.of.ensures c.in-Quote.is
+string_len-len-requires-clause-string c = λ p b. class_is b c.of-class.ensures c.in-Quote.is
 
 pub add-requires-in-Quote : goal.add-requires-in-Quote
-add-requires-in-Quote c = omega (arith, c.requires.fits, first_within c.requires.piece c.string_len-len.ensures)
+add-requires-in-Quote c =
+    let (text, start) : _ × _ = (c.args.text.now, c.args.start) in
+    omega (arith, c.well_formed, first_within (there (goal.at.add-requires-in-Quote c).After-of-class) c.string_len-len.ensures, ap length (rest_is text start), length-drop start text)
+
+-- a byte of no other class begins a piece that isn't read before
+leftover : (k : ByteClass) (bytes : List ℕ) (p : Piece) → BeginWithPiece bytes p → is_of_class k (slice_index bytes 0) ≡ true → is_simple k ≡ false
+    → (k ≡ class.Word → ⊥) → (k ≡ class.Wide → ⊥) → (k ≡ class.Quote → ⊥) → (k ≡ class.Return → ⊥) → (k ≡ class.Backslash → ⊥) → ⊥
+leftover class.Word bytes p b is other word wide quote return slash = word refl
+leftover class.Wide bytes p b is other word wide quote return slash = wide refl
+leftover class.Quote bytes p b is other word wide quote return slash = quote refl
+leftover class.Return bytes p b is other word wide quote return slash = return refl
+leftover class.Backslash bytes p b is other word wide quote return slash = slash refl
+leftover class.Other bytes p b is other word wide quote return slash = class_told bytes p class.Other b is
+leftover k bytes p b is other word wide quote return slash = both_ways _ other refl
 
 pub unreachable-requires : goal.unreachable-requires
-unreachable-requires c = let (p, b) = c.requires.piece in class_is b c.of.ensures c.in-Other.is
-
-pub returns-in_ok-add-in-Operator : goal.returns-in_ok-add-in-Operator
-returns-in_ok-add-in-Operator c = record {
-  role = _;
-  is = λ p b. operator_taken b (⊎_elim (λ is. class_is b c.of.ensures is)
-      (⊎_elim (λ is. class_is b c.of.ensures is) (λ is. class_is b c.of.ensures is)) c.in-Operator.is);
-  adds = c.in_ok-add-in-Operator.ensures;
-}
-
-pub returns-in_ok-add-in-Hash : goal.returns-in_ok-add-in-Hash
-returns-in_ok-add-in-Hash c = record {
-  role = _;
-  is = λ p b. comment_taken b c.comment_run-len.result (class_is b c.of.ensures c.in-Hash.is) c.comment_run-len.ensures;
-  adds = c.in_ok-add-in-Hash.ensures;
-}
+unreachable-requires c =
+    let (p, b) = there (goal.at.unreachable-requires c).After-of-class in
+    let no = c.in_default-class in
+    leftover c.of-class.result _ p b c.of-class.ensures (unread (goal.at.unreachable-requires c).In_default).0 no.not-Word no.not-Wide no.not-Quote no.not-Return no.not-Backslash
 
 pub returns-in-Backslash : goal.returns-in-Backslash
-returns-in-Backslash c = record {
-  role = Role.joins;
-  is = λ p b. rw c.line_end_len.ensures (join_taken b (class_is b c.of.ensures c.in-Backslash.is));
-  adds = record { kind = refl; indent = refl; tokens = sym (append-nil _) };
-}
+returns-in-Backslash c =
+    let (text, start) : _ × _ = (c.args.text.now, c.args.start) in
+    let same = (unread (goal.at.returns-in-Backslash c).In_default).1 in
+    subst (λ l. ReadsPiece l c.args.self.now start c.args.line (1 + c.line_end_len.result) 1 (record c.read_anyway.new.self { kind = unit_kind.Code })) (rest_is text start) (record {
+      role = Role.joins;
+      is = λ p b. rw c.line_end_len.ensures (join_taken b (class_is b c.of-class.ensures c.in-Backslash.is));
+      adds = subst (λ (t : LineTokens). AddsPiece c.args.self.now Role.joins start (start + (1 + c.line_end_len.result)) c.args.line (record t { kind = unit_kind.Code }))
+          (sym same) (record { kind = refl; indent = refl; tokens = sym (append-nil _) });
+    })
 
-pub returns-in-LineFeed : goal.returns-in-LineFeed
-returns-in-LineFeed c = record {
-  role = Role.none;
-  is = λ p b. rw c.line_end_len-in-LineFeed.ensures
-      (line_end_taken b (⊎_elim (λ is. class_is b c.of.ensures is) (λ is. class_is b c.of.ensures is) c.in-LineFeed.is));
-  adds = record { kind = refl; indent = refl; tokens = sym (append-nil _) };
-}
-
-pub returns-in-Space : goal.returns-in-Space
-returns-in-Space c = record {
-  role = Role.none;
-  is = λ p b. space_taken b c.space_len.result (class_is b c.of.ensures c.in-Space.is) c.space_len.ensures;
-  adds = record { kind = refl; indent = refl; tokens = sym (append-nil _) };
-}
+pub returns-in-Return : goal.returns-in-Return
+returns-in-Return c =
+    let (text, start) : _ × _ = (c.args.text.now, c.args.start) in
+    subst (λ l. ReadsPiece l c.args.self.now start c.args.line c.line_end_len-in-Return.result 1 c.read_anyway.new.self) (rest_is text start) (record {
+      role = Role.none;
+      is = λ p b. rw c.line_end_len-in-Return.ensures (line_end_taken b (class_is b c.of-class.ensures c.in-Return.is));
+      adds = subst (AddsPiece c.args.self.now Role.none start (start + c.line_end_len-in-Return.result) c.args.line)
+          (sym (unread (goal.at.returns-in-Return c).In_default).1) (record { kind = refl; indent = refl; tokens = sym (append-nil _) });
+    })

@@ -8,7 +8,7 @@ use Rattle.py_lines.specs.declared.line_state.LineState.{LineState}
 use Rattle.py_lines.proofs.Feeds.ReadyLines.{none_is}
 use Rattle.py_lines.proofs.Readers.NextLines.{further}
 use Rattle.py_lines.proofs.Readers.PassedLines.{passes_found}
-use Rattle.std.proofs.Math.Nat.{le_of_lt, le_trans, lt_of_le_of_lt}
+use Rattle.std.proofs.Math.Nat.{le_of_lt, le_trans}
 use Rattle.py_lines.proofs.lines.Lines.pass_lines.Goals as goal
 
 pub returns : goal.returns
@@ -29,20 +29,8 @@ within_end place before len bytes h within = omega (arith, length-take (before -
 few_more : (place line len ends : ℕ) (bytes : List ℕ) → line ≤ place + 1 → ends ≡ line_ends (take len bytes) → line + ends ≤ place + len + 1
 few_more place line len ends bytes few is = omega (arith, few_first bytes len)
 
-pub slice_bounds-pass_lines-count : goal.slice_bounds-pass_lines-count
-slice_bounds-pass_lines-count c = le_of_lt c.if-place-before.false
-
-pub slice_bounds-pass_lines-start : goal.slice_bounds-pass_lines-start
-slice_bounds-pass_lines-start c = le_of_lt c.if-place-before.false
-
-pub slice_bounds-pass_lines-end : goal.slice_bounds-pass_lines-end
-slice_bounds-pass_lines-end c = c.if-before-source.false
-
 pub overflow_add-line : goal.overflow_add-line
 overflow_add-line c = omega (arith, within_end _ _ _ c.self.inside.source.bytes.now (le_of_lt c.if-place-before.false) c.pass_lines-len.ensures.lines.within, few_more _ _ _ _ _ c.self.inside.source.few_lines c.pass_lines-len.ensures.ends)
-
-pub pass-requires : goal.pass-requires
-pass-requires c = lt_of_le_of_lt (within_end _ _ _ c.self.inside.source.bytes.now (le_of_lt c.if-place-before.false) c.pass_lines-len.ensures.lines.within) c.ranges.before.fits
 
 pub invariant_of-source : goal.invariant_of-source
 invariant_of-source c = rw c.pass.ensures (record {

@@ -1,22 +1,7 @@
-use Rattle.std.proofs.Common.{◌∙◌, le_refl, length, sym, arith}
+use Rattle.std.proofs.Common.{◌∙◌, sym, arith}
 use Rattle.py_lines.proofs.FieldScans.TextLengths.{rest_of}
 use Rattle.py_lines.proofs.SpecialBytes.Places.{fed, has_marks, marked}
 use Rattle.py_lines.proofs.marks.Marks.at.Goals as goal
-
-pub slice_bounds-rest-count : goal.slice_bounds-rest-count
-slice_bounds-rest-count c = c.requires
-
-pub slice_bounds-rest-start : goal.slice_bounds-rest-start
-slice_bounds-rest-start c = c.requires
-
-pub slice_bounds-rest-end : goal.slice_bounds-rest-end
-slice_bounds-rest-end c = le_refl (length c.args.text.now)
-
-pub of-requires : goal.of-requires
-of-requires c = c.if-rest-ge64.true
-
-pub of_last-requires : goal.of_last-requires
-of_last-requires c = c.if-rest-ge64.false
 
 pub returns-then-rest-ge64 : goal.returns-then-rest-ge64
 returns-then-rest-ge64 c =

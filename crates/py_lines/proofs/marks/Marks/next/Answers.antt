@@ -1,6 +1,5 @@
 use Rattle.std.proofs.Common.{◌≡◌, ◌∙◌, refl, sym, ap, arith, rules}
-use Rattle.std.proofs.lemmas.Nat.{trailing_le}
-use Rattle.py_lines.proofs.SpecialBytes.Places.{finds_end, finds_lowest, passes_block, none_passed}
+use Rattle.py_lines.proofs.SpecialBytes.Places.{finds_end, finds_lowest, passes_block}
 use Rattle.py_lines.proofs.marks.Marks.next.Goals as goal
 
 pub blocks-2-preserved : goal.blocks-2-preserved
@@ -19,22 +18,3 @@ pub returns : goal.returns
 returns c from has =
     finds_lowest c.args.text.now from c.advance.new.self (rw c.blocks-2-test.ensures.marks.0 (c.blocks-2.invariant.1 from has))
     (omega (arith, c.if-self-eq0.false)) (search rules)
-
-pub blocks-2-init : goal.blocks-2-init
-blocks-2-init c = (c.requires, λ from has. none_passed c.args.text.now from c.args.self.now has)
-
-pub advance-requires : goal.advance-requires
-advance-requires c = c.blocks-2.invariant.0
-
-pub blocks-2-smaller : goal.blocks-2-smaller
-blocks-2-smaller c =
-    let next = c.blocks-2-test.ensures.base refl in
-    omega (arith, next.0, next.1)
-
-pub overflow_add-place : goal.overflow_add-place
-overflow_add-place c =
-    let same = ap (λ m. m.base) c.blocks-2-test.ensures.marks.0 in
-    omega (arith, same, c.blocks-2.invariant.0, trailing_le 64 c.advance.new.self.bits, c.well_formed)
-
-pub overflow_sub-self : goal.overflow_sub-self
-overflow_sub-self c = omega (arith, c.if-self-eq0.false)

@@ -1,4 +1,4 @@
-use Rattle.std.proofs.Common.{◌+◌, ◌∙◌, ◌≤◌, List, ℕ, ap, arith, drop, le_refl, length, length-drop, refl, slice_index, subst, sym}
+use Rattle.std.proofs.Common.{◌+◌, ◌∙◌, ◌≤◌, List, ℕ, ap, arith, drop, length, length-drop, refl, slice_index, subst, sym}
 use Rattle.std.proofs.Math.Utf8.{low_scalar}
 use Rattle.std.proofs.lemmas.Bool.{both_ways}
 use Rattle.py_lines.specs.Character.{is_break}
@@ -82,32 +82,14 @@ returns-else-passed c =
       | in_default w ↦ (w.self-is, w.frames-is)
     ]
 
-pub bounds-bytes-at : goal.bounds-bytes-at
-bounds-bytes-at c = c.requires.within
-
 pub pass_line_end-requires : goal.pass_line_end-requires
 pass_line_end-requires c = record {
   fits = omega (arith, c.requires.within, c.well_formed);
   few = omega (arith, few_ends c.args.bytes.now c.args.self.now c.requires.counted, c.requires.within, c.well_formed);
 }
 
-pub slice_bounds-outer_end_len-count : goal.slice_bounds-outer_end_len-count
-slice_bounds-outer_end_len-count c = c.requires.next.within
-
-pub slice_bounds-outer_end_len-start : goal.slice_bounds-outer_end_len-start
-slice_bounds-outer_end_len-start c = c.requires.next.within
-
-pub slice_bounds-outer_end_len-end : goal.slice_bounds-outer_end_len-end
-slice_bounds-outer_end_len-end c = le_refl (length c.args.bytes.now)
-
 pub returns-in_default-outer_end_len : goal.returns-in_default-outer_end_len
 returns-in_default-outer_end_len c = (refl, refl)
-
-pub overflow_add-at : goal.overflow_add-at
-overflow_add-at c = omega (arith, end_within c.args.bytes.now c.args.at c.in-Some.len c.requires.next.within c.in-Some.ensures, c.well_formed)
-
-pub pass-requires : goal.pass-requires
-pass-requires c = record { base = omega (arith, (c.requires.next.held c.requires.within).0); within = end_within c.args.bytes.now c.args.at c.in-Some.len c.requires.next.within c.in-Some.ensures }
 
 pub pass_line_end-requires-in-Return : goal.pass_line_end-requires-in-Return
 pass_line_end-requires-in-Return c = record {
@@ -115,47 +97,14 @@ pass_line_end-requires-in-Return c = record {
   few = omega (arith, few_ends c.args.bytes.now c.args.self.now c.requires.counted, c.requires.within, c.well_formed);
 }
 
-pub pass_string-passed-requires : goal.pass_string-passed-requires
-pass_string-passed-requires c = record { next = c.requires.next; within = c.requires.within; quote = c.in-Quote.ensures }
-
-pub overflow_add-at-in-Backslash : goal.overflow_add-at-in-Backslash
-overflow_add-at-in-Backslash c = omega (arith, c.requires.within, c.well_formed)
-
-pub slice_bounds-outer_end_len-count-in-Backslash : goal.slice_bounds-outer_end_len-count-in-Backslash
-slice_bounds-outer_end_len-count-in-Backslash c = omega (arith, c.requires.within)
-
-pub slice_bounds-outer_end_len-start-in-Backslash : goal.slice_bounds-outer_end_len-start-in-Backslash
-slice_bounds-outer_end_len-start-in-Backslash c = omega (arith, c.requires.within)
-
-pub slice_bounds-outer_end_len-end-in-Backslash : goal.slice_bounds-outer_end_len-end-in-Backslash
-slice_bounds-outer_end_len-end-in-Backslash c = le_refl (length c.args.bytes.now)
-
 pub returns-in_default-outer_end_len-2 : goal.returns-in_default-outer_end_len-2
 returns-in_default-outer_end_len-2 c = (refl, refl)
 
 pub overflow_add-self : goal.overflow_add-self
 overflow_add-self c = omega (arith, few_ends c.args.bytes.now c.args.self.now c.requires.counted, c.requires.within, c.well_formed)
 
-pub overflow_add-self-in-Backslash : goal.overflow_add-self-in-Backslash
-overflow_add-self-in-Backslash c = omega (arith, c.requires.within, c.well_formed)
-
-pub overflow_add-self-in-Backslash-2 : goal.overflow_add-self-in-Backslash-2
-overflow_add-self-in-Backslash-2 c = omega (arith, end_within c.args.bytes.now (c.args.at + 1) c.in-Some-outer_end_len.len (omega (arith, c.requires.within)) c.in-Some-outer_end_len.ensures, c.well_formed)
-
-pub pass-requires-in-Backslash : goal.pass-requires-in-Backslash
-pass-requires-in-Backslash c = record { base = omega (arith, (c.requires.next.held c.requires.within).0); within = end_within c.args.bytes.now (c.args.at + 1) c.in-Some-outer_end_len.len (omega (arith, c.requires.within)) c.in-Some-outer_end_len.ensures }
-
-pub pass_comment-passed-requires : goal.pass_comment-passed-requires
-pass_comment-passed-requires c = record { next = c.requires.next; within = c.requires.within; hash = c.in-Hash.ensures }
-
 pub char-first : goal.char-first
 char-first c = low_scalar (slice_index c.args.bytes.now c.args.at) (omega (arith, c.type_inv.bytes c.args.at))
 
-pub overflow_add-self-in-Opening : goal.overflow_add-self-in-Opening
-overflow_add-self-in-Opening c = omega (arith, c.requires.within, c.well_formed)
-
 pub char-first-in-Closing-1 : goal.char-first-in-Closing-1
 char-first-in-Closing-1 c = low_scalar (slice_index c.args.bytes.now c.args.at) (omega (arith, c.type_inv.bytes c.args.at))
-
-pub overflow_add-self-in-Closing : goal.overflow_add-self-in-Closing
-overflow_add-self-in-Closing c = omega (arith, c.requires.within, c.well_formed)

@@ -34,18 +34,6 @@ returns c =
       same = λ h. absurd (both_ways true h refl);
     }
 
-pub next-end-requires : goal.next-end-requires
-next-end-requires c = omega (arith, (c.requires.next.held c.requires.within).0, c.requires.within)
-
-pub bounds-bytes-end : goal.bounds-bytes-end
-bounds-bytes-end c = c.specials-test.true
-
-pub next-end-requires-in-specials : goal.next-end-requires-in-specials
-next-end-requires-in-specials c = omega (arith, (c.specials.invariant.next.held c.specials-test.true).0, c.specials-test.true)
-
-pub bounds-bytes-end-else-end-bytes : goal.bounds-bytes-end-else-end-bytes
-bounds-bytes-end-else-end-bytes c = omega (arith, c.if-end-bytes.false)
-
 pub char-bytes : goal.char-bytes
 char-bytes c = low_scalar (slice_index c.args.bytes.now c.specials.end) (omega (arith, c.type_inv.bytes c.specials.end))
 

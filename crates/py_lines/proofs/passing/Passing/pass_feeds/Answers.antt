@@ -1,4 +1,4 @@
-use Rattle.std.proofs.Common.{rules, ap, inl, inr, arith}
+use Rattle.std.proofs.Common.{rules, ap, inl, inr}
 use Rattle.py_lines.specs.declared.marks.Marks.{Marks}
 use Rattle.py_lines.proofs.passing.Passing.pass_feeds.Goals as goal
 
@@ -10,9 +10,3 @@ returns-else-is_empty c bytes from has = inr (c.in-Some.end, c.in-Some.feeds, c.
 
 pub returns-in_default : goal.returns-in_default
 returns-in_default c bytes from has = inl (ap (λ (m : Marks). record c.args.self.now { marks = m }) (c.in_default.ensures bytes from has))
-
-pub pass_feeds-requires : goal.pass_feeds-requires
-pass_feeds-requires c = c.requires.fits
-
-pub overflow_add-self : goal.overflow_add-self
-overflow_add-self c = omega (arith, c.requires.few, c.type_inv.feeds.fits)

@@ -1,4 +1,4 @@
-use Rattle.std.proofs.Common.{◌+◌, ◌<◌, ◌≡◌, ◌∙◌, List, ℕ, ap, arith, get_or-drop, length, length-drop, refl, slice_index, subst, sym, ◌≤◌, le_refl, true, false}
+use Rattle.std.proofs.Common.{◌+◌, ◌<◌, ◌≡◌, ◌∙◌, List, ℕ, ap, arith, get_or-drop, length, length-drop, refl, slice_index, subst, sym, ◌≤◌, true, false}
 use Rattle.std.proofs.lemmas.Bool.{both_ways}
 use Rattle.py_lines.specs.declared.frames.Frame.{Frame}
 use Rattle.py_lines.specs.Private.FieldText.{HasText}
@@ -36,36 +36,12 @@ returns c =
           (c.pass.ensures (at + 1) (next.rest here) (omega arith))
           (λ scan p frames. field_over p q (next.special here) _ n meets.quote c.requires.fields
           (omega (arith, ap (λ (fs : List Frame). length fs) frames, c.len.ensures.is, c.if-len-gt10.false))
-          (meets.alone ∙ ap quotes_in (bytes_from bytes at here)) text within last);
+          (meets.many ∙ ap quotes_in (bytes_from bytes at here)) text within last);
       same = λ h. absurd (both_ways true h refl);
     }
 
-pub bounds-bytes-at : goal.bounds-bytes-at
-bounds-bytes-at c = c.requires.quote.within
-
-pub overflow_add-text : goal.overflow_add-text
-overflow_add-text c = omega (arith, c.requires.quote.within, c.well_formed)
-
-pub slice_bounds-text-count : goal.slice_bounds-text-count
-slice_bounds-text-count c = omega (arith, c.requires.quote.within)
-
-pub slice_bounds-text-start : goal.slice_bounds-text-start
-slice_bounds-text-start c = omega (arith, c.requires.quote.within)
-
-pub slice_bounds-text-end : goal.slice_bounds-text-end
-slice_bounds-text-end c = le_refl (length c.args.bytes.now)
-
-pub bounds-text-len : goal.bounds-text-len
-bounds-text-len c = omega (arith, c.text_len-len.ensures.0, c.if-len-text.false)
-
 pub returns-then-len-gt10 : goal.returns-then-len-gt10
 returns-then-len-gt10 c = record { passed = λ so. absurd (both_ways false refl so); same = λ _. refl }
-
-pub overflow_add-self : goal.overflow_add-self
-overflow_add-self c = omega (arith, more_there c.args.bytes.now (c.args.at + 1) c.text_len-len.result c.text_len-len.ensures.0 c.if-len-text.false, c.well_formed)
-
-pub overflow_add-self-2 : goal.overflow_add-self-2
-overflow_add-self-2 c = omega (arith, more_there c.args.bytes.now (c.args.at + 1) c.text_len-len.result c.text_len-len.ensures.0 c.if-len-text.false, c.well_formed)
 
 pub pass-requires : goal.pass-requires
 pass-requires c =

@@ -1,4 +1,4 @@
-use Rattle.std.proofs.Common.{◌+◌, ◌∙◌, Some, ap, arith, drop, get_or-drop, length-drop, refl, slice_index, subst, sym, true, false, le_refl, length, ◌<◌, ◌≡◌}
+use Rattle.std.proofs.Common.{◌+◌, ◌∙◌, Some, ap, arith, drop, get_or-drop, length-drop, refl, slice_index, subst, sym, true, false, length, ◌<◌, ◌≡◌}
 use Rattle.std.proofs.lemmas.Bool.{both_ways}
 use Rattle.py_lines.specs.Private.Passing.{MeetsString, TellsFields, word_before}
 use Rattle.py_lines.specs.Private.Scan.{quotes_in}
@@ -11,12 +11,12 @@ use Rattle.py_lines.proofs.PassedPieces.Reads.{second_quote}
 use Rattle.py_lines.proofs.passing.Passing.pass_string.Goals.{In-Some-eq1, In-Some-eq2}
 use Rattle.py_lines.proofs.passing.Passing.pass_string.Goals as goal
 
-meets : (c : In-Some-eq1) → MeetsString c.args.bytes.now c.args.at c.args.self.now
+meets : (c : In-Some-eq1) → MeetsString c.args.bytes.now c.args.at c.args.self.now 1
 meets c = record {
   next = c.requires.next;
   within = c.requires.within;
   quote = c.requires.quote;
-  alone = ap Some (sym c.in-Some-eq1.field-0-test) ∙ sym c.in-Some-eq1.is ∙ c.quotes_len.ensures ∙ ap quotes_in (rest_is c.args.bytes.now c.args.at);
+  many = ap Some (sym c.in-Some-eq1.field-0-test) ∙ sym c.in-Some-eq1.is ∙ c.quotes_len.ensures ∙ ap quotes_in (rest_is c.args.bytes.now c.args.at);
 }
 
 pub pass_fields-requires : goal.pass_fields-requires
@@ -38,6 +38,9 @@ returns-in-Some-true c = record { passed = c.pass_fields.ensures.passed; same = 
 
 pub returns-in-Some-false : goal.returns-in-Some-false
 returns-in-Some-false c = record { passed = λ so place. c.pass_text.ensures.passed so place c.args.frames.now; same = c.pass_text.ensures.same }
+
+pub returns-in-Some-eq3-clause-passed : goal.returns-in-Some-eq3-clause-passed
+returns-in-Some-eq3-clause-passed c = λ so place. c.pass_long_text.ensures.passed so place c.args.frames.now
 
 -- two quotes stand there
 told : (c : In-Some-eq2) → Some 2 ≡ quotes_in (drop c.args.at c.args.bytes.now)
@@ -64,30 +67,6 @@ returns-in-Some-eq2 c =
           (told all ∙ ap quotes_in (bytes_from bytes at c.requires.within)));
       same = λ h. absurd (both_ways true h refl);
     }
-
-pub slice_bounds-quotes_len-count : goal.slice_bounds-quotes_len-count
-slice_bounds-quotes_len-count c = c.requires.next.within
-
-pub slice_bounds-quotes_len-start : goal.slice_bounds-quotes_len-start
-slice_bounds-quotes_len-start c = c.requires.next.within
-
-pub slice_bounds-quotes_len-end : goal.slice_bounds-quotes_len-end
-slice_bounds-quotes_len-end c = le_refl (length c.args.bytes.now)
-
-pub slice_bounds-fields_after-count : goal.slice_bounds-fields_after-count
-slice_bounds-fields_after-count c = c.requires.next.after
-
-pub slice_bounds-fields_after-start : goal.slice_bounds-fields_after-start
-slice_bounds-fields_after-start c = c.requires.next.after
-
-pub slice_bounds-fields_after-end : goal.slice_bounds-fields_after-end
-slice_bounds-fields_after-end c = c.requires.next.within
-
-pub overflow_add-self : goal.overflow_add-self
-overflow_add-self c = omega (arith, (two_quotes c).0, length-drop c.args.at c.args.bytes.now, c.well_formed)
-
-pub overflow_add-at : goal.overflow_add-at
-overflow_add-at c = let two = two_quotes (goal.at.overflow_add-at c).In-Some-eq2 in omega (arith, two.0, length-drop c.args.at c.args.bytes.now, c.well_formed)
 
 pub pass-requires : goal.pass-requires
 pass-requires c =

@@ -1,9 +1,9 @@
-use Rattle.std.proofs.Common.{◌+◌, ◌<◌, ◌≡◌, ◌∙◌, List, ℕ, ap, arith, get_or-drop, length, length-drop, refl, slice_index, sym, true, false, le_refl, ◌≤◌}
+use Rattle.std.proofs.Common.{◌+◌, ◌<◌, ◌≡◌, ◌∙◌, List, ℕ, ap, arith, get_or-drop, length, length-drop, refl, slice_index, sym, true, false, ◌≤◌}
 use Rattle.std.proofs.lemmas.Bool.{both_ways}
 use Rattle.py_lines.specs.Private.Run.{is_line_byte}
 use Rattle.py_lines.proofs.FieldScans.TextLengths.{rest_is, rest_of}
 use Rattle.py_lines.proofs.PassedPieces.FirstBytes.{first_later}
-use Rattle.py_lines.proofs.PassedPieces.Reads.{TextItem, escape_item, reads_on, string_passed, text_begun, text_item}
+use Rattle.py_lines.proofs.PassedPieces.Reads.{TextItem, escape_item, reads_on, string_at, string_passed, text_begun, text_item}
 use Rattle.py_lines.proofs.passing.Passing.pass_text.Goals.{Joined-this-lt2, in-92, in-len1-up-2}
 use Rattle.py_lines.proofs.passing.Passing.pass_text.Goals as goal
 
@@ -64,59 +64,28 @@ returns c =
     let end = c.specials.end in
     let meets = c.requires.quote in
     let within : end < length bytes = omega (arith, c.in-len1-up.len_at_least, ap length (rest_is bytes end), length-drop end bytes) in
+    let closes = sym (here bytes end) ∙ c.if-b-quote.true in
     record {
-      passed = λ _ place b. string_passed bytes c.args.at end c.specials.marks c.args.self.now b place meets.next c.specials.invariant within
-          meets.quote (sym (here bytes end) ∙ c.if-b-quote.true) meets.alone c.requires.plain;
+      passed = λ _ place b. string_passed bytes c.args.at end c.specials.invariant within meets.quote closes meets.many c.args.self.now b place
+          meets.next c.requires.plain;
+      string = λ _. string_at bytes c.args.at end c.specials.invariant within meets.quote closes meets.many;
       same = λ h. absurd (both_ways true h refl);
     }
 
 pub returns-in_default : goal.returns-in_default
-returns-in_default c = record { passed = λ so. absurd (both_ways false refl so); same = λ _. refl }
+returns-in_default c = record { passed = λ so. absurd (both_ways false refl so); string = λ so. absurd (both_ways false refl so); same = λ _. refl }
 
 pub returns-in_default-2 : goal.returns-in_default-2
-returns-in_default-2 c = record { passed = λ so. absurd (both_ways false refl so); same = λ _. refl }
+returns-in_default-2 c = record { passed = λ so. absurd (both_ways false refl so); string = λ so. absurd (both_ways false refl so); same = λ _. refl }
 
 pub returns-in_default-3 : goal.returns-in_default-3
-returns-in_default-3 c = record { passed = λ so. absurd (both_ways false refl so); same = λ _. refl }
+returns-in_default-3 c = record { passed = λ so. absurd (both_ways false refl so); string = λ so. absurd (both_ways false refl so); same = λ _. refl }
 
 pub returns-in_default-4 : goal.returns-in_default-4
-returns-in_default-4 c = record { passed = λ so. absurd (both_ways false refl so); same = λ _. refl }
-
-pub bounds-bytes-at : goal.bounds-bytes-at
-bounds-bytes-at c = c.requires.quote.within
-
-pub next-end-requires : goal.next-end-requires
-next-end-requires c = omega (arith, (c.requires.quote.next.held c.requires.quote.within).0, c.requires.quote.within)
-
-pub slice_bounds-t-16-count : goal.slice_bounds-t-16-count
-slice_bounds-t-16-count c = c.specials.invariant.next.within
-
-pub slice_bounds-t-17-start : goal.slice_bounds-t-17-start
-slice_bounds-t-17-start c = c.specials.invariant.next.within
-
-pub slice_bounds-t-17-end : goal.slice_bounds-t-17-end
-slice_bounds-t-17-end c = le_refl (length c.args.bytes.now)
-
-pub bounds-b-0 : goal.bounds-b-0
-bounds-b-0 c = omega (arith, c.in-len1-up.len_at_least)
-
-pub bounds-0 : goal.bounds-0
-bounds-0 c = omega (arith, c.in-len1-up.len_at_least)
-
-pub bounds-b-1 : goal.bounds-b-1
-bounds-b-1 c = omega (arith, c.in-92.len_at_least)
-
-pub overflow_add-end : goal.overflow_add-end
-overflow_add-end c = omega (arith, there c.args.bytes.now c.specials.end 2 (omega arith) c.in-92.len_at_least, c.well_formed)
+returns-in_default-4 c = record { passed = λ so. absurd (both_ways false refl so); string = λ so. absurd (both_ways false refl so); same = λ _. refl }
 
 pub pass-requires : goal.pass-requires
 pass-requires c =
     let room = there c.args.bytes.now c.specials.end 2 (omega arith) c.in-92.len_at_least in
     let held = c.specials.invariant.next.held (omega (arith, room)) in
     record { base = omega (arith, held.0); within = room }
-
-pub bounds-b-0-in-specials : goal.bounds-b-0-in-specials
-bounds-b-0-in-specials c = omega (arith, c.in-len1-up.len_at_least)
-
-pub overflow_add-self : goal.overflow_add-self
-overflow_add-self c = omega (arith, there c.args.bytes.now c.specials.end 1 (omega arith) c.in-len1-up.len_at_least, c.well_formed)

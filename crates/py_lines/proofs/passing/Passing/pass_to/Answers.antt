@@ -1,4 +1,4 @@
-use Rattle.std.proofs.Common.{ap, arith, le_refl, length, length-drop, drop, ◌-◌, ◌≤◌, ◌≡◌, ◌∙◌, List, ℕ, ◌+◌, refl}
+use Rattle.std.proofs.Common.{ap, arith, drop, ◌-◌, ◌≤◌, ◌≡◌, ◌∙◌, List, ℕ, ◌+◌, refl}
 use Rattle.std.proofs.lemmas.List.{drop-drop}
 use Rattle.py_lines.specs.LogicalLine.{line_ends}
 use Rattle.py_lines.proofs.FieldScans.TextLengths.{rest_is, rest_of}
@@ -15,27 +15,6 @@ pub overflow_add-self : goal.overflow_add-self
 overflow_add-self c =
     let bytes = c.args.bytes.now in
     omega (arith, c.requires.counted, c.line_ends_up_to.ensures, ap line_ends (rest_is bytes c.args.self.now.all), line_ends-le bytes, c.well_formed)
-
-pub slice_bounds-line_ends_up_to-count : goal.slice_bounds-line_ends_up_to-count
-slice_bounds-line_ends_up_to-count c = omega (arith, c.requires.further, c.requires.within)
-
-pub slice_bounds-line_ends_up_to-start : goal.slice_bounds-line_ends_up_to-start
-slice_bounds-line_ends_up_to-start c = omega (arith, c.requires.further, c.requires.within)
-
-pub slice_bounds-line_ends_up_to-end : goal.slice_bounds-line_ends_up_to-end
-slice_bounds-line_ends_up_to-end c = le_refl (length c.args.bytes.now)
-
-pub overflow_sub-to : goal.overflow_sub-to
-overflow_sub-to c = c.requires.further
-
-pub line_ends_up_to-requires : goal.line_ends_up_to-requires
-line_ends_up_to-requires c =
-    let bytes = c.args.bytes.now in
-    let from = c.args.self.now.all in
-    omega (arith, c.requires.further, c.requires.within, ap length (rest_is bytes from), length-drop from bytes)
-
-pub anew-self-requires : goal.anew-self-requires
-anew-self-requires c = c.requires.within
 
 pub returns : goal.returns
 returns c =

@@ -1,5 +1,5 @@
 use Rattle.std.specs.List.{prefix_len}
-use Rattle.std.proofs.Common.{◌+◌, ◌-◌, ◌≤◌, ap, arith, drop, length, length-drop, length-take}
+use Rattle.std.proofs.Common.{◌+◌, ◌≤◌, ap, arith, length}
 use Rattle.std.proofs.lemmas.List.{take_rest}
 use Rattle.py_lines.specs.Private.Run.{is_in_run}
 use Rattle.py_lines.proofs.Text.Lanes.{run_is, ends_within, sixteen_on}
@@ -16,42 +16,13 @@ returns c =
     let rest = ap (prefix_len (is_in_run c.args.self)) (take_rest c.args.bytes.now c.loop-len.len) in
     run_is _ c.args.bytes.now _ (omega (arith, c.loop-len.invariant.counted, c.short_len_in.ensures.counted, rest))
 
-pub loop-len-init : goal.loop-len-init
-loop-len-init c = record { within = omega arith; counted = omega arith }
-
-pub overflow_sub-bytes : goal.overflow_sub-bytes
-overflow_sub-bytes c = c.loop-len.invariant.within
-
-pub bounds-bytes-len : goal.bounds-bytes-len
-bounds-bytes-len c = omega arith
-
 pub overflow_add-result : goal.overflow_add-result
 overflow_add-result c = omega (arith, c.well_formed)
 
 pub overflow_add-len : goal.overflow_add-len
 overflow_add-len c = omega (arith, c.well_formed)
 
-pub loop-len-smaller : goal.loop-len-smaller
-loop-len-smaller c = omega arith
-
 pub loop-len-preserved : goal.loop-len-preserved
 loop-len-preserved c =
     let room : c.loop-len.len + 16 ≤ length c.args.bytes.now = omega arith in
     record { within = room; counted = omega (arith, c.loop-len.invariant.counted, sixteen_on (is_in_run c.args.self) c.args.bytes.now c.loop-len.len room (omega (arith, c.if-more-lt16.false, c.len_in_lanes-more.ensures))) }
-
-pub slice_bounds-short_len_in-count : goal.slice_bounds-short_len_in-count
-slice_bounds-short_len_in-count c = c.loop-len.invariant.within
-
-pub slice_bounds-short_len_in-start : goal.slice_bounds-short_len_in-start
-slice_bounds-short_len_in-start c = omega arith
-
-pub slice_bounds-short_len_in-end : goal.slice_bounds-short_len_in-end
-slice_bounds-short_len_in-end c = omega arith
-
-pub short_len_in-requires : goal.short_len_in-requires
-short_len_in-requires c =
-    let text = c.args.bytes.now in
-    omega (arith, length-take (length text - c.loop-len.len) (drop c.loop-len.len text), length-drop c.loop-len.len text)
-
-pub overflow_add-result-2 : goal.overflow_add-result-2
-overflow_add-result-2 c = omega (arith, c.well_formed)

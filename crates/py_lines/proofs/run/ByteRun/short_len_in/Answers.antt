@@ -1,14 +1,8 @@
-use Rattle.std.proofs.Common.{arith, length, replicate, sym}
+use Rattle.std.proofs.Common.{arith, length, replicate}
 use Rattle.std.proofs.lemmas.List.{length-take-le}
 use Rattle.py_lines.specs.Private.Run.{is_in_run}
 use Rattle.py_lines.proofs.Text.Lanes.{shorter_run}
 use Rattle.py_lines.proofs.run.ByteRun.short_len_in.Goals as goal
-
-pub slice_bounds-block-end : goal.slice_bounds-block-end
-slice_bounds-block-end c = omega (arith, c.requires)
-
-pub slice_bounds-copy_from_slice-end : goal.slice_bounds-copy_from_slice-end
-slice_bounds-copy_from_slice-end c = sym (length-take-le (length c.args.bytes.now) (replicate 16 0) (omega (arith, c.requires)))
 
 pub copy_from_slice-requires : goal.copy_from_slice-requires
 copy_from_slice-requires c = length-take-le (length c.args.bytes.now) (replicate 16 0) (omega (arith, c.requires))

@@ -1,4 +1,4 @@
-use Rattle.std.proofs.Common.{◌≡◌, ◌==◌, ◌+◌, ℕ, List, [], ◌++◌, true, false, inl, inr, drop, length, length-drop, length-take, take-append-drop, refl, sym, ap, ◌∙◌, subst, append-nil, arith}
+use Rattle.std.proofs.Common.{◌≡◌, ◌+◌, ℕ, List, [], ◌++◌, true, false, inl, inr, drop, length, length-drop, take-append-drop, refl, sym, ap, ◌∙◌, subst, append-nil, arith}
 use Rattle.std.specs.Prelude.{encode_utf8_all}
 use Rattle.std.proofs.lemmas.Bool.{both_ways}
 use Rattle.std.proofs.lemmas.List.{drop_all, take_all}
@@ -6,7 +6,6 @@ use Rattle.py_lines.specs.Private.FieldMachine.{FieldScanned}
 use Rattle.py_lines.specs.Private.Scan.{Follows, Goes, GoesOverAll, has_returned, is_pending}
 use Rattle.py_lines.proofs.FieldScans.Ends.{begins_there, ends_returned, no_members, not_returned, pending_run, whole_run}
 use Rattle.py_lines.proofs.FieldScans.TextItems.{low_encoded}
-use Rattle.py_lines.proofs.Text.FirstCharacters.{begins_some}
 use Rattle.py_lines.proofs.scan.Scan.end.Goals as goal
 use Rattle.py_lines.proofs.scan.Scan.end.Goals.{Else-characters-bytes, Joined-else-starts_with, else-starts_with-via-then-starts_with+then-not-is_text+else-is_empty, else-starts_with-via-then-starts_with+else-not-is_text, else-starts_with-via-else-starts_with}
 
@@ -74,16 +73,3 @@ returns c = λ t follow all.
       open_yet = no_return (goal.at.returns c).Joined-else-starts_with t follow all;
       stop = ap (λ (n : ℕ). record c.args.self.now { stop = c.args.self.now.stop + n }) g.length_is;
     })
-
-pub pass-requires : goal.pass-requires
-pass-requires c =
-    let first = begins_there c.args.bytes.now (sym c.starts_with.ensures.value ∙ c.if-starts_with.true) in
-    omega (arith, begins_some (λ c. c == 13) c.args.bytes.now first, c.requires.bytes)
-
-pub overflow_add-result : goal.overflow_add-result
-overflow_add-result c = omega (arith, c.if-characters-bytes.true, c.requires.bytes)
-
-pub overflow_add-self : goal.overflow_add-self
-overflow_add-self c =
-    let prefix = c.utf8_prefix-characters.result.now in
-    omega (arith, ap length c.utf8_prefix-characters.ensures.prefix, length-take (length prefix) c.args.bytes.now, c.requires.bytes)

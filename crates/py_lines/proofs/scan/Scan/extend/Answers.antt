@@ -1,4 +1,4 @@
-use Rattle.std.proofs.Common.{◌≤◌, ◌-◌, ◌∙◌, arith, sym}
+use Rattle.std.proofs.Common.{◌≤◌, ◌-◌, arith}
 use Rattle.py_lines.proofs.LineScan.LineStops.{ComesAlong, comes_along, gone}
 use Rattle.py_lines.proofs.LineScan.Reaching.{ends_over, reached_over}
 use Rattle.py_lines.proofs.scan.Scan.extend.Goals as goal
@@ -24,21 +24,6 @@ pieces-init c = comes_along c.requires.way (omega arith) (λ m whole start r. r)
 pub returns-in-Some : goal.returns-in-Some
 returns-in-Some c = let (before, ends) = c.in-Some.ensures in record {
   stops = λ m whole start r. ends_over start (c.pieces.invariant.goes m whole start r) c.take_pieces.new.self before c.in-Some.len ends;
-}
-
-pub overflow_sub-self : goal.overflow_sub-self
-overflow_sub-self c = c.pieces.invariant.further
-
-pub slice_bounds-take_pieces-count : goal.slice_bounds-take_pieces-count
-slice_bounds-take_pieces-count c = c.pieces.invariant.within
-
-pub slice_bounds-take_pieces-start : goal.slice_bounds-take_pieces-start
-slice_bounds-take_pieces-start c = c.pieces.invariant.within
-
-pub take_pieces-requires : goal.take_pieces-requires
-take_pieces-requires c = record {
-  code = sym c.is_in_code.ensures ∙ c.if-is_in_code.true;
-  bytes = omega (arith, (gone c.requires.way c.pieces.invariant.goes).room, c.requires.bytes);
 }
 
 pub overflow_sub-self-in-pieces : goal.overflow_sub-self-in-pieces

@@ -16,17 +16,5 @@ pub returns-in-Some-with : goal.returns-in-Some-with
 returns-in-Some-with c = λ t follow.
     piece_grows c.args.self.now t c.args.bytes.now c.in-Some.c follow c.in-Some.ensures c.in-Some-with.mode c.with.result c.with.ensures c.in-Some-with.is c.len_utf8-len.result c.len_utf8-len.ensures.value
 
-pub pass-requires : goal.pass-requires
-pass-requires c = omega (arith, first_size c.in-Some.ensures, c.len_utf8-len.ensures.value, c.requires.bytes)
-
 pub overflow_add-self : goal.overflow_add-self
 overflow_add-self c = omega (arith, first_size c.in-Some.ensures, c.len_utf8-len.ensures.value, c.requires.bytes)
-
-pub take_piece-requires-clause-bytes : goal.take_piece-requires-clause-bytes
-take_piece-requires-clause-bytes c = c.requires.bytes
-
-pub take_piece-requires-clause-first : goal.take_piece-requires-clause-first
-take_piece-requires-clause-first c = c.in-Some.ensures
-
-pub returns : goal.returns
-returns c = c.take_piece.ensures

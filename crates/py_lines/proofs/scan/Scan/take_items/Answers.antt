@@ -35,9 +35,6 @@ held c (left, some, fits) =
       further = omega (arith, less, (gone c.requires.way c.items.invariant.goes).room, (gone c.requires.way to).room, c.items.invariant.further);
     }
 
-pub items-init : goal.items-init
-items-init c = record { goes = λ m whole start r. r; further = omega arith }
-
 pub step-requires : goal.step-requires
 step-requires c =
     let at = gone c.requires.way c.items.invariant.goes in

@@ -19,15 +19,6 @@ returns-in-None c = λ t follow. join_waits c.args.self.now t c.args.bytes.now f
 pub returns-in-None-2 : goal.returns-in-None-2
 returns-in-None-2 c = λ t follow. half_join_waits c.args.self.now t c.args.bytes.now follow c.requires.backslash c.requires.after _ c.in_default.ensures c.in-None.ensures (omega arith)
 
-pub slice_bounds-outer_end_len-count : goal.slice_bounds-outer_end_len-count
-slice_bounds-outer_end_len-count c = begins_some is_backslash c.args.bytes.now c.requires.backslash
-
-pub slice_bounds-outer_end_len-start : goal.slice_bounds-outer_end_len-start
-slice_bounds-outer_end_len-start c = begins_some is_backslash c.args.bytes.now c.requires.backslash
-
-pub slice_bounds-first_character-count : goal.slice_bounds-first_character-count
-slice_bounds-first_character-count c = begins_some is_backslash c.args.bytes.now c.requires.backslash
-
 pub slice_bounds-first_character-start : goal.slice_bounds-first_character-start
 slice_bounds-first_character-start c = begins_some is_backslash c.args.bytes.now c.requires.backslash
 
@@ -36,12 +27,6 @@ fits : (c : In-Some) → 1 + c.in-Some.len ≤ length c.args.bytes.now
 fits c =
     let bytes = c.args.bytes.now in
     omega (arith, c.in-Some.ensures.within, begins_some is_backslash bytes c.requires.backslash, length-drop 1 bytes, ap length (take_rest bytes 1))
-
-pub overflow_add-len : goal.overflow_add-len
-overflow_add-len c = omega (arith, fits (goal.at.overflow_add-len c).In-Some, c.requires.bytes)
-
-pub pass-requires : goal.pass-requires
-pass-requires c = omega (arith, fits (goal.at.pass-requires c).In-Some, c.requires.bytes)
 
 pub overflow_add-result : goal.overflow_add-result
 overflow_add-result c = omega (arith, fits (goal.at.overflow_add-result c).In-Some, c.requires.bytes)

@@ -5,7 +5,6 @@ use Rattle.py_lines.specs.declared.class.Class.TheVariants as class
 use Rattle.py_lines.proofs.FieldScans.CodeItems.{begins_so, break_waits, comment_begins, line_end_comes, nothing_wrong, operator_comes, slash_low, some_first, space_begins, word_begins}
 use Rattle.py_lines.proofs.LineScan.AsciiRuns.{quote_ascii}
 use Rattle.py_lines.proofs.LineScan.ClassStarts.{begins_as, operator_as}
-use Rattle.py_lines.proofs.Text.FirstCharacters.{first_size}
 use Rattle.py_lines.proofs.scan.Scan.take_piece.Goals as goal
 use Rattle.py_lines.proofs.scan.Scan.take_piece.Goals.{in-Wide+else-is_xid_start, in-Other-1, in-Word, in-Wide, in-Space, in-Hash}
 
@@ -70,15 +69,3 @@ bounds-bytes-0 c = some_first c.requires.first
 
 pub take_operator-requires-clause-bytes : goal.take_operator-requires-clause-bytes
 take_operator-requires-clause-bytes c = omega (arith, some_first c.requires.first, c.requires.bytes)
-
-pub pass-requires : goal.pass-requires
-pass-requires c = omega (arith, c.in-Some.ensures.within, c.requires.bytes)
-
-pub returns-in-Quote : goal.returns-in-Quote
-returns-in-Quote c = c.take_quotes.ensures
-
-pub returns-in-Backslash : goal.returns-in-Backslash
-returns-in-Backslash c = c.take_join.ensures
-
-pub overflow_add-self : goal.overflow_add-self
-overflow_add-self c = omega (arith, first_size c.requires.first, c.len_utf8-len.ensures.value, c.requires.bytes)

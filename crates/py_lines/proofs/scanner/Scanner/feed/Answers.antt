@@ -7,29 +7,8 @@ use Rattle.py_lines.proofs.scanner.Scanner.feed.Goals as goal
 pub returns-then-is_some : goal.returns-then-is_some
 returns-then-is_some c = record { feeds = rw (← c.self.view_is) (waits_so c.self.inside.feed c.args.piece.now c.self.invariant (sym c.is_some.ensures ∙ c.if-is_some.true)) }
 
-pub take_bytes-requires-clause-sound : goal.take_bytes-requires-clause-sound
-take_bytes-requires-clause-sound c = c.self.invariant
-
-pub take_bytes-requires-clause-not_ready : goal.take_bytes-requires-clause-not_ready
-take_bytes-requires-clause-not_ready c = none_is c.self.inside.feed.ready (sym c.is_some.ensures ∙ c.if-is_some.false)
-
-pub take_bytes-requires-clause-fits : goal.take_bytes-requires-clause-fits
-take_bytes-requires-clause-fits c = rw (← c.self.view_is) at c.requires.fits
-
-pub invariant_of-self : goal.invariant_of-self
-invariant_of-self c = c.in_err-taken.ensures.1
-
-pub returns-in_err-taken : goal.returns-in_err-taken
-returns-in_err-taken c = let (error, is, same) = err_from_is_err_and c.from_residual.result c.from_residual.ensures.1 in record { feeds = rw (← c.self.view_is, is, same) c.in_err-taken.ensures.0 }
-
-pub read_tokens-requires-clause-holds : goal.read_tokens-requires-clause-holds
-read_tokens-requires-clause-holds c = (c.in_ok-taken.ensures.line, c.in_ok-taken.ensures.holds)
-
 pub read_tokens-requires-clause-no_fault : goal.read_tokens-requires-clause-no_fault
 read_tokens-requires-clause-no_fault c = c.in_ok-taken.ensures.takes.no_fault
-
-pub read_tokens-requires-clause-room : goal.read_tokens-requires-clause-room
-read_tokens-requires-clause-room c = c.in_ok-taken.ensures.room
 
 pub invariant_of-self-in_err-read_tokens : goal.invariant_of-self-in_err-read_tokens
 invariant_of-self-in_err-read_tokens c =
@@ -39,9 +18,6 @@ pub returns-in_err-read_tokens : goal.returns-in_err-read_tokens
 returns-in_err-read_tokens c =
     let (error, is, same) = err_from_is_err_and c.from_residual-in_err-read_tokens.result c.from_residual-in_err-read_tokens.ensures.1 in
     record { feeds = rw (← c.self.view_is, is, same) (fed_short c.in_ok-taken.ensures c.self.invariant (none_is c.self.inside.feed.ready (sym c.is_some.ensures ∙ c.if-is_some.false)) (omega (arith, c.len-before.ensures)) _ c.in_err-read_tokens.ensures).0 }
-
-pub invariant_of-self-2 : goal.invariant_of-self-2
-invariant_of-self-2 c = c.in_ok-read_tokens.ensures.sound
 
 pub returns : goal.returns
 returns c = record { feeds = rw (← c.self.view_is) (takes_read c.in_ok-taken.ensures c.in_ok-read_tokens.ensures) }

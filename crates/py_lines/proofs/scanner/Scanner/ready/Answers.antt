@@ -1,6 +1,5 @@
-use Rattle.std.proofs.Common.{◌∙◌, ℕ, List, length, take, sym, ap, subst, arith}
-use Rattle.std.proofs.lemmas.List.{length-take, length-take-le}
-use Rattle.py_lines.specs.Piece.{spelled}
+use Rattle.std.proofs.Common.{ℕ, List, take, sym, ap, subst, arith}
+use Rattle.std.proofs.lemmas.List.{length-take}
 use Rattle.py_lines.specs.Token.{EachLiesIn}
 use Rattle.py_lines.specs.Private.Feed.{StandsSo}
 use Rattle.py_lines.proofs.Feeds.ReadyLines.{held_within, ready_lies}
@@ -11,16 +10,6 @@ unit-requires-clause-tokens c =
     let f = c.self.inside.feed in
     subst (λ (t : List ℕ). EachLiesIn t f.state.tokens.tokens.items) (sym (ap (take f.state.scan.stop) c.deref.ensures.value))
     (ready_lies f c.in_ok-end_len.end_len (subst (StandsSo f) c.in_ok-end_len.was c.self.invariant.state))
-
-pub slice_bounds-text-end : goal.slice_bounds-text-end
-slice_bounds-text-end c =
-    let f = c.self.inside.feed in let r = subst (StandsSo f) c.in_ok-end_len.was c.self.invariant.state in
-    sym (length-take-le f.state.scan.stop c.deref.result.now (omega (arith, held_within f c.in_ok-end_len.end_len r.holds, ap length c.deref.ensures.value)))
-
-pub unit-requires-clause-utf8 : goal.unit-requires-clause-utf8
-unit-requires-clause-utf8 c =
-    let f = c.self.inside.feed in let h = (subst (StandsSo f) c.in_ok-end_len.was c.self.invariant.state).holds in
-    (spelled h.pieces, (h.text.scalars, h.text.spell ∙ sym (ap (take f.state.scan.stop) c.deref.ensures.value)))
 
 pub unit-requires-clause-fits : goal.unit-requires-clause-fits
 unit-requires-clause-fits c =

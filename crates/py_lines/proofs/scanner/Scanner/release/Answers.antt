@@ -17,9 +17,3 @@ ready c = ready_from c.self.inside.feed c.self.invariant (subst (λ (s : Scanner
 
 pub let_go-requires-clause-holds : goal.let_go-requires-clause-holds
 let_go-requires-clause-holds c = let at = ready c in (at.0, at.2.holds)
-
-pub let_go-requires-clause-room : goal.let_go-requires-clause-room
-let_go-requires-clause-room c = c.self.invariant.room
-
-pub let_go-requires-clause-after : goal.let_go-requires-clause-after
-let_go-requires-clause-after c = (ready c).2.after

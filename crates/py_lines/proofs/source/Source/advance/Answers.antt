@@ -1,4 +1,7 @@
 use Rattle.std.proofs.Common.{◌≡◌, ℕ, ◌+◌, ◌-◌, ◌<◌, ◌≤◌, ◌∙◌, None, List, [], length, take, drop, refl, sym, ap, subst, arith, length-drop}
+use Rattle.std.specs.Option.{IfSome}
+use Rattle.std.specs.Prelude.{slice_range}
+use Rattle.std.proofs.Math.Path.{transport}
 use Rattle.std.proofs.lemmas.Bool.{eqb-false, eqb-true}
 use Rattle.std.proofs.lemmas.List.{length-take-le}
 use Rattle.py_lines.specs.Piece.{Piece, spelled}
@@ -8,7 +11,7 @@ use Rattle.py_lines.specs.Reader.{Fails, PassesLine, Reader}
 use Rattle.py_lines.specs.declared.fault.LexError.{LexError}
 use Rattle.py_lines.specs.declared.line_state.LineState.{LineState}
 use Rattle.py_lines.specs.declared.scan.LineFault.{LineFault}
-use Rattle.py_lines.specs.Private.LineState.{HasNextFault, HasNextLine, IsFaultAfter, KeepsFault, passed, rescanned, with_tokens}
+use Rattle.py_lines.specs.Private.LineState.{HasNextFault, HasNextLine, IsFaultAfter, KeepsFault, ReadsLine, passed, read_line, reread, rescanned, with_tokens}
 use Rattle.py_lines.specs.Private.LineTokens.{AreLineOf, AreTokensOf, HoldsTokens, IsLineAfter}
 use Rattle.py_lines.specs.Private.Source.{line_between}
 use Rattle.py_lines.proofs.FieldScans.TextLengths.{rest_is, rest_of}
@@ -17,7 +20,7 @@ use Rattle.py_lines.proofs.LineScan.LineCount.{line_ends-bytes}
 use Rattle.py_lines.proofs.LogicalLines.TokenPlaces.{each_after}
 use Rattle.py_lines.proofs.Readers.NextLines.{further, passes_next}
 use Rattle.py_lines.proofs.source.Source.advance.Goals as goal
-use Rattle.py_lines.proofs.source.Source.advance.Goals.{After-pass}
+use Rattle.py_lines.proofs.source.Source.advance.Goals.{After-pass, After-pass-in-Ok, In-Some-2}
 
 -- the line of these pieces was read with its tokens
 record Moves (s new : LineState) (bytes : List ℕ) (stop : ℕ) (pieces : List Piece) : Type 0 where
@@ -101,32 +104,93 @@ returns-then-is_empty c =
     let end : s.state.place ≡ length s.bytes.now = omega (arith, s.within, length-drop s.state.place s.bytes.now) in
     record { all = λ lines given. all_first _ _ _ lines given.first end; place = end; fault = c.in_default.is; same = refl }
 
--- the line that was read
-moved : (c : After-pass) → let s = c.args.self.now in
-    Moves s.state c.pass.new.self (rest_of s.bytes.now s.state.place) c.scan_line.new.self.scan.stop c.in-Ok.ensures.scans.is.pieces
-moved c =
-    let read = c.in_ok-line-in-Ok.ensures in
-    moves {s = c.args.self.now.state} c.in-Ok.ensures.scans c.in-Ok.ensures.same read.same c.pass.ensures read.tokens read.after
+-- a state that stands where another does
+module _ (text : List ℕ) (s t : LineState) (still : t ≡ reread s t) where
+  place : t.place ≡ s.place
+  place = ap (λ (u : LineState). u.place) still
 
-pub invariant_of-self-in-Ok : goal.invariant_of-self-in-Ok
-invariant_of-self-in-Ok c =
+  line : t.line ≡ s.line
+  line = ap (λ (u : LineState). u.line) still
+
+  none_yet : s.fault ≡ None → t.fault ≡ None
+  none_yet none = ap (λ (u : LineState). u.fault) still ∙ none
+
+  left : rest_of text s.place ≡ drop t.place text
+  left = rest_is text s.place ∙ ap (λ n. drop n text) (sym place)
+
+  same : reader_at text t ≡ reader_at text s
+  same = λ i. record { text = text; place = place i; line = line i; fault = ap (λ (u : LineState). u.fault) still i }
+
+  -- the line that comes after it comes after that
+  given_on : (new : LineState) (end_len : ℕ) → (let l = line_between text t new end_len in PassesLine (reader_at text t) l (reader_at text new) × EachLiesIn l.text l.tokens)
+      → let l = line_between text s new end_len in PassesLine (reader_at text s) l (reader_at text new) × EachLiesIn l.text l.tokens
+  given_on new end_len a =
+      let l : line_between text t new end_len ≡ line_between text s new end_len = λ i. read_line new (slice_range text (place i) new.place) (place i) (line i) end_len in
+      transport (λ i. PassesLine (same i) (l i) (reader_at text new) × EachLiesIn (l i).text (l i).tokens) a
+
+-- the line that was read at once
+read : (c : In-Some-2) → let s = c.args.self.now in ReadsLine s.state (rest_of s.bytes.now s.state.place) c.in-Some-2.end_len c.in-Some-2.line c.read_simple.new.self
+read c =
     let s = c.args.self.now in
-    let h = c.in-Ok.ensures.scans in
-    let m = moved (goal.at.invariant_of-self-in-Ok c).After-pass in
+    subst (λ o. IfSome o (λ r. ReadsLine s.state (rest_of s.bytes.now s.state.place) r.0 r.1 c.read_simple.new.self)) c.in-Some-2.is c.in_ok-end_len.ensures.reads
+
+read_moved : (c : After-pass) → let s = c.args.self.now in
+    Moves s.state c.pass.new.self (rest_of s.bytes.now s.state.place) c.read_simple.new.self.scan.stop (read (goal.at.After-pass c).In-Some-2).scans.is.pieces
+read_moved c =
+    let r = read (goal.at.After-pass c).In-Some-2 in
+    let s = c.args.self.now.state in
+    moves {s = s} {scanned = rescanned s c.read_simple.new.self} {read = c.read_simple.new.self} r.scans refl c.read_simple.ensures.same c.pass.ensures r.tokens r.after_is
+
+pub invariant_of-self-in-Some-2 : goal.invariant_of-self-in-Some-2
+invariant_of-self-in-Some-2 c =
+    let s = c.args.self.now in
+    let h = (read (goal.at.invariant_of-self-in-Some-2 c).In-Some-2).scans in
+    let m = read_moved (goal.at.invariant_of-self-in-Some-2 c).After-pass in
     let left = ap length (rest_is s.bytes.now s.state.place) in record {
       within = omega (arith, m.place, h.is.within, h.is.some, left, length-drop s.state.place s.bytes.now);
       few_lines = omega (arith, m.place, m.line, m.few, s.few_lines);
     }
 
+pub returns-in-Some-2 : goal.returns-in-Some-2
+returns-in-Some-2 c =
+    let s = c.args.self.now in
+    gives s.bytes.now (read (goal.at.returns-in-Some-2 c).In-Some-2).scans (rest_is s.bytes.now s.state.place) c.in_default.is
+    (read_moved (goal.at.returns-in-Some-2 c).After-pass)
+
+-- the line that was scanned first
+moved : (c : After-pass-in-Ok) → let s = c.args.self.now in
+    Moves c.read_simple.new.self c.pass-in-Ok.new.self (rest_of s.bytes.now s.state.place) c.scan_line.new.self.scan.stop c.in-Ok.ensures.scans.is.pieces
+moved c =
+    let read = c.in_ok-line-in-Ok.ensures in
+    moves {s = c.read_simple.new.self} c.in-Ok.ensures.scans c.in-Ok.ensures.same read.same c.pass-in-Ok.ensures read.tokens read.after
+
+pub invariant_of-self-in-Ok : goal.invariant_of-self-in-Ok
+invariant_of-self-in-Ok c =
+    let s = c.args.self.now in
+    let h = c.in-Ok.ensures.scans in
+    let m = moved (goal.at.invariant_of-self-in-Ok c).After-pass-in-Ok in
+    let t = c.read_simple.new.self in
+    let still = c.read_simple.ensures.same in
+    let left = ap length (rest_is s.bytes.now s.state.place) in record {
+      within = omega (arith, m.place, place s.bytes.now s.state t still, h.is.within, h.is.some, left, length-drop s.state.place s.bytes.now);
+      few_lines = omega (arith, m.place, m.line, m.few, place s.bytes.now s.state t still, line s.bytes.now s.state t still, s.few_lines);
+    }
+
 pub returns-in_ok-line-in-Ok : goal.returns-in_ok-line-in-Ok
 returns-in_ok-line-in-Ok c =
-    let s = c.args.self.now in
-    gives s.bytes.now c.in-Ok.ensures.scans (rest_is s.bytes.now s.state.place) c.in_default.is
-    (moved (goal.at.returns-in_ok-line-in-Ok c).After-pass)
+    let text = c.args.self.now.bytes.now in
+    let s = c.args.self.now.state in
+    let t = c.read_simple.new.self in
+    let still = c.read_simple.ensures.same in
+    given_on text s t still c.pass-in-Ok.new.self c.in-Ok.end_len (gives text {s = t} c.in-Ok.ensures.scans (left text s t still)
+    (none_yet text s t still c.in_default.is) (moved (goal.at.returns-in_ok-line-in-Ok c).After-pass-in-Ok))
 
 pub returns-in-Err : goal.returns-in-Err
 returns-in-Err c =
-    let s = c.args.self.now in
+    let text = c.args.self.now.bytes.now in
+    let s = c.args.self.now.state in
+    let t = c.read_simple.new.self in
+    let still = c.read_simple.ensures.same in
     let some = eqb-false _ 0 (sym c.is_empty.ensures ∙ c.if-is_empty.false) in
-    let failed = fails s.bytes.now {s = s.state} c.in-Err.ensures.scans (rest_is s.bytes.now s.state.place) (omega arith) c.in_default.is in
-    rw c.fail.ensures.error_is (failed c.in-Err.ensures.same c.fail.ensures)
+    let failed = fails text {s = t} c.in-Err.ensures.scans (left text s t still) (omega arith) (none_yet text s t still c.in_default.is) in
+    rw c.fail.ensures.error_is (subst (λ r. Fails r c.fail.ensures.fault (reader_at text c.fail.new.self)) (same text s t still) (failed c.in-Err.ensures.same c.fail.ensures))

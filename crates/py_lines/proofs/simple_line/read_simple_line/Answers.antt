@@ -1,0 +1,129 @@
+use Rattle.std.proofs.Common.{◌≡◌, ◌+◌, ◌-◌, ◌≤◌, ◌∙◌, List, ℕ, add-zero, ap, arith, drop, length-drop, refl, subst, sym, take}
+use Rattle.std.proofs.Math.Path.{transport}
+use Rattle.std.specs.Option.{IfSome}
+use Rattle.std.specs.Prelude.{MatchOption}
+use Rattle.py_lines.specs.declared.line_tokens.LineTokens.{LineTokens}
+use Rattle.py_lines.specs.declared.passing.Passing.{Passing}
+use Rattle.py_lines.specs.declared.scan.Scan.{Scan}
+use Rattle.py_lines.specs.Private.Frames.{has_field}
+use Rattle.py_lines.specs.Private.LineTokens.{HaveReadAnyway, HoldsTokens, IsLineAfter, ReadsAnyway, ReadsUpTo, StaysUnread}
+use Rattle.py_lines.specs.Private.Passing.{PassesSo, with_frames}
+use Rattle.py_lines.proofs.LineTokens.Anyway.{begun_anyway, line_read, reads_on}
+use Rattle.py_lines.proofs.LineTokens.Strings.{short_taken}
+use Rattle.py_lines.proofs.PassedPieces.Ends.{passes_none}
+use Rattle.py_lines.proofs.PassedPieces.Pieces.{HasPassed, passes_line, passes_next}
+use Rattle.py_lines.proofs.simple_line.read_simple_line.Goals as goal
+use Rattle.py_lines.proofs.simple_line.read_simple_line.Goals.{In-Some, In-specials, Joined-class, in-Quote+else-not-pass_short_string+in_ok-add-in-Quote, in_default-class+in-Passed+in_ok-len-in-Passed+in-Some-2}
+
+pub specials-init : goal.specials-init
+specials-init c =
+    let mode = ap (λ (s : Scan). s.mode) c.requires.scan in
+    rw c.new-passing.ensures.nothing (
+      record {
+        same = refl;
+        outside = ap (λ (s : Scan). has_field s.frames) c.requires.scan;
+        takes = passes_none c.args.scan.now c.args.bytes.now mode;
+        next = c.next-at.ensures 0 c.new-passing.ensures.marked;
+      },
+      omega arith,
+      omega arith,
+      begun_anyway c.args.bytes.now _ _ _ (search (arith)) c.begin.ensures.indent c.begin.ensures.kind refl c.begin.ensures.tokens,
+    )
+
+pub read_up_to-requires-clause-lines : goal.read_up_to-requires-clause-lines
+read_up_to-requires-clause-lines c = omega (arith, c.specials.invariant.2, c.requires.lines, c.specials.auto.line_here-fits)
+
+-- no byte of the line was passed before these
+stop : (c : In-specials) → c.specials.scan.stop ≡ 0
+stop c = ap (λ (s : Scan). s.stop) (c.specials.invariant.0.same ∙ ap (λ s. with_frames s c.specials.scan.frames) c.requires.scan)
+
+-- the pieces before this byte were read
+read : (c : In-Some) → ReadsUpTo c.args.bytes.now c.specials.tokens c.specials.start c.specials.line_here c.specials.at c.in-Some.line_there c.read_up_to.new.tokens
+read c = subst (λ o. IfSome o (λ after. ReadsUpTo c.args.bytes.now c.specials.tokens c.specials.start c.specials.line_here c.specials.at after c.read_up_to.new.tokens))
+    c.in-Some.is c.in_ok-line_there.ensures
+
+pub returns-in-LineEnd : goal.returns-in-LineEnd
+returns-in-LineEnd c =
+    let (on, counted, few, have) = c.specials.invariant in
+    let ends = c.in-LineEnd.ensures in
+    let last : c.pass-in-LineEnd.new.self.stop ≡ c.specials.at + c.in-LineEnd.len
+    = omega (arith, ap (λ (s : Scan). s.stop) c.pass-in-LineEnd.ensures, stop (goal.at.returns-in-LineEnd c).In-specials, ends.all) in
+    let (tokens, lines) = line_read ((read (goal.at.returns-in-LineEnd c).In-Some).reads c.args.line have) c.in-LineEnd.len ends.some (omega (arith, ends.all, ends.within)) in
+    record {
+      before = c.specials.at;
+      ends = passes_line _ _ _ _ _ on c.in-LineEnd.len c.pass-in-LineEnd.new.self c.pass.new.self c.pass.new.frames ends c.pass-in-LineEnd.ensures;
+      tokens = subst (λ (n : ℕ). HoldsTokens (take n c.args.bytes.now) c.in-LineEnd.len c.args.line c.read_up_to.new.tokens) (sym last) tokens;
+      lines = subst (λ (n : ℕ). IsLineAfter c.args.line (take n c.args.bytes.now) c.in-LineEnd.len (c.in-Some.line_there + 1)) (sym last) lines;
+    }
+
+-- what stands at the byte was passed, and the pieces are read up to a place, from where the line is this one
+record GoesOn (bytes : List ℕ) (at first line : ℕ) (old : Scan) (p : Passing) (scan : Scan) (tokens : LineTokens) (start : ℕ) (q : Passing) : Type 0 where
+  same : scan ≡ with_frames old scan.frames
+  so : PassesSo bytes at (old.stop + at) p old.frames q scan.frames
+  few : line ≤ first + start
+  have : HaveReadAnyway bytes first start line tokens
+
+goes_on : (c : Joined-class) → GoesOn c.args.bytes.now c.specials.at c.args.line c.match-class.line_here c.specials.scan c.specials.passing c.match-class.scan
+    c.match-class.tokens c.match-class.start c.match-class.passing
+goes_on c =
+    let (on, counted, before, have) = c.specials.invariant in
+    let bytes = c.args.bytes.now in
+    let at = c.specials.at in
+    let r = read (goal.at.Joined-class c).In-Some in
+    let there = r.reads c.args.line have in
+    let few : c.in-Some.line_there ≤ c.args.line + at = omega (arith, r.few, before) in
+    elim c.match-class.branch [
+      | in-Quote+else-not-pass_short_string+in_ok-add-in-Quote w ↦
+          let all = w.pass_short_string.new.passing.all in
+          let so = w.pass_short_string.ensures.passed w.if-not-pass_short_string.false (c.specials.scan.stop + at) c.specials.scan.frames in
+          let string = w.pass_short_string.ensures.string w.if-not-pass_short_string.false in
+          let piece : ReadsAnyway (drop at bytes) c.read_up_to.new.tokens at c.in-Some.line_there (all - at) 0 w.add.new.self = record {
+            some = omega (arith, string.size);
+            within = omega (arith, so.within, length-drop at bytes);
+            few = omega arith;
+            role = _;
+            is = λ n fits within. short_taken bytes at all string n fits;
+            adds = w.in_ok-add-in-Quote.ensures;
+          } in
+          let far : at + (all - at) ≡ all = omega (arith, so.further) in
+          rw (w.scan-is, w.tokens-is, w.start-is, w.line_here-is, w.passing-is) (record {
+            same = refl;
+            so = so;
+            few = omega (arith, few, so.further);
+            have = transport (λ i. HaveReadAnyway bytes c.args.line (far i) (add-zero c.in-Some.line_there i) w.add.new.self) (reads_on there piece);
+          })
+      | in_default-class+in-Passed+in_ok-len-in-Passed+in-Some-2 w ↦
+          let place : at ≡ c.specials.scan.stop + at = omega (arith, stop (goal.at.Joined-class c).In-specials) in
+          let old = c.read_up_to.new.tokens in
+          let new = w.read_anyway.new.self in
+          let piece : ReadsAnyway (drop at bytes) old at c.in-Some.line_there w.in-Some-2.len w.in-Some-2.ends new
+          = subst (λ o. MatchOption o (StaysUnread c.of-class.result old new) (λ p. ReadsAnyway (drop at bytes) old at c.in-Some.line_there p.0 p.1 new)) w.in-Some-2.is
+          w.in_ok-len-in-Passed.ensures in
+          rw (w.scan-is, w.tokens-is, w.start-is, w.line_here-is, w.passing-is) (record {
+            same = refl;
+            so = subst (λ (n : ℕ). PassesSo bytes at n c.specials.passing c.specials.scan.frames w.pass.new.self w.pass.new.frames) place w.in-Passed.ensures;
+            few = omega (arith, few, piece.few);
+            have = reads_on there piece;
+          })
+    ]
+
+pub next-at-requires-in-specials : goal.next-at-requires-in-specials
+next-at-requires-in-specials c = let marked = (goes_on (goal.at.next-at-requires-in-specials c).Joined-class).so.marked in omega (arith, marked.base, marked.within)
+
+pub specials-smaller : goal.specials-smaller
+specials-smaller c =
+    let so = (goes_on (goal.at.specials-smaller c).Joined-class).so in
+    let next = c.next-at-in-specials.ensures c.match-class.passing.all so.marked in
+    omega (arith, so.further, next.after, next.within, c.specials-test.true)
+
+pub specials-preserved : goal.specials-preserved
+specials-preserved c =
+    let g = goes_on (goal.at.specials-preserved c).Joined-class in
+    let (on, counted, before, have) = c.specials.invariant in
+    let next = passes_next _ _ _ _ _ on c.match-class.scan.frames c.match-class.passing c.next-at-in-specials.result c.next-at-in-specials.new.self g.so
+    (c.next-at-in-specials.ensures c.match-class.passing.all g.so.marked) in (
+      subst (λ s. HasPassed c.args.scan.now c.args.bytes.now c.next-at-in-specials.result s (record c.match-class.passing { marks = c.next-at-in-specials.new.self })) (sym g.same) next,
+      g.so.counted ∙ counted,
+      g.few,
+      g.have,
+    )

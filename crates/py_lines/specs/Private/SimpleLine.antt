@@ -1,0 +1,13 @@
+-- Simple logical lines, which are read in one pass.
+use Rattle.std.specs.Prelude.{ℕ, List, take}
+use Rattle.py_lines.specs.declared.line_tokens.LineTokens.{LineTokens}
+use Rattle.py_lines.specs.declared.scan.Scan.{Scan}
+use Rattle.py_lines.specs.Private.LineTokens.{HoldsTokens, IsLineAfter}
+use Rattle.py_lines.specs.Private.Passing.{EndsAfter}
+
+-- a line was read, which ends with so many bytes of line end where the scan stands, and the line after it is this one
+pub record ReadsSimpleLine (bytes : List ℕ) (old : Scan) (line end_len after : ℕ) (new : Scan) (t : LineTokens) : Type 0 where
+  pub before : ℕ
+  pub ends : EndsAfter old bytes before end_len new
+  pub tokens : HoldsTokens (take new.stop bytes) end_len line t
+  pub lines : IsLineAfter line (take new.stop bytes) end_len after
