@@ -6,6 +6,7 @@ use Rattle.py_lines.specs.Piece.{Piece}
 use Rattle.py_lines.specs.declared.class.Class.{Class as ByteClass}
 use Rattle.py_lines.specs.declared.class.Class.TheVariants as class
 use Rattle.py_lines.specs.declared.line_tokens.LineTokens.{LineTokens}
+use Rattle.py_lines.specs.declared.token.TokKind.TheVariants as kind
 use Rattle.py_lines.specs.declared.unit.UnitKind.TheVariants as unit_kind
 use Rattle.py_lines.specs.Private.LineTokens.{AddsPiece, BeginWithPiece, IsFirstPiece, ReadsAnyway, ReadsPiece, Role, StaysUnread, is_simple}
 use Rattle.py_lines.specs.Private.Marks.{is_of_class}
@@ -99,4 +100,26 @@ returns-in-Return c =
       is = λ p b. rw c.line_end_len-in-Return.ensures (line_end_taken b (class_is b c.of-class.ensures c.in-Return.is));
       adds = subst (AddsPiece c.args.self.now Role.none start (start + c.line_end_len-in-Return.result) c.args.line)
           (sym (unread (goal.at.returns-in-Return c).In_default).1) (record { kind = refl; indent = refl; tokens = sym (append-nil _) });
+    })
+
+pub returns-in_ok-add-in-Word : goal.returns-in_ok-add-in-Word
+returns-in_ok-add-in-Word c =
+    let (text, start) : _ × _ = (c.args.text.now, c.args.start) in
+    let k = c.word_or_string-kind.result in
+    subst (λ l. ReadsPiece l c.args.self.now start c.args.line k.1 k.2 c.add.new.self) (rest_is text start) (record {
+      role = Role.token_of k.0;
+      is = c.word_or_string-kind.ensures;
+      adds = subst (λ (t : LineTokens). AddsPiece t (Role.token_of k.0) start (start + k.1) c.args.line c.add.new.self)
+          (unread (goal.at.returns-in_ok-add-in-Word c).In_default).1 c.in_ok-add-in-Word.ensures;
+    })
+
+pub returns-in_ok-add-in-Quote : goal.returns-in_ok-add-in-Quote
+returns-in_ok-add-in-Quote c =
+    let (text, start) : _ × _ = (c.args.text.now, c.args.start) in
+    let r = c.string_len-len.result in
+    subst (λ l. ReadsPiece l c.args.self.now start c.args.line r.0 r.1 c.add-in-Quote.new.self) (rest_is text start) (record {
+      role = Role.token_of kind.Str;
+      is = c.string_len-len.ensures;
+      adds = subst (λ (t : LineTokens). AddsPiece t (Role.token_of kind.Str) start (start + r.0) c.args.line c.add-in-Quote.new.self)
+          (unread (goal.at.returns-in_ok-add-in-Quote c).In_default).1 c.in_ok-add-in-Quote.ensures;
     })
