@@ -26,8 +26,7 @@ use Rattle.py_lines.proofs.Text.Decoding.{decoded}
 begins_fewer : (a b : List ℕ) → begins_fielded (a ++ b) ≡ false → begins_fielded a ≡ false
 begins_fewer [] b h = refl
 begins_fewer (c ∷ []) b h = none_false (is_f c || is_t c)
-begins_fewer (c ∷ d ∷ []) b h = go (is_f c || is_t c) (is_quote d) (is_r d) (begins is_quote b) h
-  where
+begins_fewer (c ∷ d ∷ []) b h = go (is_f c || is_t c) (is_quote d) (is_r d) (begins is_quote b) h where
     go : (x y z w : Bool) → x && (y || (z && w)) ≡ false → x && (y || (z && false)) ≡ false
     go false y z w k = refl
     go true true z w k = k

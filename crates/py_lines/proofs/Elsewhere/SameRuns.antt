@@ -61,8 +61,7 @@ plain_closed m done held own quoted = unfielded-push Fields done (piece (class_o
 -- what a character does that begins none
 plain_started : (done : List Piece) (os : List ℕ) (c : ℕ) (x : Start) → AreUnfielded Fields done → PlainIf (field_started [] done os c x)
 plain_started done os c (starts.Open m) own = own
-plain_started done os c starts.Operator own = go (openers_with os c)
-  where
+plain_started done os c starts.Operator own = go (openers_with os c) where
     go : (o : Option (List ℕ)) → PlainIf (after_operator [] done c o)
     go None = tt
     go (Some after) = unfielded-push Fields done (piece operator (c ∷ [])) own (λ is. absurd (cc))
@@ -139,8 +138,7 @@ data CutAt (ps : List Piece) (cs : List ℕ) : Type 0 where
 cut_at : (ps : List Piece) (cs more : List ℕ) → spelled ps ≡ cs ++ more → CutAt ps cs
 cut_at ps [] more is = between [] ps refl refl
 cut_at [] (c ∷ cs) more is = absurd (cc)
-cut_at (p ∷ ps) (c ∷ cs) more is = go (λ k same. cut_at ps k more same) (either p.text (spelled ps) (c ∷ cs) more is)
-  where
+cut_at (p ∷ ps) (c ∷ cs) more is = go (λ k same. cut_at ps k more same) (either p.text (spelled ps) (c ∷ cs) more is) where
     with_first : (k : List ℕ) → c ∷ cs ≡ p.text ++ k → CutAt ps k → CutAt (p ∷ ps) (c ∷ cs)
     with_first k one (between qs rs at spell) = between (p ∷ qs) rs (ap (λ l. p ∷ l) at) (ap (λ t. p.text ++ t) spell ∙ sym one)
     with_first k one (in_piece qs rs q e front d back at spell own) =
@@ -157,8 +155,7 @@ grown_first m n (c ∷ a) b (next, grows, others) = let rest = grown_first next 
 
 front_grown : (class : Class) (m : Mode) (front : List ℕ) (d : ℕ) (back rest : List ℕ) → EndsWith class m (front ++ d ∷ back) rest → (k : Mode) × Grown m front k
 front_grown class m front d back rest (ends_before n grown is stops) = grown_first m n front (d ∷ back) grown
-front_grown class m front d back rest (ends_at n all e cut grown is closing) = go (either front (d ∷ back) all (e ∷ []) cut)
-  where
+front_grown class m front d back rest (ends_at n all e cut grown is closing) = go (either front (d ∷ back) all (e ∷ []) cut) where
     go : Either front all (e ∷ []) → (k : Mode) × Grown m front k
     go (Either.shorter k one) = grown_first m n front k (subst (λ t. Grown m t n) one grown)
     go (Either.longer x k after one two) =
@@ -222,8 +219,7 @@ first_reached qs rs front balanced shallow own fit unmarked =
     (os, reach_open qs os front (read_with Fields qs front own fit) opens (shallow_with ShallowFields qs front 0 own fit (EachAtDepth-parts OpensShallow 0 qs rs shallow).0) (may_stand qs front unmarked))
 
 pub live_with : (cs : List ℕ) → may_have_fields cs ≡ false → IsLiveIn plain_dialect cs → IsLiveIn fielded_dialect cs
-live_with cs h live = go (cut_at live.pieces cs live.more live.reading.reads.spell)
-  where
+live_with cs h live = go (cut_at live.pieces cs live.more live.reading.reads.spell) where
     first : (qs rs : List Piece) (front : List ℕ) → live.pieces ≡ qs ++ rs → spelled qs ++ front ≡ cs → AreReadPlain qs front → (qs ≡ [] → begins is_mark front ≡ false) → (os : List ℕ) × Reaches qs os front
     first qs rs front is spell fit unmarked =
         first_reached qs rs front (subst IsBalanced is live.reading.balanced) (subst (IsShallowPlain 0) is live.reading.shallow) (ap may_have_fields spell ∙ h) fit unmarked

@@ -242,8 +242,7 @@ module _ (s : FieldScanned) (read : List ℕ) (c : ℕ) (after : List ℕ) (step
   is_deep = is_waiting s.mode && (frames s == 200)
 
   brace_fits : is_deep ≡ true → (offset : ℕ) × OpensBraceTooDeep read (c ∷ []) offset
-  brace_fits is = go s.mode (and_parts (is_waiting s.mode) (frames s == 200) is).0 no_grows sound
-    where
+  brace_fits is = go s.mode (and_parts (is_waiting s.mode) (frames s == 200) is).0 no_grows sound where
       go : (m : FieldMode) → is_waiting m ≡ true → ((n : FieldMode) → field_move m s.held c ≡ grows n → ⊥) → IsFieldSound two_hundred (field_state s.outer s.done s.openers m s.held) read → (offset : ℕ) × OpensBraceTooDeep read (c ∷ []) offset
       go (body host literal named after_brace) waits none own =
           brace_is_due two_hundred s.outer s.done s.openers host named s.held read own (c ∷ []) (not_second host named s.held c none) (eqb-true (frames s) 200 (and_parts (is_waiting s.mode) (frames s == 200) is).1)
@@ -254,8 +253,7 @@ module _ (s : FieldScanned) (read : List ℕ) (c : ℕ) (after : List ℕ) (step
 
   why : is_deep ≡ false → Why s c
   unfolding has_room_at
-  why shallow = go (field_move s.mode s.held c) refl stuck
-    where
+  why shallow = go (field_move s.mode s.held c) refl stuck where
       go : (v : FieldMove) → field_move s.mode s.held c ≡ v → IsStuck s c → Why s c
       go (grows n) is at = absurd (no_grows n is)
       go closes is at = absurd (goes_free s _ c closes is refl refl stuck)
@@ -273,8 +271,7 @@ module _ (s : FieldScanned) (read : List ℕ) (c : ℕ) (after : List ℕ) (step
   -- a line end is refused where a short string is open, or a specification of one
   pub short_here : is_deep ≡ false → is_break c ≡ true → IsShortHere s.mode
   unfolding is_opening is_closing
-  short_here shallow break = by (why shallow)
-    where
+  short_here shallow break = by (why shallow) where
       by : Why s c → IsShortHere s.mode
       by (Why.begins outer ps os step (inl none)) = absurd (break_starts outer ps os c break (sym step ∙ none))
       by (Why.begins outer ps os step (inr (opens, full))) = absurd (both_ways _ (break-not-others c break).0 opens)
@@ -304,8 +301,7 @@ module _ (s : FieldScanned) (read : List ℕ) (c : ℕ) (after : List ℕ) (step
   -- an opening bracket that is refused, or the `{` of a field
   opening_fits : is_deep ≡ false → is_break c ≡ false → after_open_backslash s.mode ≡ false → is_closing c ≡ false → is_opening c ≡ true → (offset : ℕ) × OpensTooDeep read c offset
   unfolding is_closing is_opening is_quote
-  opening_fits shallow no_break no_slash no_closing opens = by (why shallow)
-    where
+  opening_fits shallow no_break no_slash no_closing opens = by (why shallow) where
       by : Why s c → (offset : ℕ) × OpensTooDeep read c offset
       by (Why.begins outer ps os step (inl none)) = absurd (none_some (sym none ∙ step ∙ started s read c sound steps outer ps os opens))
       by (Why.begins outer ps os step (inr (also, full))) =
@@ -324,15 +320,13 @@ module _ (s : FieldScanned) (read : List ℕ) (c : ℕ) (after : List ℕ) (step
 
   -- the quote of the string of a specification
   end_back : (offset : ℕ) → Explains ends_specification read c offset → quotes_specification s.mode c ≡ true
-  end_back offset fits = quoted s.mode (specification_mode s read c sound steps fits.host fits.start fits.inside)
-    where
+  end_back offset fits = quoted s.mode (specification_mode s read c sound steps fits.host fits.start fits.inside) where
       quoted : (m : FieldMode) → InSpecificationOf fits.host m → quotes_specification m c ≡ true
       quoted (body host specification named at) is = eq-eqb c host.quote (fits.quotes ∙ ap (λ (h : Host). h.quote) (sym is.0))
       quoted m is = absurd is
 
   end_fits : quotes_specification s.mode c ≡ true → (offset : ℕ) × Explains ends_specification read c offset
-  end_fits is = go s.mode is sound
-    where
+  end_fits is = go s.mode is sound where
       go : (m : FieldMode) → quotes_specification m c ≡ true → IsFieldSound two_hundred (field_state s.outer s.done s.openers m s.held) read → (offset : ℕ) × Explains ends_specification read c offset
       go (body host specification named at) same own =
           let found = specification_is_open two_hundred s.outer s.done s.openers host named at s.held read own (no_brace_at s.outer (frames s) s.held host named at own.mode) in

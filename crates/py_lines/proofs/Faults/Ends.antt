@@ -51,8 +51,7 @@ IsPlaced what s offset = StandsThere s what offset
 
 -- a bracket is open after one that no bracket closes
 some_after : (outer inner : List Piece) (a : Piece) (after : List ℕ) → is_opener a ≡ true → IsBalanced inner → openers_through (Some []) (outer ++ a ∷ inner) ≡ Some after → (o : ℕ) × (os : List ℕ) × (after ≡ o ∷ os)
-some_after outer inner a after opens within is = go (openers_through (Some []) outer) (sym (openers_through-append (Some []) outer (a ∷ inner)) ∙ is)
-  where
+some_after outer inner a after opens within is = go (openers_through (Some []) outer) (sym (openers_through-append (Some []) outer (a ∷ inner)) ∙ is) where
     go : (o : Option (List ℕ)) → openers_through o (a ∷ inner) ≡ Some after → (c : ℕ) × (os : List ℕ) × (after ≡ c ∷ os)
     go None is = absurd (none_some is)
     go (Some os) is = let c = first_or_zero a.text in
@@ -124,8 +123,7 @@ pub same_state : (characters : List ℕ) (s t : FieldScanned) → field_steps_fr
 same_state characters s t one two = cc
 
 opener_text : (p : Piece) → is_opener p ≡ true → (c : ℕ) × (cs : List ℕ) × (p.text ≡ c ∷ cs)
-opener_text p h = go p.class p.text h
-  where
+opener_text p h = go p.class p.text h where
     go : (class : Class) (text : List ℕ) → is_operator_that is_opening class text ≡ true → (c : ℕ) × (cs : List ℕ) × (text ≡ c ∷ cs)
     go operator [] is = absurd (both_ways _ refl is)
     go operator (c ∷ cs) is = (c, cs, refl)
@@ -161,8 +159,7 @@ open_now characters s steps room = open_in s.outer s.done s.openers s.mode s.hel
 
 -- a live text is read, or has a fault at its end
 pub read_or_open : (characters : List ℕ) (s : FieldScanned) → field_steps_from (Some field_text_start) characters ≡ Some s → have_room (Some field_text_start) characters ≡ true → IsBalancedReading (field_pieces s) characters ⊎ ((kind : FaultKind) × (offset : ℕ) × IsEndFault kind characters [] offset)
-read_or_open characters s steps room = go (unfinished_at s) (open_now characters s steps room)
-  where
+read_or_open characters s steps room = go (unfinished_at s) (open_now characters s steps room) where
     go : (o : Option Unfinished) → EndsSo s characters o → IsBalancedReading (field_pieces s) characters ⊎ ((kind : FaultKind) × (offset : ℕ) × IsEndFault kind characters [] offset)
     go None final = inl (final_is_reading characters s steps room final)
     go (Some what) at = inr (kind_of_unfinished what, at.0, record { unfinished = what; is = refl; whole = refl; live = goes_live characters s steps room; ends_in = at.1 })
@@ -186,8 +183,7 @@ module _ (characters : List ℕ) (s : FieldScanned) (steps : field_steps_from (S
     (code_unfinished s.outer s.openers s.mode may).0 ∙ code_inside s.outer s.openers deep none,
     rw ((code_unfinished s.outer s.openers s.mode may).1) (ap (λ n. n + 1) place ∙ brace_more start _ (sym is)),
   )
-  code_named start offset (at_brace host mode_is is) place other = go s.mode mode_is sound
-    where
+  code_named start offset (at_brace host mode_is is) place other = go s.mode mode_is sound where
       go : (m : FieldMode) → m ≡ body host literal false after_brace → IsFieldSound two_hundred (field_state s.outer s.done s.openers m s.held) characters → (unfinished_in s.outer s.openers m ≡ Some open_inside) × (offset + 1 ≡ (if is_waiting m then here s else byte_len (before literal s.outer)))
       go (body own literal named after_brace) same here = let depth = length s.openers + levels_open s.outer in (
         cond_both (nat_lt depth 200) open_inside open_brace (λ (w : Unfinished). (at : ℕ) × IsOpenAtEnd w characters at → Some w ≡ Some open_inside) (λ less due. refl) (λ full due. absurd (other due.0 due.1))

@@ -82,8 +82,7 @@ module _ (text : List ℕ) (state : LineState) (lines : List LogicalLine) (read 
     -- bytes that begin no character are left
     module _ (some : 0 < length rest) (fault : Fault) (at : IsFaultAfter state FaultKind.BadUtf8 (byte_len read) (encode_utf8_all read) fault) where
       pub refused_bytes : StartsWithNoChar rest → IsLexedToFault (of.bytes text state.place state.line lines read rest k) lines fault
-      refused_bytes bad = go rest refl
-        where
+      refused_bytes bad = go rest refl where
           go : (left : List ℕ) → rest ≡ left → IsLexedToFault (of.bytes text state.place state.line lines read rest k) lines fault
           go [] none = absurd (omega (arith, some, ap length none))
           go (d ∷ ds) is = let known = of.bytes text state.place state.line lines read rest k in

@@ -21,8 +21,7 @@ no_return c wide = false_from_ne_true _ (λ returns. omega (arith, wide, return_
 
 -- the last byte of a character
 ends-encode : (c : ℕ) → ends is_return (encode_utf8 c) ≡ is_return c
-ends-encode c = ⊎_elim (λ narrow. ap (ends is_return) (one c narrow)) (λ wide. last_byte wide ∙ sym (no_return c wide)) (cases_lt c 128)
-  where
+ends-encode c = ⊎_elim (λ narrow. ap (ends is_return) (one c narrow)) (λ wide. last_byte wide ∙ sym (no_return c wide)) (cases_lt c 128) where
     last_byte : 128 ≤ c → ends is_return (encode_utf8 c) ≡ false
     last_byte wide = ⊎_elim (λ short. ap (ends is_return) (two c wide short) ∙ no_return _ (omega arith))
         (λ long. ⊎_elim (λ short. ap (ends is_return) (three c long short) ∙ no_return _ (omega arith))

@@ -36,8 +36,7 @@ module _ {m : Mode} {whole : List ℕ} {scan : Scan} {read rest : List ℕ} (l :
 
   -- after CR that ended it no byte follows
   pub left_none : has_returned l.way.field ≡ true → rest ≡ []
-  left_none returned = by rest (λ some. left_open some)
-    where
+  left_none returned = by rest (λ some. left_open some) where
       by : (r : List ℕ) → (0 < length r → has_returned l.way.field ≡ false) → r ≡ []
       by [] open_yet = refl
       by (b ∷ more) open_yet = absurd (both_ways _ (open_yet (omega arith)) returned)

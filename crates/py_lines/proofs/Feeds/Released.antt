@@ -56,8 +56,7 @@ module _ {text : List ℕ} {place line : ℕ} {lines : List LogicalLine} (first 
 
 -- a line is ready where a caller sees one
 pub ready_from : (f : Feed) → IsSoundFeed f → IsSome (ready_of f f.ready) → (n : ℕ) × (f.ready ≡ Some n) × IsReady f n
-ready_from f sound some = go f.ready refl sound.state some
-  where
+ready_from f sound some = go f.ready refl sound.state some where
     go : (ready : Option ℕ) → f.ready ≡ ready → StandsSo f ready → IsSome (ready_of f ready) → (n : ℕ) × (f.ready ≡ Some n) × IsReady f n
     go None is stands some = absurd (both_ways _ refl some)
     go (Some n) is stands some = (n, is, stands)

@@ -37,8 +37,7 @@ use Rattle.py_lines.proofs.Feeds.Known.{IsKnown}
 -- No line has ended in what was read, where no byte is known after a CR that ends the line unless LF follows.
 ends_none : {m : Mode} {read : List ℕ} (way : IsUnderWay m read) → begins_line m ≡ true → (rest : List ℕ)
     → (has_returned way.field ≡ true → rest ≡ []) → EndsNoneYet (outer_pieces way.field) rest
-ends_none way start rest last = by (has_returned way.field) refl
-  where
+ends_none way start rest last = by (has_returned way.field) refl where
     by : (b : Bool) → has_returned way.field ≡ b → EndsNoneYet (outer_pieces way.field) rest
     by false open_yet = EndsNoneYet.none (open_line way start open_yet)
     by true is = let t = way.field in let r = returned_at way start is in let alone = outer_alone t r.outside in

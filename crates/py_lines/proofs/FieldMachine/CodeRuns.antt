@@ -49,8 +49,7 @@ module _ (Room : ℕ → Type 0) (F : ℕ → Host → List ℕ → Type 0) (beg
       no_colon : (outer : List Level) → HasNoColonIn outer (length from.openers) (piece operator (c ∷ []) ∷ []) → IsNoColon outer from.openers c
       no_colon [] h = tt
       no_colon (level ∷ outer) h = (h (λ is. absurd (cc))).0
-  one_found G from string text after rest unmarked is before room own opens none stops = same_openers from text _ after rest opens (either (own refl))
-    where
+  one_found G from string text after rest unmarked is before room own opens none stops = same_openers from text _ after rest opens (either (own refl)) where
       either : (with_fields (F (frames from))).IsString text → FieldFinds Room from text (piece string text ∷ []) from.openers rest
       either (inl (inl (short, no_field))) = string_found Room from text short.prefix short.quote _ rest short.spell short.begun no_field short.opens
           (short_ends text short.prefix short.quote short.items rest short.spell short.begun short.opens short.each (precede_without G string text rest before)) stops

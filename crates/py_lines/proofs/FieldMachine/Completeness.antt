@@ -90,8 +90,7 @@ module _ (Room : ℕ → Type 0) (F : ℕ → Host → List ℕ → Type 0) (beg
   unfolding field_move move_of
   reached [] after rest fit passed opens may = let same : [] ≡ after = cc in
       record { done = []; mode = plain Mode.Start; held = []; goes = ap (λ os. field_state [] [] os (plain Mode.Start) []) same; pieces_are = refl; stops = stops_start rest may }
-  reached (p ∷ ps) after rest fit passed opens may = go p.class p.text fit passed opens
-    where
+  reached (p ∷ ps) after rest fit passed opens may = go p.class p.text fit passed opens where
       go : (class : Class) (text : List ℕ) → AreReadIn (with_fields G) (piece class text ∷ ps) rest → ArePassed Room F 0 (piece class text ∷ ps) → openers_through (Some []) (piece class text ∷ ps) ≡ Some after → FieldFinds Room field_text_start (spelled (piece class text ∷ ps)) (piece class text ∷ ps) after rest
       go mark text h k l = let c = h.0.0 in let move : field_move (plain Mode.Start) [] c ≡ closes = rw h.0.2 in
           let marked : FieldScanned = field_fresh [] (piece mark (c ∷ []) ∷ []) [] in

@@ -42,8 +42,7 @@ pub record PiecesRun (outer : List Level) (pieces : List Piece) (rest : List ℕ
   pub deep : depth_through 0 pieces ≡ length after
 
 pub pieces_run : (outer : List Level) (depth : ℕ) (pieces : List Piece) (rest : List ℕ) → levels_open outer ≡ depth → AreBegun depth pieces rest → MayBegin pieces rest → PiecesRun outer pieces rest
-pieces_run outer depth pieces rest deep begun may = go outer deep
-  where
+pieces_run outer depth pieces rest deep begun may = go outer deep where
     open_after : (after : List ℕ) × (openers_through (Some []) pieces ≡ Some after)
     open_after = some_open pieces begun.others begun.balanced
 

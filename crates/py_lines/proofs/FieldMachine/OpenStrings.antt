@@ -121,8 +121,7 @@ string_runs from host spot front rest (in_specification _ round _ _ opening insi
 
 -- where the string is open up to a backslash after the spot
 pub up_to_runs : (from : FieldScanned) (host : Host) (spot : Spot) (front : List ℕ) → IsOpenUpTo host spot front → StopsAt from.mode from.held front → StringRun from host spot front []
-up_to_runs from host spot front is stops = go is.escapes
-  where
+up_to_runs from host spot front is stops = go is.escapes where
     run : StringRun from host spot is.body is.last
     run = string_runs from host spot is.body is.last is.string (subst (StopsAt from.mode from.held) is.spell stops)
 

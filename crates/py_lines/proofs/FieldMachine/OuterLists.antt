@@ -42,8 +42,7 @@ outer_pieces t = field_closed (outer_mode t) (outer_done t) (outer_held t)
 
 -- where no field is open, they are those of the innermost list
 pub outer_alone : (t : FieldScanned) → t.outer ≡ [] → (outer_done t ≡ t.done) × (outer_held t ≡ t.held) × (outer_mode t ≡ t.mode) × (outer_pieces t ≡ field_pieces t)
-outer_alone t none = go t.outer none
-  where
+outer_alone t none = go t.outer none where
     go : (outer : List Level) → outer ≡ [] → (outer_list outer t.done ≡ t.done) × (outer_text (text_place t.mode) outer t.done t.held ≡ t.held) × (outer_open outer t.mode ≡ t.mode)
         × (field_closed (outer_open outer t.mode) (outer_list outer t.done) (outer_text (text_place t.mode) outer t.done t.held) ≡ field_pieces t)
     go [] is = (refl, refl, refl, refl)
@@ -98,8 +97,7 @@ moved_keeps (l ∷ ls) done os m held c (begins_code host) inside = started_keep
 moved_keeps outer done os m held c v inside = grind arith
 
 pub outer_steps : (t : FieldScanned) (c : ℕ) (u : FieldScanned) → field_step t c ≡ Some u → OuterStep t c u
-outer_steps t c u step = go t.outer (field_move t.mode t.held c) refl refl
-  where
+outer_steps t c u step = go t.outer (field_move t.mode t.held c) refl refl where
     stays : (outer : List Level) (v : FieldMove) → t.outer ≡ outer → field_move t.mode t.held c ≡ v → IsInField outer v → OuterStep t c u
     stays outer v is move inside =
         outer_stays (subst (KeepsList (outer_done t)) step (moved_keeps t.outer t.done t.openers t.mode t.held c (field_move t.mode t.held c) (rw (is, move) inside)))
@@ -115,8 +113,7 @@ StartedIf done None = Unit {0}
 StartedIf done (Some u) = (u.outer ≡ []) × ((ps : List Piece) × (u.done ≡ done ++ ps))
 
 pub started_outer : (done : List Piece) (openers : List ℕ) (c : ℕ) (x : Start) (u : FieldScanned) → field_started [] done openers c x ≡ Some u → (u.outer ≡ []) × ((ps : List Piece) × (u.done ≡ done ++ ps))
-started_outer done openers c x u is = subst (StartedIf done) is (go x)
-  where
+started_outer done openers c x u is = subst (StartedIf done) is (go x) where
     operator_started : (o : Option (List ℕ)) → StartedIf done (after_operator [] done c o)
     operator_started None = tt
     operator_started (Some os) = (refl, (piece operator (c ∷ []) ∷ [], refl))
@@ -133,8 +130,7 @@ closed_on (plain m) done held = (closed m [] held, ap (λ l. closed m l held) (s
 closed_on m done held = (piece string held ∷ [], refl)
 
 pub outer_grows : (t : FieldScanned) (c : ℕ) (u : FieldScanned) → field_step t c ≡ Some u → (ps : List Piece) × (outer_done u ≡ outer_done t ++ ps)
-outer_grows t c u step = go (outer_steps t c u step)
-  where
+outer_grows t c u step = go (outer_steps t c u step) where
     go : OuterStep t c u → (ps : List Piece) × (outer_done u ≡ outer_done t ++ ps)
     go (outer_stays same) = ([], same ∙ sym (append-nil (outer_done t)))
     go (outer_closes none move is) = let last : Piece = piece (field_class_of t.mode) (t.held ++ c ∷ []) in

@@ -37,8 +37,7 @@ EndsNoPrefix class text rest = class ≡ word → is_field_prefix text && begins
 
 stops_after : (m : Mode) (class : Class) (text rest : List ℕ) → class_of m ≡ class → EndsNoPrefix class text rest → StopsBefore m rest → StopsAt (plain m) text rest
 stops_after m class text [] is none stops = stops
-stops_after m class text (c ∷ cs) is none stops = plain_moves m text c (no_host_after m is) ∙ ap plain_move stops
-  where
+stops_after m class text (c ∷ cs) is none stops = plain_moves m text c (no_host_after m is) ∙ ap plain_move stops where
     no_host_after : (n : Mode) → class_of n ≡ class → begins_host n text c ≡ false
     no_host_after (Mode.Word s) so = none (sym so)
     no_host_after n so = refl
@@ -98,8 +97,7 @@ module _ (Room : ℕ → Type 0) where
   -- a space, a word, a comment, a join or a line end
   pub plain_found : (F : Host → List ℕ → Type 0) (from : FieldScanned) (class : Class) (text rest : List ℕ) → IsPlainClass class → InPlainClass class text → MayPrecedeIn (with_fields F) class text rest → StopsAt from.mode from.held (text ++ rest) → FieldFinds Room from text (piece class text ∷ []) from.openers rest
   unfolding is_opening
-  plain_found F from class text rest plain_class is before stops = go (is_read class text rest plain_class is (precede_without F class text rest before))
-    where
+  plain_found F from class text rest plain_class is before stops = go (is_read class text rest plain_class is (precede_without F class text rest before)) where
       go : IsRead class text rest → FieldFinds Room from text (piece class text ∷ []) from.openers rest
       go (at_once so feed) =
           subst (λ p. FieldFinds Room from p.text (p ∷ []) from.openers rest) (ap (λ k. piece k (10 ∷ [])) (sym so) ∙ ap (piece class) (sym feed))

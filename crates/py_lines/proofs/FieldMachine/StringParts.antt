@@ -122,8 +122,7 @@ module _ (host : Host) (place : Place) (named : Bool) (at : At) (rest : List ℕ
   -- one that stands for itself
   bare_passes : (c : ℕ) → is_backslash c ≡ false → may_stand host c ≡ true → is_ordinary place named c ≡ true → Passes host place named at rest tail (c ∷ [])
   unfolding is_barred is_break
-  bare_passes c no_slash stands itself = go (eqb c host.quote) refl
-    where
+  bare_passes c no_slash stands itself = go (eqb c host.quote) refl where
       own_quote : may_stand host host.quote ≡ true → Passes host place named at rest tail (host.quote ∷ [])
       own_quote may here open_yet = let seen = quote_seen host.quote at tail open_yet in
           subst (λ n. PartGrows host place named n at (host.quote ∷ []) rest tail) (sym (ap (λ b. named && not b) (quote_no_end host.quote quotes) ∙ and-true named))
@@ -151,8 +150,7 @@ module _ (host : Host) (place : Place) (named : Bool) (at : At) (rest : List ℕ
   -- a backslash and a character that is no brace
   escape_passes : (s c : ℕ) → is_backslash s ≡ true → is_brace c ≡ false → may_be_escaped host place c ≡ true → names host c && begins_open rest ≡ false → is_return c && begins is_line_feed rest ≡ false → Passes host place named at rest tail (s ∷ c ∷ [])
   unfolding field_move body_move escape_move
-  escape_passes s c slashes brace may none ended = go (is_return c) (names host c) refl refl
-    where
+  escape_passes s c slashes brace may none ended = go (is_return c) (names host c) refl refl where
       by : (to : At) → quotes_seen host.quote to ≡ [] → MayFollow to rest → ((held : List ℕ) → field_move (body host place named after_slash) held c ≡ grows (body host place named to)) → Passes host place named at rest tail (s ∷ c ∷ [])
       by to seen follows moves = passes_to (s ∷ c ∷ []) to seen follows (λ here. slash_then (c ∷ []) s _ slashes here (body host place named to, moves, refl))
 
@@ -217,8 +215,7 @@ module _ (Room : ℕ → Type 0) (outer : List Level) (done : List Piece) (opene
 
   -- a part
   part_goes : (F : Host → List ℕ → Type 0) → BeginOpen F → FieldsGo F → (host : Host) (place : Place) (named : Bool) (at : At) (held part rest : List ℕ) (tail : List (List ℕ)) → is_quote host.quote ≡ true → MayGoOn host place named at (part ++ rest) → has_triple host.quote (quotes_seen host.quote at ++ part ∷ tail) ≡ false → IsPart F host place named part rest → PartGoes host place named (named_after named part) at held part rest tail
-  part_goes F begin go host place named at held part rest tail quotes here open_yet is_part = by is_part
-    where
+  part_goes F begin go host place named at held part rest tail quotes here open_yet is_part = by is_part where
       grown : (text : List ℕ) → part ≡ text → Passes host place named at rest tail text → PartGoes host place named (named_after named part) at held part rest tail
       grown text is passes = let own = subst (Passes host place named at rest tail) (sym is) passes here open_yet in
           record { to = own.to; goes = goes-grown Room outer done openers _ _ held part own.grown; on = own.on; open_yet = own.open_yet }

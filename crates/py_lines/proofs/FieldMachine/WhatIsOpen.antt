@@ -152,8 +152,7 @@ pub data CodeAt (start : List ℕ) (s : FieldScanned) : Type 0 where
   at_brace : (host : Host) → s.mode ≡ body host literal false after_brace → (before literal s.outer ++ spelled s.done) ++ s.held ≡ start ++ byte "{" ∷ [] → CodeAt start s
 
 pub code_comes : (characters start : List ℕ) → InFieldCode characters start → Comes characters (CodeAt start)
-code_comes characters start is = go (spelled is.pieces) refl
-  where
+code_comes characters start is = go (spelled is.pieces) refl where
     outside : List ℕ
     outside = start ++ 123 ∷ []
 

@@ -360,8 +360,7 @@ module _ (old : Scan) (t : FieldScanned) (q : ℕ) (follow : Follows old t) (quo
 
   -- as the scan has it
   pub string_begun : StringBegun old t q (string_start old).1 (string_start old).0
-  string_begun = by old.mode refl
-    where
+  string_begun = by old.mode refl where
       by : (m : OpenMode) → old.mode ≡ m → StringBegun old t q (string_from m old.start old.stop).1 (string_from m old.start old.stop).0
       by (opens.Word s) is = cond_both {A = ℕ × Spelling} (begins_string s) (old.start, s) (old.stop, spellings.Name) (λ p. StringBegun old t q p.1 p.0) (after_prefix s is)
           (λ none. after_piece (λ r same. let word : r ≡ s = cc (is, same) in ap begins_string word ∙ none))

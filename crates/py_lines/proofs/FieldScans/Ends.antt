@@ -313,8 +313,7 @@ module _ (old : Scan) (run : List ℕ) (pending : IsPending old.mode run) where
   -- the string is open, or the field whose specification is
   pub string_left : (long : Bool) (f : LineFault) → IsStringOf long (lone_of run) old.mode → f.kind ≡ string_kind long → f.place ≡ old.start
       → EndsOpen old run (Some f)
-  string_left long f is kind place t u follow goes = subst (λ (s : FieldScanned). IsFieldEnd s (Some f)) (sym e.is) (by long e.told kind)
-    where
+  string_left long f is kind place t u follow goes = subst (λ (s : FieldScanned). IsFieldEnd s (Some f)) (sym e.is) (by long e.told kind) where
       stays : StaysOpen (string_what long) literal (mode_from old.mode) run × (text_place (mode_from old.mode) ≡ literal)
       stays = string_stays old.mode long run follow.quote (pending follow.quote) is
 
@@ -398,8 +397,7 @@ text_part R m run quote text part lone kept = absurd (both_ways _ refl text)
 -- no CR of a line end was read last, unless it is all that was, in code outside brackets and fields
 pub pending_open : (old : Scan) (t u : FieldScanned) (run : List ℕ) → Follows old t → is_pending old.mode run ≡ true → Goes t run u
     → (is_text old.mode ≡ false → frames t == 0 ≡ true → run ≡ 13 ∷ [] → ⊥) → has_returned u ≡ false
-pending_open old t u run follow pending goes other = by (is_text old.mode) refl
-  where
+pending_open old t u run follow pending goes other = by (is_text old.mode) refl where
     open_at : (s : FieldScanned) → s ≡ u → is_return_at s.mode ≡ false → has_returned u ≡ false
     open_at s same no_return = ap has_returned (sym same) ∙ ap (λ b. b && (frames s == 0)) no_return
 

@@ -212,8 +212,7 @@ module _ (old : Scan) (t : FieldScanned) (follow : Follows old t) (host : String
 pub opens_in : (old : Scan) (t : FieldScanned) (follow : Follows old t) (host : StringWithFields) (region : Region) (bytes : List ℕ) (new : Scan)
     → OpensInText (mode_from old.mode) bytes host region → (length old.frames < 200 → new ≡ entered old host region → GoesOver t bytes 1 new)
     × (length old.frames ≡ 200 → IsWrongIn t bytes (record { kind = fault_kind.TooDeep; place = old.stop }))
-opens_in old t follow host region bytes new x = go region x
-  where
+opens_in old t follow host region bytes new x = go region x where
     many : length old.frames ≡ frames t
     many = open-length old t follow
 

@@ -240,8 +240,7 @@ module _ (old : Scan) (c : ℕ) (t : FieldScanned) (follow : Follows old t) (is 
   module _ (apart : (field : OpenField) (others : List Frame) → old.frames ≡ frame.Field field ∷ others → (c ≡ byte "}" → ⊥) × (c ≡ byte ":" → ⊥)) where
     by_innermost : (P : Type 0) → (old.frames ≡ [] → P) → ((opener spot : ℕ) (others : List Frame) → old.frames ≡ frame.Bracket opener spot ∷ others → P)
         → ((field : OpenField) (others : List Frame) → old.frames ≡ frame.Field field ∷ others → P) → P
-    by_innermost P none bracket field = go old.frames refl
-      where
+    by_innermost P none bracket field = go old.frames refl where
         go : (fs : List Frame) → old.frames ≡ fs → P
         go [] is = none is
         go (frame.Bracket opener spot ∷ others) is = bracket opener spot others is

@@ -51,8 +51,7 @@ waits_not host place named at none = grind arith
 
 pub body_alike : (b : ℕ) (host : Host) (place : Place) (named : Bool) (at : At) → is_after_brace at ≡ false → ((c : ℕ) → IsFirstByte b c → body_move host place named at c ≡ body_move host place named between c) → TextAlike b (body host place named at) (body host place named between)
 unfolding field_move
-body_alike b host place named at none move = record { place = refl; class = refl; move = move; cause = λ c depth first. go c depth place }
-  where
+body_alike b host place named at none move = record { place = refl; class = refl; move = move; cause = λ c depth first. go c depth place } where
     go : (c depth : ℕ) (p : Place) → cause_in depth (body host p named at) c ≡ cause_in depth (body host p named between) c
     go c depth literal = rw (waits_not host literal named at none) refl
     go c depth specification = refl
@@ -67,15 +66,13 @@ text_mode (opens.Short q) quote long c at quotes = (refl, ap is_quote at.0 ∙ q
 text_mode m quote long c at quotes = grind arith
 
 pub pending_text : (mode : OpenMode) (m : FieldMode) (quote : ℕ) (long : Bool) (c : ℕ) (run : List ℕ) → IsTextAt m quote long c → is_part_of_text long quote run ≡ true → mode_from mode ≡ m → is_pending mode run ≡ true
-pending_text mode m quote long c run at part same = go mode (subst (λ x. IsTextAt x quote long c) (sym same) at)
-  where
+pending_text mode m quote long c run at part same = go mode (subst (λ x. IsTextAt x quote long c) (sym same) at) where
     go : (mode : OpenMode) → IsTextAt (mode_from mode) quote long c → is_pending mode run ≡ true
     go other at = grind arith
 
 -- what holds of the first byte holds of the character
 pub text_at : (m : FieldMode) (quote : ℕ) (long : Bool) (bytes : List ℕ) (c : ℕ) → BeginsWith bytes c → IsTextAt m quote long (slice_index bytes 0) → IsTextAt m quote long c
-text_at m quote long bytes c next at = ⊎_elim (λ (low : c < 128). subst (λ (b : ℕ). IsTextAt m quote long b) (first low) at) (high m at) (cases_lt c 128)
-  where
+text_at m quote long bytes c next at = ⊎_elim (λ (low : c < 128). subst (λ (b : ℕ). IsTextAt m quote long b) (first low) at) (high m at) (cases_lt c 128) where
     first : c < 128 → slice_index bytes 0 ≡ c
     first low = sym (ap (λ t. slice_index t 0) (ap (λ t. t ++ drop (len_utf8 c) bytes) (sym (encode_ascii c low)) ∙ next.spell))
 

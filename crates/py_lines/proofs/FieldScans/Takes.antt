@@ -45,8 +45,7 @@ module _ (new : Scan) (rest bytes : List ℕ) (t u : FieldScanned) where
   comes_as (c ∷ cs) stands scalars spell (v, goes, rests) = (v, goes_real u t v bytes (c ∷ cs) rest stands scalars spell (omega arith) goes, rests)
 
 pub takes_on : (old mid new : Scan) (bytes : List ℕ) (a b : ℕ) → Takes old bytes a mid → Takes mid (drop a bytes) b new → Takes old bytes (a + b) new
-takes_on old mid new bytes a b first second t follows = by (first t follows)
-  where
+takes_on old mid new bytes a b first second t follows = by (first t follows) where
     far : drop b (drop a bytes) ≡ drop (a + b) bytes
     far = drop-drop b a bytes
 
@@ -59,8 +58,7 @@ takes_on old mid new bytes a b first second t follows = by (first t follows)
         search (spelled, all_scalars-append run more scalars next_scalars, size_is, subst (ComesOver t (run ++ more) new) far comes)
 
     by : TakesFrom t bytes a mid → TakesFrom t bytes (a + b) new
-    by one = go one.run one.spell one.scalars one.size one.comes
-      where
+    by one = go one.run one.spell one.scalars one.size one.comes where
         go : (run : List ℕ) → encode_utf8_all run ++ drop a bytes ≡ bytes → all_scalars run ≡ true → byte_len run ≡ a
             → ComesOver t run mid (drop a bytes) → TakesFrom t bytes (a + b) new
         go [] spell scalars size follows_mid = let two = second t follows_mid in both [] spell scalars size two.run two.spell two.scalars two.size two.comes

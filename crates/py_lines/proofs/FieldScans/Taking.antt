@@ -172,8 +172,7 @@ wrong_real t u bytes f stands w = let last = w.c ∷ [] in
 
 -- so what a step comes to
 pub comes_real : (old new : Scan) (bytes : List ℕ) (p : Progress) (t : FieldScanned) → 0 < length bytes → Rests old t bytes → Steps old bytes p new → ComesTo t bytes old p new
-comes_real old new bytes p t some rests steps = by p (steps rests.as_if rests.follows)
-  where
+comes_real old new bytes p t some rests steps = by p (steps rests.as_if rests.follows) where
     by : (q : Progress) → ComesTo rests.as_if bytes old q new → ComesTo t bytes old q new
     by (progress.Going len) o =
         search (o, goes_real t rests.as_if o.to bytes o.run (drop len bytes) rests.stands o.scalars o.spell (some_run o.run len o.size o.some) o.goes, one_real t rests.as_if bytes o.run (drop len bytes) rests.stands o.scalars o.spell o.one)

@@ -105,8 +105,7 @@ text_stays (plain (modes.LongEscape q)) c in_text = (tt, refl)
 text_stays m c in_text = absurd in_text
 
 no_break : (m : FieldMode) (held : List ℕ) (c : ℕ) → InText m → is_break_move (field_move m held c) ≡ false
-no_break m held c in_text = ap is_break_move (held_nothing m held c in_text) ∙ by (field_move m [] c) (text_stays m c in_text)
-  where
+no_break m held c in_text = ap is_break_move (held_nothing m held c in_text) ∙ by (field_move m [] c) (text_stays m c in_text) where
     by : (v : FieldMove) → StaysText (text_place m) v → is_break_move v ≡ false
     by breaks none = absurd none
     by v stays = refl

@@ -119,8 +119,7 @@ code_begun bytes n code = record { within = code.within; leads = code.leads [] }
 pub code_on : (bytes : List ℕ) (n m k : ℕ) → HasCode bytes n → n < length bytes → is_code_bracket (slice_index bytes n) ≡ true
     → HasSimpleCode (rest_of bytes (n + 1)) m → n + 1 + m < length bytes → slice_index bytes (n + 1 + m) ≡ closing_of (slice_index bytes n)
     → HasSimpleCode (rest_of bytes (n + 1 + m + 1)) k → HasCode bytes (n + 1 + m + 1 + k)
-code_on bytes n m k code within is inside further closes more = record { within = (all 0).0; leads = λ quote. (all quote).1 }
-  where
+code_on bytes n m k code within is inside further closes more = record { within = (all 0).0; leads = λ quote. (all quote).1 } where
     all : (quote : ℕ) → LeadsBy quote (AtCode []) bytes (n + 1 + m + 1 + k) (InCode [])
     all quote = let o : ℕ = slice_index bytes n in let opened = one_more bytes n o (code.within, code.leads quote) within refl (opening_leads quote o is) in
         let inner = joined bytes (n + 1) m opened (inside.within, inside.leads (o ∷ []) quote) in

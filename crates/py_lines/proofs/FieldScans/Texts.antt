@@ -259,8 +259,7 @@ module _ (outer : List Level) (l : Level) (front os : List ℕ) (ps : List Piece
   -- it begins a piece, or goes on in one
   piece_goes : (passes : Mode → Bool) (begun : Mode) → is_quote c ≡ false → is_break c ≡ false
       → start_of c ≡ starts.Open begun → passes begun ≡ true → Fits passes (code_result m c) → To passes
-  piece_goes passes begun quote none opens fits moves = go (code_result m c) (code_results m held c simple quote) moves
-    where
+  piece_goes passes begun quote none opens fits moves = go (code_result m c) (code_results m held c simple quote) moves where
       go : (v : FieldMove) → field_move (plain m) held c ≡ v → Fits passes v → To passes
       go (grows (plain n)) move more = let goes = grows_to T c (plain n) (code_apart m simple) none (inside (plain n)) move in
           (in_code outer l front ps os n (held ++ c ∷ []), goes, standing passes os outer l front ps n (held ++ c ∷ []) more)
@@ -288,8 +287,7 @@ module _ (outer : List Level) (l : Level) (front os : List ℕ) (ps : List Piece
       (Operated os, goes, standing is_apart_mode os outer l front (closed m ps held ++ piece operator (c ∷ []) ∷ []) modes.Free [] refl)
 
   code_goes : is_code_byte c ≡ true → To (passing (is_ascii_word c))
-  code_goes h = go (is_ascii_word c) (is_space c) refl refl
-    where
+  code_goes h = go (is_ascii_word c) (is_space c) refl refl where
       go : (word space : Bool) → is_ascii_word c ≡ word → is_space c ≡ space → To (passing word)
       go true space word is =
           piece_goes is_code_mode (modes.Word (first_spelling c)) (word_is c word).1 (word-no_break c word) (start-word c (word_starts c word)) refl (grind arith)

@@ -229,8 +229,7 @@ module _ (limit : Limit) (outer : List Level) (depth : ℕ) (host : Host) where
 
 may_stand_escaped : (host : Host) (place : Place) (c : ℕ) → is_barred_escape host place c ≡ false → may_be_escaped host place c ≡ true
 may_stand_escaped host literal c h = refl
-may_stand_escaped host specification c h = go host.is_long h
-  where
+may_stand_escaped host specification c h = go host.is_long h where
     go : (long : Bool) → is_break c && not long ≡ false → long || not (is_break c) ≡ true
     go true e = refl
     go false e = not_from_false _ (plain_one (is_break c) e)

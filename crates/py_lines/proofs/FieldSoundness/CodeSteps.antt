@@ -64,8 +64,7 @@ inside_is limit level outer done read c ready =
 
 -- an operator that neither ends a field nor opens its specification
 after_sound : (limit : Limit) (outer : List Level) (done : List Piece) (openers read : List ℕ) (c : ℕ) → Ready limit outer done openers read c → (is_opening c ≡ true → limit.Room (length openers + levels_open outer)) → is_operator c ≡ true → ((l : Level) (ls : List Level) → outer ≡ l ∷ ls → (c == 58) && (depth_through 0 done == 0) ≡ false) → FieldSoundIf limit (after_operator outer done c (openers_with openers c)) (read ++ c ∷ [])
-after_sound limit outer done openers read c ready room is colon = go (openers_with openers c) (opens-operator openers done c [] ready.list.opens)
-  where
+after_sound limit outer done openers read c ready room is colon = go (openers_with openers c) (opens-operator openers done c [] ready.list.opens) where
     go : (o : Option (List ℕ)) → OpensIf o (done ++ piece operator (c ∷ []) ∷ []) → FieldSoundIf limit (after_operator outer done c o) (read ++ c ∷ [])
     go None opens = tt
     go (Some after) opens = fresh_sound limit outer done openers after operator (c ∷ []) (read ++ c ∷ []) ready
@@ -119,8 +118,7 @@ operator_sound limit (level ∷ outer) done (o ∷ os) read c ready room is =
 
 -- what a character begins
 pub start_sound : (limit : Limit) (outer : List Level) (done : List Piece) (openers read : List ℕ) (c : ℕ) → Ready limit outer done openers read c → (is_opening c ≡ true → limit.Room (length openers + levels_open outer)) → FieldSoundIf limit (field_started outer done openers c (start_of c)) (read ++ c ∷ [])
-start_sound limit outer done openers read c ready room = go (start_of c) (starts_so c) (start_holds c)
-  where
+start_sound limit outer done openers read c ready room = go (start_of c) (starts_so c) (start_holds c) where
     begun : (m : Mode) → StartsSo c (starts.Open m) → (class_of m ≡ string → BeginsPlain (c ∷ [])) × AtStart (plain m) outer done
     begun modes.Start so = absurd so
     begun (modes.Opened q) so = (λ at. record { prefix = []; quote = c; body = []; spell = refl; none = refl; opens = so.0; plain = refl }, tt)
@@ -255,8 +253,7 @@ ends_of m = something (λ done held. refl) (λ h. absurd (cc)) refl
 module _ (limit : Limit) (outer : List Level) (done : List Piece) (openers : List ℕ) (m : Mode) (held read : List ℕ) (c : ℕ) (sound : IsFieldSound limit (field_state outer done openers (plain m) held) read) (other : begins_host m held c ≡ false) where
   -- the piece ends before it
   ready : ((more : List ℕ) → AreReadPlain (closed m [] held) (c ∷ more)) → Ready limit outer (closed m done held) openers read c
-  ready own = go (ends_of m)
-    where
+  ready own = go (ends_of m) where
       go : Ends m → Ready limit outer (closed m done held) openers read c
       go (nothing is empty) = subst (λ (l : List Piece). Ready limit outer l openers read c) (sym (is done held))
           (subst (λ t. Stands limit literal outer done openers (t ++ c ∷ []) (read ++ c ∷ [])) (empty held sound.mode.0) (stands_more limit literal outer done openers held read (c ∷ []) (stands_at limit outer done openers (plain m) held read literal sound refl)))
@@ -269,8 +266,7 @@ module _ (limit : Limit) (outer : List Level) (done : List Piece) (openers : Lis
 
   -- so whatever it does
   pub plain_sound : HasRoom limit (length openers + levels_open outer) c (plain_move (move_of m c)) → FieldSoundIf limit (field_moved (field_state outer done openers (plain m) held) c (plain_move (move_of m c))) (read ++ c ∷ [])
-  plain_sound room = go (move_of m c) (move_holds m held c sound.mode.0) (quoted_so m held c sound.mode.0 sound.mode.1 other) refl room
-    where
+  plain_sound room = go (move_of m c) (move_holds m held c sound.mode.0) (quoted_so m held c sound.mode.0 sound.mode.1 other) refl room where
       no_start : (n : Mode) → Holds n [] (held ++ c ∷ []) → AtStart (plain n) outer done
       no_start modes.Start (one, none) = absurd (not_nothing held c [] none)
       no_start n holds = tt

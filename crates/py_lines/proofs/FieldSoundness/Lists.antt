@@ -45,8 +45,7 @@ list_more limit outer place done openers held more h = record {
 pub levels_more : (limit : Limit) (place : Place) (outer : List Level) (text more : List ℕ) → HoldsLevels limit place outer text → HoldsLevels limit place outer (text ++ more)
 levels_more limit literal [] text more h = tt
 levels_more limit specification [] text more h = h
-levels_more limit place (l ∷ ls) text more h = (single place l.place h.0, h.1, h.2)
-  where
+levels_more limit place (l ∷ ls) text more h = (single place l.place h.0, h.1, h.2) where
     single : (p q : Place) → IsSingle p q text → IsSingle p q (text ++ more)
     single literal literal one = λ rest. subst (λ t. begins_open t ≡ false) (sym (append_assoc text more rest)) (one (more ++ rest))
     single literal specification one = tt

@@ -135,8 +135,7 @@ quote_one q quotes = and_from _ _ (quote-scalar q quotes) refl
 -- a literal part can be closed by them
 literal_readies : (Room : ℕ → Type 0) (outer : List Level) (done : List Piece) (openers : List ℕ) (host : Host) (named : Bool) (held : List ℕ) → is_quote host.quote ≡ true → Readies Room (field_state outer done openers (body host literal named between) held)
 unfolding field_move body_move between_move
-literal_readies Room outer done openers host named held quotes = go host.is_long refl
-  where
+literal_readies Room outer done openers host named held quotes = go host.is_long refl where
     go : (b : Bool) → host.is_long ≡ b → Readies Room (field_state outer done openers (body host literal named between) held)
     go false short = closes_last Room _ host.quote (quote_one host.quote quotes) (rw (eq-eqb host.quote host.quote refl, short))
     go true long =

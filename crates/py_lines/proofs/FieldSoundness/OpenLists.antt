@@ -50,8 +50,7 @@ OpensIf (Some os) ps = Opens os ps
 -- an operator after them, and any piece
 pub opens-operator : (os : List ℕ) (ps : List Piece) (c : ℕ) (cs : List ℕ) → Opens os ps → OpensIf (openers_with os c) (ps ++ piece operator (c ∷ cs) ∷ [])
 unfolding openers_with
-opens-operator os ps c cs opens = go os opens
-  where
+opens-operator os ps c cs opens = go os opens where
     p : Piece
     p = piece operator (c ∷ cs)
 

@@ -56,8 +56,7 @@ module _ (limit : Limit) (outer : List Level) (done : List Piece) (openers : Lis
 
 -- by its mode
 pub list_ends : (limit : Limit) (outer : List Level) (done : List Piece) (openers : List ℕ) (m : FieldMode) (held read : List ℕ) → IsFieldSound limit (field_state outer done openers m held) read → may_end m ≡ true → EndsList limit outer openers (field_closed m done held) (spelled done ++ held)
-list_ends limit outer done openers (plain m) held read sound may = go (ends_of m)
-  where
+list_ends limit outer done openers (plain m) held read sound may = go (ends_of m) where
     go : Ends m → EndsList limit outer openers (closed m done held) (spelled done ++ held)
     go (nothing is none) = subst (λ (l : List Piece). EndsList limit outer openers l (spelled done ++ held)) (sym (is done held)) (ends_none limit outer done openers (plain m) held read sound (none held sound.mode.0))
     go (something is class marked) =

@@ -78,8 +78,7 @@ neither false b c h k = k
 
 pub plain_precede : (F : Host → List ℕ → Type 0) (class : Class) (text rest : List ℕ) → IsPlainText class text rest → MayPrecedePlain class text rest → MayPrecedeIn (with_fields F) class text rest
 plain_precede F word text rest plain before = (before.0, neither (is_prefix text) (is_field_prefix text) (begins is_quote rest) before.1 plain)
-plain_precede F string text rest plain before = λ prefix q spell begun quotes. before prefix q spell (fewer prefix q spell quotes begun) quotes
-  where
+plain_precede F string text rest plain before = λ prefix q spell begun quotes. before prefix q spell (fewer prefix q spell quotes begun) quotes where
     fewer : (prefix : List ℕ) (q : ℕ) → text ≡ prefix ++ q ∷ q ∷ [] → is_quote q ≡ true → IsNoneOr (λ p. is_prefix p || is_field_prefix p) prefix → IsNoneOr is_prefix prefix
     fewer prefix q spell quotes (inl none) = inl none
     fewer prefix q spell quotes (inr some) = inr (⊎_elim (λ is. is)

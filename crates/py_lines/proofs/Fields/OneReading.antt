@@ -60,8 +60,7 @@ BeginIf first None = Unit {0}
 BeginIf first (Some s) = (ps : List Piece) × (outer_done s ≡ first ++ ps)
 
 started_begin : (first ps : List Piece) (c : ℕ) → BeginIf first (field_started [] (first ++ ps) [] c (start_of c))
-started_begin first ps c = go (field_started [] (first ++ ps) [] c (start_of c)) refl
-  where
+started_begin first ps c = go (field_started [] (first ++ ps) [] c (start_of c)) refl where
     go : (o : Option FieldScanned) → field_started [] (first ++ ps) [] c (start_of c) ≡ o → BeginIf first o
     go None is = tt
     go (Some u) is = let (outside, (qs, more)) = started_outer (first ++ ps) [] c (start_of c) u is in
@@ -120,8 +119,7 @@ after_operator_piece c q (d ∷ t) r u is two at =
 
 -- two pieces that begin in one place are the same
 same_piece : (c d : Class) (s t r u : List ℕ) → InClassIn fielded c s → MayPrecedeIn fielded c s r → InClassIn fielded d t → MayPrecedeIn fielded d t u → s ++ r ≡ t ++ u → piece c s ≡ piece d t
-same_piece c d s t r u one before two after at = go (is_alone c s r one before) (is_alone d t u two after)
-  where
+same_piece c d s t r u one before two after at = go (is_alone c s r one before) (is_alone d t u two after) where
     rest : (x y a b k : List ℕ) → x ++ a ≡ y ++ b → y ≡ x ++ k → a ≡ k ++ b
     rest x y a b k both is = append_cancel_left x _ _ (both ∙ ap (λ z. z ++ b) is ∙ append_assoc x k b)
 
@@ -131,8 +129,7 @@ same_piece c d s t r u one before two after at = go (is_alone c s r one before) 
         is ∙ ap (λ z. piece operator (z ∷ [])) here ∙ sym also
     go (single x is passes) (over found) = is ∙ after_operator_piece x (piece d t) t r u passes found (ap (λ (p : Piece). p.text ++ r) (sym is) ∙ at)
     go (over found) (single y also passing) = sym (also ∙ after_operator_piece y (piece c s) s u r passing found (ap (λ (p : Piece). p.text ++ u) (sym also) ∙ sym at))
-    go (over first) (over second) = by (either s r t u at)
-      where
+    go (over first) (over second) = by (either s r t u at) where
         by : Either s t u → piece c s ≡ piece d t
         by (Either.shorter k is) = after_piece (piece c s) (piece d t) t u second s r k first is (rest s t r u k at is)
         by (Either.longer e k after is left) = sym (after_piece (piece d t) (piece c s) s r first t u (e ∷ k) second is (rest t s u r (e ∷ k) (sym at) is))
@@ -170,8 +167,7 @@ ends_there ps qs zs y fit is at =
 
 -- two readings of a text are the same
 pub one_fielded_reading : (pieces others : List Piece) (characters : List ℕ) → ReadsIn fielded pieces characters → ReadsIn fielded others characters → pieces ≡ others
-one_fielded_reading pieces others characters one two = go (compare_pieces pieces others [] [] one.fit two.fit (ap (λ t. t ++ []) at))
-  where
+one_fielded_reading pieces others characters one two = go (compare_pieces pieces others [] [] one.fit two.fit (ap (λ t. t ++ []) at)) where
     at : spelled pieces ≡ spelled others
     at = one.spell ∙ sym two.spell
 

@@ -78,8 +78,7 @@ barred_quote q = rw (eq-eqb q q refl)
 
 -- a part of a short string doesn't begin with its quote
 pub short_part : (F : Host → List ℕ → Type 0) → BeginOpen F → (q : ℕ) (raw named : Bool) (part rest w v : List ℕ) → is_quote q ≡ true → IsPart F (record { quote = q; is_long = false; is_raw = raw }) literal named part rest → part ++ w ≡ q ∷ v → ⊥
-short_part F begin q raw named part rest w v quotes is at = go is
-  where
+short_part F begin q raw named part rest w v quotes is at = go is where
     first : (s : ℕ) (x : List ℕ) → part ≡ s ∷ x → s ≡ q
     first s x shape = let shown : s ∷ (x ++ w) ≡ q ∷ v = ap (λ t. t ++ w) (sym shape) ∙ at in cc
 

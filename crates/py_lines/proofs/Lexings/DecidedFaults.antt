@@ -28,8 +28,7 @@ prefix_on kind characters rest offset pieces fault prefix = record {
   reading = prefix.reading;
   ended = prefix.ended;
   longest = longest;
-}
-  where
+} where
     whole : (fault.before ++ fault.c ∷ []) ++ fault.dies.after ≡ characters
     whole = append_assoc fault.before (fault.c ∷ []) fault.dies.after ∙ fault.dies.spell
 

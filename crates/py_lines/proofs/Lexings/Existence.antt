@@ -72,8 +72,7 @@ with_line characters tail kind offset at =
 
 -- every text is read or has a fault
 pub read_or_faulty : (characters tail : List ℕ) → IsReadOrFaulty characters tail
-read_or_faulty characters tail = go tail (live_or_faulty characters [] field_text_start refl refl)
-  where
+read_or_faulty characters tail = go tail (live_or_faulty characters [] field_text_start refl refl) where
     go : (t : List ℕ) → IsLiveOrFaulty characters → IsReadOrFaulty characters t
     go t (inr (kind, offset, at)) = inr (kind, offset, at_character at)
     go (d ∷ ds) (inl live) = inr (faults.BadUtf8, byte_len characters, at_bytes (record { is = refl; bad = λ (h : d ∷ ds ≡ []). cc; live = live; place = refl }))

@@ -72,8 +72,7 @@ module _ (characters tail more : List ℕ) (pieces : List Piece) (settled : IsSe
           let first : d ≡ 10 = cc in bad 10 ds refl (sym known ∙ ap (λ (n : ℕ). n ∷ ds) first ∙ ap (λ x. x ++ ds) (sym one))
 
       never_fed : ⊥
-      never_fed = by settled.rest refl
-        where
+      never_fed = by settled.rest refl where
           on : IsContinued settled.rest (tail ++ more) after t
           on = goes_on settled.rest (tail ++ more) after t fine are none (sym (append_assoc (encode_utf8_all settled.rest) tail more) ∙ sym same)
 
@@ -83,8 +82,7 @@ module _ (characters tail more : List ℕ) (pieces : List Piece) (settled : IsSe
               not_known cs (left ∙ ap (λ (n : ℕ). n ∷ cs) ten)
 
   settled_fits : AreReadBefore pieces after
-  settled_fits = by_end settled.ended.0
-    where
+  settled_fits = by_end settled.ended.0 where
       by_end : EndsLine pieces → AreReadBefore pieces after
       by_end (inl empty) = subst (λ l. AreReadBefore l after) (sym empty) tt
       by_end (inr (body, last, is, class, deep)) =
@@ -111,8 +109,7 @@ still_ends pieces rest tail more after t same ended = (
 
 -- pieces that are read before what follows begin those that read more
 begins_with : (pieces others : List Piece) (after rest : List ℕ) → AreReadBefore pieces after → IsBalancedReading pieces (spelled pieces) → IsBalancedReading others (spelled others) → spelled pieces ++ after ≡ spelled others ++ rest → length (spelled pieces) ≤ length (spelled others) → (more : List Piece) × (others ≡ pieces ++ more)
-begins_with pieces others after rest fit reading read spell few = go (either (spelled pieces) after (spelled others) rest spell)
-  where
+begins_with pieces others after rest fit reading read spell few = go (either (spelled pieces) after (spelled others) rest spell) where
     before_mid : (mid : List ℕ) → after ≡ mid ++ rest → AreReadBefore pieces mid
     before_mid [] is = reading.reads.fit
     before_mid (c ∷ cs) is = read_before fielded pieces c (cs ++ rest) cs (subst (AreReadBefore pieces) is fit)
@@ -185,8 +182,7 @@ all_first text place line lines f ends = all_before text place line lines f (nil
 
 -- of two prefixes of a text, the one of no more bytes has no more characters
 fewer : (xs ys zs ws : List ℕ) → xs ++ ys ≡ zs ++ ws → byte_len xs ≤ byte_len zs → length xs ≤ length zs
-fewer xs ys zs ws same few = go (either xs ys zs ws same)
-  where
+fewer xs ys zs ws same few = go (either xs ys zs ws same) where
     go : Either xs zs ws → length xs ≤ length zs
     go (Either.shorter k one) = omega (arith, ap length one, length-append xs k)
     go (Either.longer c k after one two) = absurd (omega (arith, few, ap byte_len one, byte_len-append zs (c ∷ k), length-le-encodes (c ∷ k)))

@@ -98,8 +98,7 @@ second_is xs ys zs k ws same is = append_cancel_left xs ys (k ++ ws) (same ∙ a
 
 -- no line end stays after a prefix after which none ends a line
 pub within : (prefix others rivals body : List Piece) (last : Piece) (all : List Piece) → all ≡ prefix ++ others → EndsLine prefix → EndsNoLine 0 others → rivals ≡ body ++ last ∷ [] → depth_through 0 body ≡ 0 → Stays body last all → length (spelled rivals) ≤ length (spelled prefix)
-within prefix others rivals body last all pieces ended none is deep stays = go (either prefix others body (stays.line ∷ stays.others) same)
-  where
+within prefix others rivals body last all pieces ended none is deep stays = go (either prefix others body (stays.line ∷ stays.others) same) where
     same : prefix ++ others ≡ body ++ stays.line ∷ stays.others
     same = sym pieces ∙ stays.is
 
@@ -122,13 +121,11 @@ prefix_is before later characters u prefix others steps spell dead pieces readin
   reading = reading;
   ended = ended;
   longest = longest;
-}
-  where
+} where
     -- no longer prefix ends a line
     longest : (rivals : List Piece) (after : List ℕ) → spelled rivals ++ after ≡ characters → IsBalancedReading rivals (spelled rivals) → EndsLine rivals → length (spelled rivals) ≤ length (spelled prefix)
     longest rivals after spells reads (inl empty) = omega (arith, ap (λ l. length (spelled l)) empty)
-    longest rivals after spells reads (inr (body, last, is, class, deep)) = go (either (spelled rivals) after before later (spells ∙ sym spell))
-      where
+    longest rivals after spells reads (inr (body, last, is, class, deep)) = go (either (spelled rivals) after before later (spells ∙ sym spell)) where
         go : Either (spelled rivals) before later → length (spelled rivals) ≤ length (spelled prefix)
         go (Either.longer c k rest one two) =
             let live = subst IsLive (one ∙ sym (append_assoc before (c ∷ []) k)) (reading_live rivals (spelled rivals) reads) in

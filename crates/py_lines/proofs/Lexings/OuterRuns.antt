@@ -31,8 +31,7 @@ string_spells (l ∷ ls) host place done held = string_spells ls l.host l.place 
 
 -- so all of them spell what was read
 pub outer_spells : (limit : Limit) (t : FieldScanned) (read : List ℕ) → IsFieldSound limit t read → spelled (outer_pieces t) ≡ read
-outer_spells limit t read sound = go t.outer t.done t.openers t.mode t.held sound
-  where
+outer_spells limit t read sound = go t.outer t.done t.openers t.mode t.held sound where
     go : (outer : List Level) (done : List Piece) (openers : List ℕ) (m : FieldMode) (held : List ℕ)
         → IsFieldSound limit (field_state outer done openers m held) read → spelled (outer_pieces (field_state outer done openers m held)) ≡ read
     go [] done openers m held own = closed_spells limit [] _ m done held own.mode ∙ outer_spell limit (field_state [] done openers m held) read own

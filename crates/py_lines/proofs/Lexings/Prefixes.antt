@@ -38,8 +38,7 @@ pub record LongestGood (Good : List ℕ → List ℕ → Type 0) (characters : L
 module _ (Good : List ℕ → List ℕ → Type 0) (decide : (xs ys : List ℕ) → Good xs ys ⊎ ¬ (Good xs ys)) (characters : List ℕ) (none : Good [] characters) where
   pub longest_up_to : (n : ℕ) → LongestGood Good characters n
   longest_up_to zero = record { first = []; rest = characters; spell = refl; good = none; longest = λ others after same is few. few }
-  longest_up_to (suc n) = go (decide (take (suc n) characters) (drop (suc n) characters)) (longest_up_to n)
-    where
+  longest_up_to (suc n) = go (decide (take (suc n) characters) (drop (suc n) characters)) (longest_up_to n) where
       whole : take (suc n) characters ++ drop (suc n) characters ≡ characters
       whole = take-append-drop (suc n) characters
 
@@ -73,11 +72,9 @@ line_end_class other = inr (λ h. cc)
 
 pub ends_line_or_not : (pieces : List Piece) → EndsLine pieces ⊎ ¬ (EndsLine pieces)
 ends_line_or_not [] = inl (inl refl)
-ends_line_or_not (p ∷ ps) = go (last_of p ps)
-  where
+ends_line_or_not (p ∷ ps) = go (last_of p ps) where
     go : (body : List Piece) × (last : Piece) × (p ∷ ps ≡ body ++ last ∷ []) → EndsLine (p ∷ ps) ⊎ ¬ (EndsLine (p ∷ ps))
-    go (body, last, is) = by (line_end_class last.class) (cases_Bool (depth_through 0 body == 0))
-      where
+    go (body, last, is) = by (line_end_class last.class) (cases_Bool (depth_through 0 body == 0)) where
         back : EndsLine (p ∷ ps) → (last.class ≡ line_end) × (depth_through 0 body ≡ 0)
         back (inl none) = absurd (cc)
         back (inr (front, end, so, class, deep)) = let same = same_from_push body front last end (sym is ∙ so) in
@@ -89,8 +86,7 @@ ends_line_or_not (p ∷ ps) = go (last_of p ps)
         by (inl class) (inr deep) = inr (λ ended. both_ways _ deep (eq-eqb (depth_through 0 body) 0 (back ended).1))
 
 pub ends_for_good_or_not : (pieces : List Piece) (rest : List ℕ) → EndsForGood pieces rest ⊎ ¬ (EndsForGood pieces rest)
-ends_for_good_or_not pieces rest = go rest (ends_line_or_not pieces) (cases_Bool (ends is_return (spelled pieces)))
-  where
+ends_for_good_or_not pieces rest = go rest (ends_line_or_not pieces) (cases_Bool (ends is_return (spelled pieces))) where
     go : (r : List ℕ) → EndsLine pieces ⊎ ¬ (EndsLine pieces) → (ends is_return (spelled pieces) ≡ true) ⊎ (ends is_return (spelled pieces) ≡ false) → EndsForGood pieces r ⊎ ¬ (EndsForGood pieces r)
     go r (inr other) cr = inr (λ is. other is.0)
     go r (inl is) (inr other) = inl (is, λ none. other)
@@ -99,8 +95,7 @@ ends_for_good_or_not pieces rest = go rest (ends_line_or_not pieces) (cases_Bool
 
 -- the longest prefix that is read and ends so
 good_or_not : (EndSo : List Piece → List ℕ → Type 0) → ((pieces : List Piece) (rest : List ℕ) → EndSo pieces rest ⊎ ¬ (EndSo pieces rest)) → (xs ys : List ℕ) → ((pieces : List Piece) × IsBalancedReading pieces xs × EndSo pieces ys) ⊎ ¬ ((pieces : List Piece) × IsBalancedReading pieces xs × EndSo pieces ys)
-good_or_not EndSo decide xs ys = go (read_or_faulty xs [])
-  where
+good_or_not EndSo decide xs ys = go (read_or_faulty xs []) where
     go : IsReadOrFaulty xs [] → ((pieces : List Piece) × IsBalancedReading pieces xs × EndSo pieces ys) ⊎ ¬ ((pieces : List Piece) × IsBalancedReading pieces xs × EndSo pieces ys)
     go (inr (kind, offset, fault)) = inr (λ is. fault_unread kind xs [] offset fault refl is.0 is.1)
     go (inl (whole, (pieces, reading))) = ⊎_elim (λ (ended : EndSo pieces ys). inl (pieces, reading, ended))
@@ -131,8 +126,7 @@ one_longest EndSo pieces others characters one two =
 
 -- so a text has logical lines, and then its end or its fault
 pub some_lexing_of : (text : List ℕ) → (lines : List LogicalLine) × (end : Option Fault) × IsLexed text lines end
-some_lexing_of text = go (read_or_faulty (decoding text).characters (decoding text).tail)
-  where
+some_lexing_of text = go (read_or_faulty (decoding text).characters (decoding text).tail) where
     characters : List ℕ
     characters = (decoding text).characters
 

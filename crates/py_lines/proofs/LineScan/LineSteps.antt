@@ -107,8 +107,7 @@ module _ (t : FieldScanned) (read : List ℕ) (c : ℕ) (sound : IsFieldSound tw
     begun_one_line : (x : Start) → StartsSo c x → (next : FieldScanned) → field_started [] (field_pieces t) t.openers c x ≡ Some next
         → EndsNoLine 0 (field_pieces t) → (frames t == 0) && is_line_feed c ≡ false → EndsNoLine 0 (outer_done next)
     begun_one_line (starts.Open k) so next is one going = subst (λ x. EndsNoLine 0 (outer_done x)) (some_is _ next is) one
-    begun_one_line starts.Operator so next is one going = by (openers_with t.openers c) is
-      where
+    begun_one_line starts.Operator so next is one going = by (openers_with t.openers c) is where
         by : (o : Option (List ℕ)) → after_operator [] (field_pieces t) c o ≡ Some next → EndsNoLine 0 (outer_done next)
         by None e = absurd (cc)
         by (Some os) e = subst (λ x. EndsNoLine 0 (outer_done x)) (some_is _ next e) (EndsNoLine-push 0 (field_pieces t) (piece operator (c ∷ [])) one refl)
@@ -123,8 +122,7 @@ module _ (t : FieldScanned) (read : List ℕ) (c : ℕ) (sound : IsFieldSound tw
   -- where no line ended before it, and none ends with it, none has ended after it
   more_one_line : (next : FieldScanned) → field_step t c ≡ Some next → EndsNoLine 0 (outer_done t) → has_returned t ≡ false → ends_line t c ≡ false
       → EndsNoLine 0 (outer_done next)
-  more_one_line next step one open_yet going = by (outer_steps t c next step)
-    where
+  more_one_line next step one open_yet going = by (outer_steps t c next step) where
       by : OuterStep t c next → EndsNoLine 0 (outer_done next)
       by (OuterStep.outer_stays same) = subst (EndsNoLine 0) (sym same) one
       by (OuterStep.outer_closes none move is) =
@@ -150,8 +148,7 @@ mark_stuck c marks = ap (field_started [] [] [] c) (start-mark c marks)
 pub unmarked : (pieces : List Piece) (rest : List ℕ) (t : FieldScanned) → AreReadBefore pieces rest
     → field_steps_from (Some (line_begun modes.Free)) (spelled pieces) ≡ Some t → begins_marked pieces ≡ false
 unmarked [] rest t fit goes = refl
-unmarked (p ∷ ps) rest t fit goes = no_mark p.class p.text (spelled ps) fit.0 goes
-  where
+unmarked (p ∷ ps) rest t fit goes = no_mark p.class p.text (spelled ps) fit.0 goes where
     no_mark : (class : Class) (text others : List ℕ) → InClass class text
         → field_steps_from (Some (line_begun modes.Free)) (text ++ others) ≡ Some t → is_mark_class class ≡ false
     no_mark mark text others (c, same, marks) goes =
@@ -362,8 +359,7 @@ no_cut [] more fit feeds = refl
 no_cut (p ∷ []) more fit feeds =
     ap (ends is_return) (append-nil p.text) ∙ sym (and-true (ends is_return p.text))
     ∙ ap (λ b. ends is_return p.text && b) (sym feeds) ∙ uncut p.class p.text more fit.0 fit.1
-no_cut (p ∷ q ∷ ps) more fit feeds = by (no_cut (q ∷ ps) more fit.3 feeds) q.text (piece_some q.class q.text fit.3.0) refl
-  where
+no_cut (p ∷ q ∷ ps) more fit feeds = by (no_cut (q ∷ ps) more fit.3 feeds) q.text (piece_some q.class q.text fit.3.0) refl where
     by : ends is_return (q.text ++ spelled ps) ≡ false → (text : List ℕ) → 0 < length text → q.text ≡ text
         → ends is_return (p.text ++ (q.text ++ spelled ps)) ≡ false
     by others [] some is = absurd (omega (arith, some))
@@ -375,8 +371,7 @@ no_cut (p ∷ q ∷ ps) more fit feeds = by (no_cut (q ∷ ps) more fit.3 feeds)
 two_bytes : (body : List Piece) (last : Piece) (read : List ℕ) → AreReadBefore (body ++ last ∷ []) [] → last.class ≡ line_end
     → spelled (body ++ last ∷ []) ≡ read ++ 10 ∷ [] → ends is_return read ≡ true → byte_len last.text ≡ 2
 unfolding is_line_feed is_return
-two_bytes body last read fit class spell returns = by (line_end_of fielded body last [] class fit)
-  where
+two_bytes body last read fit class spell returns = by (line_end_of fielded body last [] class fit) where
     whole : (c : ℕ) → last.text ≡ c ∷ [] → (spelled body ≡ read) × (c ≡ 10)
     whole c is = same_from_push (spelled body) read c 10 (ap (λ t. spelled body ++ t) (sym is) ∙ sym (spelled-push body last.class last.text) ∙ spell)
 

@@ -84,8 +84,7 @@ record GoesPast (m : Mode) (read run rest : List ℕ) (to : FieldScanned) : Type
   stands : StandsAs rest way.field to
 
 as_itself : (rest : List ℕ) (t : FieldScanned) → (has_returned t ≡ true → rest ≡ []) → StandsAs rest t t
-as_itself rest t alone = by (has_returned t) refl
-  where
+as_itself rest t alone = by (has_returned t) refl where
     by : (b : Bool) → has_returned t ≡ b → StandsAs rest t t
     by true is = subst (λ r. StandsAs r t t) (sym (alone is)) refl
     by false is = stands_self rest t is

@@ -89,8 +89,7 @@ pub record EndsThere (m : Mode) (whole before : List ℕ) (old new : Scan) (len 
 
 pub ends_there : {m : Mode} {whole before : List ℕ} {old : Scan} → begins_line m ≡ true → (o : Reached m whole old before) → (new : Scan) (len : ℕ)
     → ComesTo o.way.field before old (progress.LineEnded len) new → EndsThere m whole before old new len
-ends_there {m} {whole} {before} {old} start o new len comes = ⊎_elim with_feed with_return comes
-  where
+ends_there {m} {whole} {before} {old} start o new len comes = ⊎_elim with_feed with_return comes where
     after_it : (run : List ℕ) → encode_utf8_all run ≡ run → length run ≡ len → IsLineBefore m new (o.read ++ run) len → new.stop ≡ old.stop + len
     after_it run same size line =
         (line [] (λ returns. refl)).stop ∙ byte_len-append o.read run ∙ omega (arith, rests_end o.way start o.rests, ap length same, size)

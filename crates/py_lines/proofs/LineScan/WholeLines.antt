@@ -102,8 +102,7 @@ lines_whole t (u ∷ texts) read after are =
     rw (← last_ends read t are.later are.spell some) at (lines_whole u texts are.later after are.lines)
 
 pub bytes_whole : (bytes : List ℕ) (len : ℕ) → BeginWithLines bytes len → EndsWhole (take len bytes) (drop len bytes)
-bytes_whole bytes len found = by found.texts found.whole
-  where
+bytes_whole bytes len found = by found.texts found.whole where
     by : (texts : List (List ℕ)) → AreWholeLines texts found.read (drop len bytes) → EndsWhole (take len bytes) (drop len bytes)
     by [] are = inl (ap (ends is_return) (sym found.spell ∙ ap encode_utf8_all are))
     by (t ∷ texts) are = rw (sym (ends-encoded found.read) ∙ ap (ends is_return) found.spell) at (lines_whole t texts found.read (drop len bytes) are)

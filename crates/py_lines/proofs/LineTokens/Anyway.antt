@@ -1,7 +1,7 @@
 -- Pieces that are the same wherever after them a line ends, and how they are read one after another.
 use mir.Val.{bool_byte}
-use Rattle.std.proofs.Common.{◌≡◌, ℕ, ◌+◌, ◌-◌, ◌<◌, ◌≤◌, Bool, true, false, zero, suc, List, [], ◌∷◌, length, take, drop, slice_index, refl, sym, ap, ◌∙◌, subst, arith, length-drop, add-zero, zero-add}
-use Rattle.std.specs.Prelude.{◌&&◌, if◌then◌else◌, nat_eq, nat_lt}
+use Rattle.std.proofs.Common.{◌≡◌, ℕ, Option, Some, ◌+◌, ◌-◌, ◌<◌, ◌≤◌, Bool, true, false, zero, suc, List, [], ◌∷◌, length, take, drop, slice_index, refl, sym, ap, ◌∙◌, subst, arith, length-drop, add-zero, zero-add}
+use Rattle.std.specs.Prelude.{MatchOption, ◌&&◌, if◌then◌else◌, nat_eq, nat_lt}
 use Rattle.std.specs.List.{starts_with}
 use Rattle.std.specs.Char.{is_ascii_digit}
 use Rattle.std.proofs.lemmas.Bool.{both_ways, lt-ltb, ne_eqb, or_left}
@@ -14,7 +14,7 @@ use Rattle.py_lines.specs.declared.class.Class.TheVariants as class
 use Rattle.py_lines.specs.declared.line_tokens.LineTokens.{LineTokens}
 use Rattle.py_lines.specs.declared.token.TokKind.TheVariants as kind
 use Rattle.py_lines.specs.declared.unit.UnitKind.TheVariants as unit_kind
-use Rattle.py_lines.specs.Private.LineTokens.{AreLineOf, BeginWithPiece, HaveRead, HaveReadAnyway, HoldsTokens, IsFirstAnyway, IsFirstPiece, IsLineAfter, IsTakenFor, ReadsAnyway, ReadsPiece, Role, line_end_len, mark_bytes, mark_len, token_piece, word_kind}
+use Rattle.py_lines.specs.Private.LineTokens.{AreLineOf, BeginWithPiece, HaveRead, HaveReadAnyway, HoldsTokens, IsFirstAnyway, IsFirstPiece, IsLineAfter, IsTakenFor, ReadsAnyway, ReadsPiece, Role, StaysUnread, line_end_len, mark_bytes, mark_len, token_piece, word_kind}
 use Rattle.py_lines.specs.Private.Marks.{is_of_class}
 use Rattle.py_lines.specs.Private.Run.{IsRunOf, is_ascii_word, is_comment_byte, is_wide_word}
 use Rattle.py_lines.proofs.FieldScans.TextLengths.{rest_is, rest_of}
@@ -120,6 +120,11 @@ begun_anyway bytes n first t low run blank indent none k end_len within fits =
     (begun (take k bytes) 0 n first t (sym (no_mark_anyway k bytes low))
     (subst (λ l. IsRunOf is_space l n) (sym (rest_is (take k bytes) 0)) (run_same bytes k within is_space n (omega (arith, fits)) run)) blank indent none end_len)
 
+-- the piece that was read
+pub piece_read : (k : ByteClass) {bytes : List ℕ} {old new : LineTokens} {start line : ℕ} {o : Option (ℕ × ℕ)} {p : ℕ × ℕ} → o ≡ Some p
+    → MatchOption o (StaysUnread k old new) (λ p. ReadsAnyway bytes old start line p.0 p.1 new) → ReadsAnyway bytes old start line p.0 p.1 new
+piece_read k {bytes} {old} {new} {start} {line} is = subst (λ o. MatchOption o (StaysUnread k old new) (λ p. ReadsAnyway bytes old start line p.0 p.1 new)) is
+
 module _ {bytes : List ℕ} {first start line : ℕ} {t : LineTokens} (h : HaveReadAnyway bytes first start line t) where
   -- the next piece is read
   pub reads_on : {len ends : ℕ} {u : LineTokens} → ReadsAnyway (drop start bytes) t start line len ends u → HaveReadAnyway bytes first (start + len) (line + ends) u
@@ -148,8 +153,7 @@ module _ {bytes : List ℕ} {first start line : ℕ} {t : LineTokens} (h : HaveR
   -- a line end of so many bytes follows: the line is read
   pub line_read : (len : ℕ) → 0 < len → start + len ≤ length bytes
       → HoldsTokens (take (start + len) bytes) len first t × IsLineAfter first (take (start + len) bytes) len (line + 1)
-  line_read len some within = (λ ps is. (whole ps is).0, λ ps is. one ps is.1 ∙ (whole ps is).1)
-    where
+  line_read len some within = (λ ps is. (whole ps is).0, λ ps is. one ps is.1 ∙ (whole ps is).1) where
       whole : (ps : List Piece) → AreLineOf (take (start + len) bytes) len ps → IsWholeRead (take (start + len) bytes) ps first line t
       whole ps is =
           let (left, g) = h (start + len) len within (omega arith) ps is in

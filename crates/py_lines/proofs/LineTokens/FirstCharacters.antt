@@ -56,8 +56,7 @@ quoted text (inr is) =
     }
 
 as_word : (a : ℕ) (bs : List ℕ) → fielded.is_prefix (a ∷ bs) ≡ true → (is_word_start a ≡ true) × (list_all is_word_character bs ≡ true)
-as_word a bs h = ⊎_elim (λ plain. prefix_word a bs plain) with_fields (or_cases (is_prefix (a ∷ bs)) (is_field_prefix (a ∷ bs)) h)
-  where
+as_word a bs h = ⊎_elim (λ plain. prefix_word a bs plain) with_fields (or_cases (is_prefix (a ∷ bs)) (is_field_prefix (a ∷ bs)) h) where
     with_fields : is_field_prefix (a ∷ bs) ≡ true → (is_word_start a ≡ true) × (list_all is_word_character bs ≡ true)
     with_fields is =
         let l = field_letters (a ∷ bs) is in let first : l.first ≡ a = cc in
@@ -110,8 +109,7 @@ begins_so space text unmarked (c, cs, is, run) =
     let so = (and_parts (is_space c) (list_all is_space cs) (ap (list_all is_space) (sym is) ∙ run)).0 in
     by_start space text c cs _ is (start-space c so) refl (inr (space_low c so))
 begins_so word text unmarked (c, cs, is, so, run) = by_start word text c cs _ is (start-word c so) (inl refl) (inl (refl, so))
-begins_so string text unmarked is = by_prefix (quoted text is)
-  where
+begins_so string text unmarked is = by_prefix (quoted text is) where
     by_prefix : IsQuoted text → BeginsSo string text
     by_prefix q = ⊎_elim (λ none. by_start string text q.quote q.body _ (q.spell ∙ ap (λ t. t ++ q.quote ∷ q.body) none) (start-quote q.quote q.opens)
         refl (inr (quote_ascii q.quote q.opens))) (λ is.
@@ -164,8 +162,7 @@ OfByte class.Wide p = p ≡ word
 OfByte k p = OfStart (start_by k 0) p
 
 pub class_told : (bytes : List ℕ) (p : Piece) (k : ByteClass) → BeginWithPiece bytes p → is_of_class k (slice_index bytes 0) ≡ true → OfByte k p.class
-class_told bytes p k b so = go k so
-  where
+class_told bytes p k b so = go k so where
     f : FirstOf bytes p
     f = first_of bytes p b
 
@@ -203,8 +200,7 @@ next_high (q ∷ qs) after c cs fit unmarked is high =
 -- where a word ends, no byte of a word follows
 pub word_ends : (others : List Piece) (after : List ℕ) → AreReadBefore others after → begins_marked others ≡ false
     → begins is_word_character (spelled others ++ after) ≡ false → begins is_wide_word (spelled others) ≡ false
-word_ends others after fit unmarked none = go (spelled others) refl none
-  where
+word_ends others after fit unmarked none = go (spelled others) refl none where
     go : (text : List ℕ) → spelled others ≡ text → begins is_word_character (text ++ after) ≡ false → begins is_wide_word text ≡ false
     go [] is none = refl
     go (c ∷ cs) is none = ⊎_elim (λ (low : c < 128).

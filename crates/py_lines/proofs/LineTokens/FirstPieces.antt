@@ -210,8 +210,7 @@ run_within passes bytes ahead n k is run least = record {
   ends = λ less.
       let whole : k ≡ n = omega (arith, less, least) in
       ap passes (same k less ∙ ap (slice_index ahead) whole) ∙ run.ends (omega (arith, less, whole, ap length is, length-take (length bytes) ahead));
-}
-  where
+} where
     same : (i : ℕ) → i < length bytes → slice_index bytes i ≡ slice_index ahead i
     same i less = ap (λ l. slice_index l i) (sym is) ∙ get_or-take (length bytes) ahead i 0 less
 
@@ -259,8 +258,7 @@ module _ {bytes : List ℕ} {p : Piece} (b : BeginWithPiece bytes p) where
 
   -- and a string's prefix is one
   string_prefix : (n : ℕ) → p.class ≡ string → begins is_wide_word bytes ≡ true → IsRunOf is_wide_word bytes n → EndsPrefix bytes n
-  string_prefix n is wide run = ⊎_elim (λ none. absurd (no_prefix none)) some q.begun
-    where
+  string_prefix n is wide run = ⊎_elim (λ none. absurd (no_prefix none)) some q.begun where
       q : IsQuoted p.text
       q = quoted p.text (in_class b string is)
 

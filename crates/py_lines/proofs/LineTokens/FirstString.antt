@@ -79,8 +79,7 @@ shut_settled scan u follows (shut, none) =
 
 -- so the scan has nothing open where such a state is the machine's
 settled_at : (t : FieldScanned) {scan : Scan} {rest : List ℕ} → IsShutAlone t → Rests scan t rest → is_in_code scan ≡ true
-settled_at t {scan} {rest} shut rests = shut_settled scan rests.as_if rests.follows (by rest rests.stands)
-  where
+settled_at t {scan} {rest} shut rests = shut_settled scan rests.as_if rests.follows (by rest rests.stands) where
     by : (bytes : List ℕ) → StandsAs bytes t rests.as_if → IsShutAlone rests.as_if
     by [] stands = subst IsShutAlone stands shut
     by (c ∷ cs) stands = ⊎_elim (λ same. subst IsShutAlone (sym same) shut) (λ same. subst IsShutAlone (sym same) (refl, shut.1)) (stands.shut shut.0)
@@ -93,8 +92,7 @@ shut_unreturned m shut = refl
 -- where the scan has nothing open, the machine's piece ends before the next character
 settled_ends : (t : FieldScanned) {scan : Scan} {rest : List ℕ} → Rests scan t rest → is_in_code scan ≡ true → (d : ℕ) (y : List ℕ) → IsScalar d
     → encode_utf8_all (d ∷ y) ≡ rest → (t.outer ≡ []) × (field_move t.mode t.held d ≡ breaks)
-settled_ends t {scan} {rest} rests settled d y scalar spell = by rest spell rests.stands
-  where
+settled_ends t {scan} {rest} rests settled d y scalar spell = by rest spell rests.stands where
     u : FieldScanned
     u = rests.as_if
 
@@ -201,8 +199,7 @@ module _ {bytes : List ℕ} {scan : Scan} {rest : List ℕ} (at : InFirst bytes 
 
     -- an item ends within the string
     item_within : (run after : List ℕ) → encode_utf8_all run ++ after ≡ rest → IsOneItem way.field run → (k : List ℕ) × (z ≡ run ++ k)
-    item_within run after spell one = by (meets run after spell)
-      where
+    item_within run after spell one = by (meets run after spell) where
         by : Either run z b.more → (k : List ℕ) × (z ≡ run ++ k)
         by (Either.shorter k before) = (k, before)
         by (Either.longer d w y beyond follows) =
@@ -218,8 +215,7 @@ module _ {bytes : List ℕ} {scan : Scan} {rest : List ℕ} (at : InFirst bytes 
 
     -- so does what is held
     held_within : (run after : List ℕ) → encode_utf8_all run ++ after ≡ rest → KeepsOpen way.field run → IsWithin (read ++ run) p.text
-    held_within run after spell keeps_open = by (meets run after spell)
-      where
+    held_within run after spell keeps_open = by (meets run after spell) where
         beyond_it : (v : List ℕ) → run ≡ z ++ v → ⊥
         beyond_it v beyond = both_ways _ (open_at way.field to z v some goes_there (subst (KeepsOpen way.field) beyond keeps_open) b.outside) (shut_there b).0
 
@@ -276,8 +272,7 @@ module _ {bytes : List ℕ} {scan : Scan} {rest : List ℕ} (at : InFirst bytes 
             (λ (one : e.run ≡ 13 ∷ []). cut_return z v d y text_is some (ap (λ r. r ++ 10 ∷ []) (sym one) ∙ beyond) follows) e.first
 
     not_returned : (len : ℕ) (new : Scan) → EndsWithReturn way.field rest len new → ⊥
-    not_returned len new e = by (meets (13 ∷ []) (e.b ∷ e.rest) (ap (λ t. t ++ e.b ∷ e.rest) return_bytes ∙ sym e.spell))
-      where
+    not_returned len new e = by (meets (13 ∷ []) (e.b ∷ e.rest) (ap (λ t. t ++ e.b ∷ e.rest) return_bytes ∙ sym e.spell)) where
         ends_not : (k : List ℕ) → Goes e.to k to → has_returned e.to ≡ false
         ends_not [] same = and_left _ _ (ap (λ (t : FieldScanned). is_return_at t.mode) same ∙ shut_unreturned to.mode (shut_there b).0)
         ends_not (d ∷ k) goes = goes.0
@@ -304,8 +299,7 @@ module _ {bytes : List ℕ} {scan : Scan} {rest : List ℕ} (at : InFirst bytes 
 
       -- where nothing is open after it, it ends the string
       pub passed_with : is_in_code new ≡ true → new.stop ≡ byte_len p.text
-      passed_with settled = by left.0 left.1
-        where
+      passed_with settled = by left.0 left.1 where
           by : (k : List ℕ) → z p is begin ≡ over.run ++ k → new.stop ≡ byte_len p.text
           by [] before = rests_end on.way refl on.rests ∙ ap byte_len (sym (text_on p is begin over.run [] before ∙ append-nil (read ++ over.run)))
           by (d ∷ ds) before =
@@ -321,8 +315,7 @@ module _ {bytes : List ℕ} {scan : Scan} {rest : List ℕ} (at : InFirst bytes 
 
       -- else the string goes on
       still_within : is_in_code new ≡ false → IsWithin (read ++ over.run) p.text
-      still_within on_in = by left.0 left.1
-        where
+      still_within on_in = by left.0 left.1 where
           by : (k : List ℕ) → z p is begin ≡ over.run ++ k → IsWithin (read ++ over.run) p.text
           by [] before =
               absurd (both_ways _ on_in (settled_at over.to

@@ -144,8 +144,7 @@ module _ {text : List ℕ} {pieces : List Piece} {first start line : ℕ} {t : L
   -- before the line end the next piece is none
   pub before_end : (left : List Piece) → HaveReadOf text pieces left first start line t → start + end_len_of left < length text → KeepsEnd left
   before_end [] h inside = _
-  before_end (p ∷ []) h inside = by_class (is_line_end_class p.class) refl
-    where
+  before_end (p ∷ []) h inside = by_class (is_line_end_class p.class) refl where
       by_class : (is : Bool) → is_line_end_class p.class ≡ is → 0 ≡ end_len_of (p ∷ [])
       by_class false inside = rw inside refl
       by_class true ends =
@@ -233,8 +232,7 @@ byte_within text start true less some = omega (arith, some refl, ap length (rest
 -- the line end of pieces is among their bytes
 pub end_within : (ps : List Piece) → end_len_of ps ≤ byte_len (spelled ps)
 end_within [] = omega arith
-end_within (p ∷ []) = by_class (is_line_end_class p.class) refl
-  where
+end_within (p ∷ []) = by_class (is_line_end_class p.class) refl where
     by_class : (is : Bool) → is_line_end_class p.class ≡ is → end_len_of (p ∷ []) ≤ byte_len (p.text ++ [])
     by_class false inside = rw inside (omega arith)
     by_class true ends = rw (ends, append-nil p.text) (omega arith)
@@ -267,8 +265,7 @@ module _ {text : List ℕ} {pieces : List Piece} {first start line : ℕ} {t : L
     record { kind = sym h.kind; indent = h.indent; tokens = sym (h.tokens ∙ append-nil _) },
     ap (λ n. line + bool_byte (nat_lt 0 n)) (sym h.ends) ∙ h.lines,
   )
-  whole_read (p ∷ []) h end = by_class (is_line_end_class p.class) refl
-    where
+  whole_read (p ∷ []) h end = by_class (is_line_end_class p.class) refl where
       by_class : (is : Bool) → is_line_end_class p.class ≡ is → IsWholeRead text pieces first line t
       by_class true ends = end_left p h (line_end_class p.class ends)
       by_class false inside =
@@ -288,8 +285,7 @@ mark_encoded = refl
 no_mark : (text : List ℕ) (ps : List Piece) → AreLineText text ps → begins_marked ps ≡ false → mark_len text ≡ 0
 unfolding is_mark
 no_mark text [] is unmarked = ap mark_len (sym is.spell)
-no_mark text (p ∷ ps) is unmarked = ap (λ (b : Bool). if b then 3 else 0) (false_from_ne_true _ absent)
-  where
+no_mark text (p ∷ ps) is unmarked = ap (λ (b : Bool). if b then 3 else 0) (false_from_ne_true _ absent) where
     absent : starts_with nat_eq text mark_bytes ≡ true → ⊥
     absent h =
         let cut = prefix_chars (0xFEFF ∷ []) (spelled (p ∷ ps)) (drop 3 text)
@@ -320,8 +316,7 @@ first_space (p ∷ ps) = space_len p.class p.text
 first_read : (bytes : List ℕ) (depth : ℕ) (ps : List Piece) (n : ℕ) → AreTextAt depth bytes ps → begins_marked ps ≡ false
     → IsRunOf is_space bytes n → n ≡ first_space ps
 first_read bytes depth [] n is unmarked run = omega (arith, run.within, ap length is.spell)
-first_read bytes depth (p ∷ ps) n is unmarked run = go p.class refl
-  where
+first_read bytes depth (p ∷ ps) n is unmarked run = go p.class refl where
     b : BeginWithPiece bytes p
     b = record { unmarked = unmarked; others = ps; depth = depth; text = is }
 

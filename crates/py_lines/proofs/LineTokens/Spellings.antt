@@ -30,8 +30,7 @@ IsNoLetter c = (is_r c ≡ false) × (is_b c ≡ false) × (is_f c ≡ false) ×
 
 no_letter : (c : ℕ) → 128 ≤ c → IsNoLetter c
 unfolding is_r is_b is_f is_t is_u
-no_letter c high = (none (codes "rR") refl, none (codes "bB") refl, none (codes "fF") refl, none (codes "tT") refl, none (codes "uU") refl)
-  where
+no_letter c high = (none (codes "rR") refl, none (codes "bB") refl, none (codes "fF") refl, none (codes "tT") refl, none (codes "uU") refl) where
     none : (letters : List ℕ) → list_any (nat_le 128) letters ≡ false → is_one_of letters c ≡ false
     none letters low = false_from_ne_true _ (λ one. omega (arith, high, leb-false 128 c (none_of (nat_le 128) letters c low one)))
 
@@ -41,8 +40,7 @@ low_unless c letter = ⊎_elim (λ low. lt-ltb c 128 low) (λ high. absurd (lett
 -- so the letters of a prefix are ASCII
 pub prefix_low : (word : List ℕ) → begins_string (word_spelling word) ≡ true → list_all is_low word ≡ true
 prefix_low [] begun = refl
-prefix_low (a ∷ cs) begun = by cs (fielded_spelling a cs ∙ begun)
-  where
+prefix_low (a ∷ cs) begun = by cs (fielded_spelling a cs ∙ begun) where
     by : (others : List ℕ) → fielded.is_prefix (a ∷ others) ≡ true → list_all is_low (a ∷ others) ≡ true
     by [] is = and_from (is_low a) true (low_unless a (λ no. both_ways _ (rw (no.0, no.1, no.2, no.3, no.4)) is)) refl
     by (b ∷ []) is =

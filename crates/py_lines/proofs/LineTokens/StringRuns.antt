@@ -102,8 +102,7 @@ stops_end m held (c ∷ cs) stops = break_end m held c stops
 -- where a string is the only piece, and may end, it is finished, or empty
 string_shut : (text : List ℕ) (m : FieldMode) (outer : List Level) (done : List Piece) (held rest : List ℕ)
     → field_closed m done held ≡ piece string text ∷ [] → AtStart m outer done → StopsAt m held rest → is_shut m ≡ true
-string_shut text m outer done held rest same begun stops = by m same begun (stops_end m held rest stops)
-  where
+string_shut text m outer done held rest same begun stops = by m same begun (stops_end m held rest stops) where
     by : (m : FieldMode) → field_closed m done held ≡ piece string text ∷ [] → AtStart m outer done → may_end m ≡ true → is_shut m ≡ true
     by (plain modes.Start) same begun may = absurd (let none : done ≡ [] = begun.1 in cc)
     by (plain modes.Free) same begun may = refl

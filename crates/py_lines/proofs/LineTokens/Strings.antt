@@ -110,8 +110,7 @@ module _ (word : List ℕ) (q : ℕ) (text : List ℕ) (w : IsPlainPrefix word) 
   size = omega (arith, length-append word (q ∷ (text ++ q ∷ [])), length-append text (q ∷ []))
 
   -- nor ends a line in it
-  string_first : (bytes after : List ℕ) (len : ℕ) → whole ++ after ≡ bytes → len ≡ length word + (length text + 2)
-      → IsFirstPiece bytes (string_piece len 0)
+  string_first : (bytes after : List ℕ) (len : ℕ) → whole ++ after ≡ bytes → len ≡ length word + (length text + 2) → IsFirstPiece bytes (string_piece len 0)
   unfolding whole
   string_first bytes after len spell long p b =
       let is = is_first bytes after p spell b in

@@ -96,8 +96,7 @@ pub no_bytes : (k : List ℕ) → byte_len k ≡ 0 → k ≡ []
 no_bytes k none = let bound = length-le-encodes k in nil_from_length k (omega arith)
 
 pub same_place : (b a d e : List ℕ) → b ++ a ≡ d ++ e → byte_len b ≡ byte_len d → b ≡ d
-same_place b a d e same bytes = go (either b a d e same)
-  where
+same_place b a d e same bytes = go (either b a d e same) where
     go : Either b d e → b ≡ d
     go (Either.shorter k one) = let sum : byte_len d ≡ byte_len b + byte_len k = ap byte_len one ∙ byte_len-append b k in
         sym (append-nil b) ∙ ap (λ t. b ++ t) (sym (no_bytes k (omega arith))) ∙ sym one
@@ -117,8 +116,7 @@ put_line p d [] last vs = put_cut p d last [] vs
 put_line p d (q ∷ body) last vs = put_cut p d q (body ++ last ∷ []) vs
 
 pub line_depth : (p : Piece) (d : ℕ) → is_line_end_class p.class ≡ true → depth_after d p ≡ d
-line_depth p d h = go p.class p.text h
-  where
+line_depth p d h = go p.class p.text h where
     go : (class : Class) (text : List ℕ) → is_line_end_class class ≡ true → depth_after d (record { class = class; text = text }) ≡ d
     go line_end text k = refl
     go class text k = absurd (both_ways _ refl k)

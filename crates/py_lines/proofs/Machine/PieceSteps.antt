@@ -114,8 +114,7 @@ is_read word text rest plain_class (c, cs, is, opens, run) before =
     (stops-word _ rest before.0 (sym (ap (λ b. b && begins is_quote rest) (ap is_prefix is ∙ prefix_spelling c cs)) ∙ before.1)))
 is_read comment text rest plain_class (c, cs, is, opens, holds) before =
     opened c cs Mode.Comment is (start-hash c opens) (inl refl) (ends_before Mode.Comment (grown-comment cs holds) (refl, λ done held. refl) (stops-comment rest before))
-is_read join text rest plain_class (c, cs, is, slashes, line) before = opened c cs Mode.Backslash is (start-slash c slashes) (inl refl) (go line)
-  where
+is_read join text rest plain_class (c, cs, is, slashes, line) before = opened c cs Mode.Backslash is (start-slash c slashes) (inl refl) (go line) where
     go : IsLineEnd cs → EndsWith join Mode.Backslash cs rest
     go (feed end) = ends_at Mode.Backslash [] 10 end refl refl refl
     go (return_feed end) = ends_at Mode.JoinReturn (13 ∷ []) 10 end (Mode.JoinReturn, refl, refl) refl refl

@@ -260,8 +260,7 @@ module _ {scan : Scan} {run : List ℕ} (p : PlainTo scan run) (q : ℕ) (specia
   BeginsPlain = (s : Spelling) × (start : ℕ) × (is_field_spelling s ≡ false) × Begins s start
 
   begins_plain : TellsFields (tail_of run) (Some false) → BeginsPlain
-  begins_plain before = go (tail_of run) p.tail before
-    where
+  begins_plain before = go (tail_of run) p.tail before where
       go : (o : Option Spelling) → IsTail o before_it.mode → TellsFields o (Some false) → BeginsPlain
       go (Some s) is (begins, simple) = (s, before_it.start, sym simple, with_prefix s is begins)
       go None is none =

@@ -85,8 +85,7 @@ module _ {bytes : List ℕ} {fs : List Frame} {old mid : Passing} (come : ComesT
       }
 
   pub block_passed : (new : Passing) → ((from : ℕ) → HasMarks bytes from mid.marks → PassesBlock bytes from fs mid new) → ComesTo bytes fs old new
-  block_passed new block = by (block come.from come.marked)
-    where
+  block_passed new block = by (block come.from come.marked) where
       by : PassesBlock bytes come.from fs mid new → ComesTo bytes fs old new
       by (inl same) = subst (ComesTo bytes fs old) (sym same) come
       by (inr (to, feeds, to_it, is)) = subst (ComesTo bytes fs old) (sym is) (feeds_passed to feeds new.marks to_it.ends to_it.counted to_it.marked)

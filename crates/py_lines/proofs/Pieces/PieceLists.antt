@@ -27,8 +27,7 @@ AreReadIn-append grammar (p ∷ ps) qs rest first second follows = (
   subst (MayPrecedeIn grammar p.class p.text) (sym (append_assoc (spelled ps) (spelled qs) rest) ∙ ap (λ t. t ++ rest) (sym (spelled-append ps qs))) first.1,
   begins_marked-append ps qs first.2 follows,
   AreReadIn-append grammar ps qs rest first.3 second (later ps follows),
-)
-  where
+) where
     later : (os : List Piece) → begins_marked qs ≡ false → MayFollow os qs
     later [] h = tt
     later (o ∷ os) h = h
@@ -65,8 +64,7 @@ AreReadIn-first grammar (p ∷ ps) qs rest fit = (
   subst (MayPrecedeIn grammar p.class p.text) (ap (λ t. t ++ rest) (spelled-append ps qs) ∙ append_assoc (spelled ps) (spelled qs) rest) fit.1,
   marked-first ps qs fit.2,
   AreReadIn-first grammar ps qs rest fit.3,
-)
-  where
+) where
     marked-first : (os rs : List Piece) → begins_marked (os ++ rs) ≡ false → begins_marked os ≡ false
     marked-first [] rs h = refl
     marked-first (o ∷ os) rs h = h

@@ -191,8 +191,7 @@ module _ {text : List ℕ} {place line : ℕ} {lines : List LogicalLine} {read r
     here = omega (arith, k.here, byte_len-append (spelled k.base) read, ap byte_len spelled_after);
     number = omega (arith, k.number, base_lines k.base read k.more k.fit, ap line_ends spelled_after);
     cut = of.lines_more text place line lines read rest k u k.more own.whole fits_after;
-  }
-    where
+  } where
       ends : IsEnded u (k.more ++ k.tail ≡ []) → EndsForGood (k.base ++ u) (k.more ++ k.tail) ⊎ (k.more ++ k.tail ≡ [])
       ends (IsEnded.by_line body last is class deep) = ends_for_good (k.base ++ u) (k.more ++ k.tail) (ends_after body last is class deep)
       ends (IsEnded.by_text none) = inr none

@@ -100,8 +100,7 @@ module _ (n : ℕ) (base : List Piece) (after : List ℕ) (balanced : IsBalanced
     pieces = outer_pieces_after base t;
     next = λ d more follows. room_step_after base t d;
     stands = refl;
-  }
-    where
+  } where
       run : Base n base → RunsTo (spelled base ++ c ∷ cs) (state_after base t)
       run (Base.bare none mode) = let own = goes_runs field_text_start (c ∷ cs) (state_after [] t)
           (goes_after [] (line_begun modes.Start) (c ∷ cs) t (subst (λ m. Goes (line_begun m) (c ∷ cs) t) mode goes)) in
@@ -239,8 +238,7 @@ module _ (base : List Piece) (read : List ℕ) (u : FieldScanned) (sound : IsFie
   within_after within = omega (arith, field_after base u.outer within, field_full two_hundred (text_place u.mode) u.outer _ sound.levels within)
 
   alike_after : (c : ℕ) → StandsAlike k (state_after base u) u c
-  alike_after c = record { cause = ap (λ n. cause_in n u.mode c) (frames_same base u); place = place }
-    where
+  alike_after c = record { cause = ap (λ n. cause_in n u.mode c) (frames_same base u); place = place } where
       place : cause_place (state_after base u) (cause_in (frames u) u.mode c) ≡ k + cause_place u (cause_in (frames u) u.mode c)
       place = let P : Cause → Type 0 = λ cause. cause_place (state_after base u) cause ≡ k + cause_place u cause in
           cond_both (is_waiting u.mode && (frames u == 200)) _ _ P (λ h. omega (arith, here_after base u, some))
@@ -251,14 +249,12 @@ module _ (base : List Piece) (read : List ℕ) (u : FieldScanned) (sound : IsFie
   -- what is open at the end stands so many bytes further
   there_after : brackets_of base ≡ Some [] → (what : Unfinished) (place : ℕ) → IsUnfinishedAt u what place → (n : ℕ) → StandsThere (state_after base u) what n → n ≡ k + place
   there_after level open_brace place at n stands = omega (arith, stands, here_after base u, some, at)
-  there_after level open_inside place at n stands = by (is_waiting u.mode) stands at
-    where
+  there_after level open_inside place at n stands = by (is_waiting u.mode) stands at where
       by : (waits : Bool) → n + 1 ≡ (if waits then here (state_after base u) else byte_len (before literal (levels_after base u.outer))) → place ≡ (if waits then here u - 1 else field_start u) → n ≡ k + place
       by true first second = omega (arith, first, second, here_after base u, some)
       by false first second = let within : u.outer ≡ [] → ⊥ = λ none. omega (arith, first, ap (λ l. byte_len (before literal (levels_after base l))) none) in
           omega (arith, first, second, field_after base u.outer within, field_full two_hundred (text_place u.mode) u.outer _ sound.levels within)
-  there_after level open_bracket place (b, others, stack, at) n stands = by u.outer stack at stands
-    where
+  there_after level open_bracket place (b, others, stack, at) n stands = by u.outer stack at stands where
       by : (outer : List Level) → brackets_of u.done ≡ Some (b ∷ others) → place ≡ byte_len (before literal outer) + b.place
           → ((a : Bracket) (bs : List Bracket) → brackets_of (list_after base outer u.done) ≡ Some (a ∷ bs) → n ≡ byte_len (before literal (levels_after base outer)) + a.place) → n ≡ k + place
       by [] stack at stands = omega (arith, stands (record { opener = b.opener; place = k + b.place }) (shift k others) (stack-after base u.done level ∙ ap (shift_if k) stack), at)
@@ -299,8 +295,7 @@ first_between (suc n) = tt
 
 -- a character that isn't taken stops the machine
 stuck_by : (t : FieldScanned) (c : ℕ) → room_step t c ≡ None → IsStuck t c
-stuck_by t c none = by (has_room t c) (field_step t c) refl refl none
-  where
+stuck_by t c none = by (has_room t c) (field_step t c) refl refl none where
     by : (b : Bool) (o : Option FieldScanned) → has_room t c ≡ b → field_step t c ≡ o → roomy b o ≡ None → IsStuck t c
     by false o room step refuses = inr room
     by true o room step refuses = inl (step ∙ refuses)
@@ -372,8 +367,7 @@ code_ends (l ∷ ls) [] none = absurd (cc)
 code_ends outer (o ∷ os) none = absurd (cc)
 
 none_open_at : (outer : List Level) (os : List ℕ) (m : FieldMode) → unfinished_in outer os m ≡ None → (outer ≡ []) × (os ≡ []) × (may_end m ≡ true)
-none_open_at outer os (plain m) none = by (in_short m) (in_long m) (is_after_backslash m) (final_by m) none
-  where
+none_open_at outer os (plain m) none = by (in_short m) (in_long m) (is_after_backslash m) (final_by m) none where
     by : (short long slash : Bool) → is_final m ≡ not (short || (long || slash)) → (if short then Some open_short else (if long then Some open_long else (if slash then Some open_join else unfinished_code outer os))) ≡ None → (outer ≡ []) × (os ≡ []) × (is_final m ≡ true)
     by false false false final none = let both = code_ends outer os none in (both.0, both.1, final)
     by short long slash final none = absurd (cc)
@@ -387,8 +381,7 @@ finished t none = let parts = none_open_at t.outer t.openers t.mode none in reco
 
 -- a fault at a character stands before it
 before_character : (read : List ℕ) (c : ℕ) (kind : FaultKind) (offset : ℕ) → IsCharacterFault kind (read ++ c ∷ []) offset → PrefixTo read offset
-before_character read c kind offset fault = go (either fault.before (fault.c ∷ fault.dies.after) read (c ∷ []) fault.dies.spell)
-  where
+before_character read c kind offset fault = go (either fault.before (fault.c ∷ fault.dies.after) read (c ∷ []) fault.dies.spell) where
     go : Either fault.before read (c ∷ []) → PrefixTo read offset
     go (Either.shorter k one) = explained fault.cause fault.before k read fault.c offset (sym one) fault.fits
     go (Either.longer d k later one two) =
@@ -396,8 +389,7 @@ before_character read c kind offset fault = go (either fault.before (fault.c ∷
 
 -- a place after the lines given is one in the line
 within_line : (first read : List ℕ) (place : ℕ) → PrefixTo (first ++ read) (byte_len first + place) → Within read place
-within_line first read place p = go (either p.prefix p.rest first read p.spell)
-  where
+within_line first read place p = go (either p.prefix p.rest first read p.spell) where
     go : Either p.prefix first read → Within read place
     go (Either.shorter k one) = record { prefix = []; later = read; split = refl; size = omega (arith, p.place, ap byte_len one, byte_len-append p.prefix k) }
     go (Either.longer d k later one two) = record {

@@ -136,8 +136,7 @@ module _ (s : LineState) {bytes : List ℕ} {scan : Scan} (l : ScansIn (first_mo
 
   -- so the text ends
   pub text_ended : 0 < length bytes → (result : Result ℕ LineFault) (new : Scan) → EndsTextSo scan (take (length bytes - scan.stop) (drop scan.stop bytes)) result new → ScansLine s bytes result new.stop
-  text_ended some result new ends = by result (left_ends l.stops start l.spell result new (subst (λ b. EndsTextSo scan b result new) bytes_left ends))
-    where
+  text_ended some result new ends = by result (left_ends l.stops start l.spell result new (subst (λ b. EndsTextSo scan b result new) bytes_left ends)) where
       some_read : l.rest ≡ [] → 0 < byte_len l.read
       some_read none = omega (arith, some, bytes_size (read_in l), ap length none)
 

@@ -310,8 +310,7 @@ module _ (text : List ℕ) (from : ℕ) (m : Marks) (there : from ≤ length tex
     reach = omega (arith, base);
     bits = λ k less. bits k less ∙ mark k;
     feeds = λ k less. feeds k less ∙ feed k;
-  }
-    where
+  } where
       inside : (k : ℕ) → nat_lt k (length rest) ≡ nat_lt (m.base + k) (length text)
       inside k = elim (cases_lt k (length rest)) [
         | inl low ↦ lt-ltb _ _ low ∙ sym (lt-ltb _ _ (omega (arith, low, size, base)))

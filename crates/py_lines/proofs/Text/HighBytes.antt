@@ -27,8 +27,7 @@ IsEvenAbove passes = (c b : ℕ) → 128 ≤ c → 128 ≤ b → passes c ≡ pa
 
 -- as one that ASCII alone passes
 pub low_even : (passes : ℕ → Bool) → ((c : ℕ) → passes c ≡ true → c < 128) → IsEvenAbove passes
-low_even passes low c b one two = none c one ∙ sym (none b two)
-  where
+low_even passes low c b one two = none c one ∙ sym (none b two) where
     none : (d : ℕ) → 128 ≤ d → passes d ≡ false
     none d high = false_from_ne_true _ (λ h. omega (arith, high, low d h))
 

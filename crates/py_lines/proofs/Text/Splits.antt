@@ -20,8 +20,7 @@ either (x ∷ xs) ys (z ∷ zs) ws same =
 
 -- the first character through which a text isn't live is one place, where each beginning of a live text is live
 pub same_dying : (Live : List ℕ → Type 0) → ((xs ys : List ℕ) → Live (xs ++ ys) → Live xs) → (b d : List ℕ) (x y : ℕ) (more es : List ℕ) → b ++ x ∷ more ≡ d ++ y ∷ es → Live b → Live d → ¬ (Live (b ++ x ∷ [])) → ¬ (Live (d ++ y ∷ [])) → (b ≡ d) × (x ≡ y)
-same_dying Live shorter_lives b d x y more es same live_b live_d dead_b dead_d = go (either b (x ∷ more) d (y ∷ es) same)
-  where
+same_dying Live shorter_lives b d x y more es same live_b live_d dead_b dead_d = go (either b (x ∷ more) d (y ∷ es) same) where
     go : Either b d (y ∷ es) → (b ≡ d) × (x ≡ y)
     go (Either.shorter [] one) =
         let is : d ≡ b = one ∙ append-nil b in

@@ -31,8 +31,7 @@ loop-at-preserved c =
     }
 
 pub returns-clause-few : goal.returns-clause-few
-returns-clause-few c =
-    omega (arith, c.loop-at.invariant.count, none_lone c.loop-at.rest.now c.in_default.ensures, line_ends-le c.args.bytes.now)
+returns-clause-few c = omega (arith, c.loop-at.invariant.count, none_lone c.loop-at.rest.now c.in_default.ensures, line_ends-le c.args.bytes.now)
 
 pub returns-clause-bytes : goal.returns-clause-bytes
 returns-clause-bytes c = omega (arith, c.loop-at.invariant.count, none_lone c.loop-at.rest.now c.in_default.ensures)

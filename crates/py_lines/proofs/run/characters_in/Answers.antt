@@ -13,8 +13,7 @@ use Rattle.py_lines.proofs.run.characters_in.Goals as goal
 use Rattle.py_lines.proofs.run.characters_in.Goals.{Joined-mode, in-Comment, in-Long+else-ascii-bytes+else-bytes-ascii-lt128, in-Short}
 
 pub returns-in-Space : goal.returns-in-Space
-returns-in-Space c =
-    rw c.in-Space.is (low_spans is_space is_space c.args.bytes.now c.len_in.result c.len_in.ensures (λ b h. (h, space_low b h)))
+returns-in-Space c = rw c.in-Space.is (low_spans is_space is_space c.args.bytes.now c.len_in.result c.len_in.ensures (λ b h. (h, space_low b h)))
 
 -- a word that is no prefix
 name : {mode : OpenMode} {spelling : Spelling} → mode ≡ opens.Word spelling → spelling ≡ spellings.Name → mode ≡ opens.Word spellings.Name

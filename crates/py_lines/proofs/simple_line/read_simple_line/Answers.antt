@@ -1,14 +1,16 @@
-use Rattle.std.proofs.Common.{◌≡◌, ◌+◌, ◌-◌, ◌≤◌, ◌∙◌, List, ℕ, add-zero, ap, arith, drop, length-drop, refl, subst, sym, take}
+use Rattle.std.proofs.Common.{◌≡◌, ◌+◌, ◌-◌, ◌≤◌, ◌∙◌, List, [], ℕ, add-zero, ap, arith, drop, length-drop, refl, slice_index, subst, sym, take}
 use Rattle.std.proofs.Math.Path.{transport}
+use Rattle.std.proofs.lemmas.Bool.{eqb-false}
+use Rattle.std.proofs.lemmas.Result.{IfOk-from_err}
 use Rattle.std.specs.Option.{IfSome}
-use Rattle.std.specs.Prelude.{MatchOption}
 use Rattle.py_lines.specs.declared.line_tokens.LineTokens.{LineTokens}
 use Rattle.py_lines.specs.declared.passing.Passing.{Passing}
 use Rattle.py_lines.specs.declared.scan.Scan.{Scan}
 use Rattle.py_lines.specs.Private.Frames.{has_field}
-use Rattle.py_lines.specs.Private.LineTokens.{HaveReadAnyway, HoldsTokens, IsLineAfter, ReadsAnyway, ReadsUpTo, StaysUnread}
+use Rattle.py_lines.specs.Private.LineTokens.{HaveReadAnyway, HoldsTokens, IsLineAfter, ReadsAnyway, ReadsUpTo}
+use Rattle.py_lines.specs.Private.Marks.{is_of_class}
 use Rattle.py_lines.specs.Private.Passing.{PassesSo, with_frames}
-use Rattle.py_lines.proofs.LineTokens.Anyway.{begun_anyway, line_read, reads_on}
+use Rattle.py_lines.proofs.LineTokens.Anyway.{begun_anyway, line_read, piece_read, reads_on}
 use Rattle.py_lines.proofs.LineTokens.Strings.{short_taken}
 use Rattle.py_lines.proofs.PassedPieces.Ends.{passes_none}
 use Rattle.py_lines.proofs.PassedPieces.Pieces.{HasPassed, passes_line, passes_next}
@@ -94,11 +96,7 @@ goes_on c =
           })
       | in_default-class+in-Passed+in_ok-len-in-Passed+in-Some-2 w ↦
           let place : at ≡ c.specials.scan.stop + at = omega (arith, stop (goal.at.Joined-class c).In-specials) in
-          let old = c.read_up_to.new.tokens in
-          let new = w.read_anyway.new.self in
-          let piece : ReadsAnyway (drop at bytes) old at c.in-Some.line_there w.in-Some-2.len w.in-Some-2.ends new
-          = subst (λ o. MatchOption o (StaysUnread c.of-class.result old new) (λ p. ReadsAnyway (drop at bytes) old at c.in-Some.line_there p.0 p.1 new)) w.in-Some-2.is
-          w.in_ok-len-in-Passed.ensures in
+          let piece = piece_read _ w.in-Some-2.is w.in_ok-len-in-Passed.ensures in
           rw (w.scan-is, w.tokens-is, w.start-is, w.line_here-is, w.passing-is) (record {
             same = refl;
             so = subst (λ (n : ℕ). PassesSo bytes at n c.specials.passing c.specials.scan.frames w.pass.new.self w.pass.new.frames) place w.in-Passed.ensures;
@@ -127,3 +125,41 @@ specials-preserved c =
       g.few,
       g.have,
     )
+
+pub pass_short_string-requires-clause-quote : goal.pass_short_string-requires-clause-quote
+pass_short_string-requires-clause-quote c = ap (λ k. is_of_class k (slice_index c.args.bytes.now c.specials.at)) (sym c.in-Quote.is) ∙ c.of-class.ensures
+
+pub overflow_sub-passing : goal.overflow_sub-passing
+overflow_sub-passing c = omega (arith, (c.pass_short_string.ensures.passed c.if-not-pass_short_string.false 0 []).further)
+
+pub add-requires : goal.add-requires
+add-requires c = let so = c.pass_short_string.ensures.passed c.if-not-pass_short_string.false 0 [] in omega (arith, so.further, so.within, c.requires.lines)
+
+pub pass-requires : goal.pass-requires
+pass-requires c = record { next = c.specials.invariant.0.next; within = c.specials-test.true; counted = c.specials.invariant.1 }
+
+pub bounds-bytes-0 : goal.bounds-bytes-0
+bounds-bytes-0 c = let some = eqb-false _ 0 (sym c.is_empty.ensures ∙ c.if-is_empty.false) in omega (arith, some)
+
+pub returns-in_err-line_there : goal.returns-in_err-line_there
+returns-in_err-line_there c = IfOk-from_err c.from_residual.result _ c.from_residual.ensures.0
+
+pub returns-in_err-add-in-Quote : goal.returns-in_err-add-in-Quote
+returns-in_err-add-in-Quote c = IfOk-from_err c.from_residual-in_err-add-in-Quote.result _ c.from_residual-in_err-add-in-Quote.ensures.0
+
+pub returns-in_err-len-in-Passed : goal.returns-in_err-len-in-Passed
+returns-in_err-len-in-Passed c = IfOk-from_err c.from_residual-in_err-len-in-Passed.result _ c.from_residual-in_err-len-in-Passed.ensures.0
+
+pub overflow_add-start : goal.overflow_add-start
+overflow_add-start c = let r = piece_read _ c.in-Some-2.is c.in_ok-len-in-Passed.ensures in omega (arith, r.within, length-drop c.specials.at c.args.bytes.now, c.specials-test.true, c.requires.lines)
+
+pub overflow_add-line_here : goal.overflow_add-line_here
+overflow_add-line_here c =
+    let r = piece_read _ c.in-Some-2.is c.in_ok-len-in-Passed.ensures in
+    omega (arith, (read (goal.at.overflow_add-line_here c).In-Some).few, c.specials.invariant.2, r.few, r.within, length-drop c.specials.at c.args.bytes.now, c.specials-test.true, c.requires.lines)
+
+pub pass-requires-in-LineEnd : goal.pass-requires-in-LineEnd
+pass-requires-in-LineEnd c = omega (arith, stop (goal.at.pass-requires-in-LineEnd c).In-specials, c.in-LineEnd.ensures.within, c.requires.lines)
+
+pub overflow_add-result : goal.overflow_add-result
+overflow_add-result c = omega (arith, (read (goal.at.overflow_add-result c).In-Some).few, c.specials.invariant.2, c.specials-test.true, c.requires.lines)

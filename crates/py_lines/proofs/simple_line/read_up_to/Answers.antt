@@ -1,18 +1,14 @@
-use Rattle.std.proofs.Common.{ℕ, arith, drop, subst}
-use Rattle.std.specs.Prelude.{MatchOption}
-use Rattle.py_lines.specs.Private.LineTokens.{HaveReadAnyway, ReadsAnyway, StaysUnread}
-use Rattle.py_lines.proofs.LineTokens.Anyway.{reads_on, space_on}
+use mir.Val.{bool_byte}
+use Rattle.std.proofs.Common.{◌≤◌, ℕ, Bool, true, false, arith, drop, length-drop, subst}
+use Rattle.py_lines.specs.Private.LineTokens.{HaveReadAnyway, ReadsAnyway}
+use Rattle.py_lines.proofs.LineTokens.Anyway.{piece_read, reads_on, space_on}
 use Rattle.py_lines.proofs.simple_line.read_up_to.Goals as goal
 use Rattle.py_lines.proofs.simple_line.read_up_to.Goals.{In-Some}
 
 -- the piece that was read
 read : (c : In-Some) → ReadsAnyway (drop c.pieces.at c.args.bytes.now) c.pieces.tokens c.pieces.at c.pieces.line_here c.in-Some.len c.in-Some.ends
     c.read_anyway.new.self
-read c =
-    let there = drop c.pieces.at c.args.bytes.now in
-    let new = c.read_anyway.new.self in
-    subst (λ o. MatchOption o (StaysUnread c.of-class.result c.pieces.tokens new) (λ p. ReadsAnyway there c.pieces.tokens c.pieces.at c.pieces.line_here p.0 p.1 new))
-    c.in-Some.is c.in_ok-len.ensures
+read c = piece_read _ c.in-Some.is c.in_ok-len.ensures
 
 pub pieces-preserved : goal.pieces-preserved
 pieces-preserved c =
@@ -31,3 +27,23 @@ returns-then-at-to c =
       few = omega (arith, few, c.if-at-to.true);
       reads = λ first h. subst (λ (k : ℕ). HaveReadAnyway c.args.bytes.now first k c.pieces.line_here c.pieces.tokens) c.if-at-to.true (reads first h);
     }
+
+pub overflow_add-at : goal.overflow_add-at
+overflow_add-at c = omega (arith, (read c).within, length-drop c.pieces.at c.args.bytes.now, c.pieces-test.true, c.requires.within, c.well_formed)
+
+pub overflow_add-line_here : goal.overflow_add-line_here
+overflow_add-line_here c =
+    let r = read c in
+    omega (arith, c.pieces.invariant.0, c.pieces.invariant.1, r.few, r.within, length-drop c.pieces.at c.args.bytes.now, c.pieces-test.true, c.requires.within, c.requires.lines)
+
+one_at_most : (is : Bool) → bool_byte is ≤ 1
+one_at_most false = omega arith
+one_at_most true = omega arith
+
+pub overflow_add-at-in-pieces : goal.overflow_add-at-in-pieces
+overflow_add-at-in-pieces c =
+    let r = read (goal.at.overflow_add-at-in-pieces c).In-Some in
+    omega (arith, r.within, length-drop c.pieces.at c.args.bytes.now, c.pieces-test.true, c.requires.within, c.well_formed, one_at_most c.starts_with.result)
+
+pub pieces-smaller : goal.pieces-smaller
+pieces-smaller c = omega (arith, (read (goal.at.pieces-smaller c).In-Some).some, c.pieces-test.true)

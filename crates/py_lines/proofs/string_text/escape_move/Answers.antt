@@ -21,8 +21,7 @@ returns-in-123-2 c quotes = grows_slash _ _ _ _ c.requires quotes (omega arith) 
 
 pub returns-in-10 : goal.returns-in-10
 unfolding is_break is_brace
-returns-in-10 c quotes =
-    breaks_escape _ _ _ _ c.requires quotes (grind arith) (grind (arith, nat_tests)) (grind (arith, nat_tests)) (grind arith) (grind arith)
+returns-in-10 c quotes = breaks_escape _ _ _ _ c.requires quotes (grind arith) (grind (arith, nat_tests)) (grind (arith, nat_tests)) (grind arith) (grind arith)
 
 pub returns-in-78 : goal.returns-in-78
 returns-in-78 c quotes = grows_name _ _ _ _ c.requires quotes (omega arith) (grind arith) (omega arith) (omega arith)

@@ -81,8 +81,7 @@ returns-in-Specification-Closes c quotes = let step = c.in-Specification-Closes 
     (step.field-0-1, rw step.is-0 (rw (step.is-0, step.is-1) at does), ap region_in step.is-0)
 
 pub returns-in_default-2 : goal.returns-in_default-2
-returns-in_default-2 c quotes =
-    does_so _ _ c.text_move.result (λ n same. absurd (grind arith)) (text_does (goal.at.returns-in_default-2 c).After-text_move)
+returns-in_default-2 c quotes = does_so _ _ c.text_move.result (λ n same. absurd (grind arith)) (text_does (goal.at.returns-in_default-2 c).After-text_move)
 
 pub returns-in_default-2-2 : goal.returns-in_default-2-2
 returns-in_default-2-2 c quotes =

@@ -10,8 +10,7 @@ use Rattle.py_lines.proofs.string_text.text_move.Goals as goal
 use Rattle.py_lines.proofs.string_text.text_move.Goals.{Joined-c-quote-2, then-c-quote-2+in_default, then-c-quote-2+in_default-2, else-c-quote-2+in-Some-eq92, else-c-quote-2+in-Some-3}
 
 pub returns-in-Some-clause-does : goal.returns-in-Some-clause-does
-returns-in-Some-clause-does c at =
-    closes_short _ _ _ c.args.bytes.now c.requires.quote c.in-Some.ensures c.if-c-quote.true (rw (← c.if-not-is_long.true) at)
+returns-in-Some-clause-does c at = closes_short _ _ _ c.args.bytes.now c.requires.quote c.in-Some.ensures c.if-c-quote.true (rw (← c.if-not-is_long.true) at)
 
 pub returns-in-Some-eq10-clause-does : goal.returns-in-Some-eq10-clause-does
 unfolding is_break
@@ -36,19 +35,16 @@ come_here c at o told = rw (← told) (elim c.if-c-quote-2.branch [
   | else-c-quote-2+in-Some-3 w ↦ let size = w.len-is ∙ ap Some w.len_utf8.ensures.value in
       rw size (grows_other c.args.mode _ _ _ bytes c.requires.quote c.in-Some.ensures (ne_eqb _ c.args.quote w.if-c-quote-2.false)
       (grind (arith, nat_tests)) (grind (arith, nat_tests)) at)
-])
-  where
+]) where
     bytes : List ℕ
     bytes = c.args.bytes.now
 
-    quotes : c.in-Some.c ≡ c.args.quote → c.if-c-quote-2.len ≡ quotes_in bytes → (c.if-c-quote-2.len ≡ Some 3 → ⊥)
-        → Comes c.args.mode bytes c.if-c-quote-2.len
+    quotes : c.in-Some.c ≡ c.args.quote → c.if-c-quote-2.len ≡ quotes_in bytes → (c.if-c-quote-2.len ≡ Some 3 → ⊥) → Comes c.args.mode bytes c.if-c-quote-2.len
     quotes same is other = subst (Comes c.args.mode bytes) (sym is)
         ((quotes_come c.args.mode _ _ _ bytes c.requires.quote c.in-Some.ensures same (grind arith) at).1 (λ three. other (is ∙ three)))
 
 pub returns-in-Some-len-clause-does : goal.returns-in-Some-len-clause-does
-returns-in-Some-len-clause-does c at =
-    come_here (goal.at.returns-in-Some-len-clause-does c).Joined-c-quote-2 at (Some c.in-Some-len.len) c.in-Some-len.is
+returns-in-Some-len-clause-does c at = come_here (goal.at.returns-in-Some-len-clause-does c).Joined-c-quote-2 at (Some c.in-Some-len.len) c.in-Some-len.is
 
 pub returns-in-None-len-clause-does : goal.returns-in-None-len-clause-does
 returns-in-None-len-clause-does c at = come_here (goal.at.returns-in-None-len-clause-does c).Joined-c-quote-2 at None c.in-None-len.is

@@ -13,8 +13,7 @@ returns-in-125-2 c = (omega arith, brace_part _ _ (omega arith) (omega arith))
 
 pub returns-in-92-2 : goal.returns-in-92-2
 unfolding is_break is_brace
-returns-in-92-2 c =
-    (omega arith, two_part c.args.quote 92 _ _ (omega arith) (omega arith) refl (escape_leads c.args.quote _ (grind (arith, nat_tests))))
+returns-in-92-2 c = (omega arith, two_part c.args.quote 92 _ _ (omega arith) (omega arith) refl (escape_leads c.args.quote _ (grind (arith, nat_tests))))
 
 pub returns-in-92-2-2 : goal.returns-in-92-2-2
 returns-in-92-2-2 c = (omega arith, two_part c.args.quote 123 123 c.args.bytes.now (omega arith) (omega arith) (omega arith) (two_lead c.args.quote))

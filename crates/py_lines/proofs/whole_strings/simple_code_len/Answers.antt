@@ -7,8 +7,7 @@ pub loop-text-init : goal.loop-text-init
 loop-text-init c = record { counted = code_counted c.args.bytes.now c.len_in-len.result c.len_in-len.ensures }
 
 pub whole_plain_string-requires : goal.whole_plain_string-requires
-whole_plain_string-requires c =
-    record { begins = quote_next c.args.bytes.now c.loop-text.len (c.begins_plain_string.ensures c.loop-text-test.true) }
+whole_plain_string-requires c = record { begins = quote_next c.args.bytes.now c.loop-text.len (c.begins_plain_string.ensures c.loop-text-test.true) }
 
 -- the string stands within the bytes
 taken : (c : In-Some) → (0 < c.in-Some.text) × (c.loop-text.len + c.in-Some.text ≤ length c.args.bytes.now)

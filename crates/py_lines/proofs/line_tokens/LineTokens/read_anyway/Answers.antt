@@ -19,8 +19,7 @@ some bytes start within = omega (arith, within, ap length (rest_is bytes start),
 
 -- and the first of them is of this class
 told : (bytes : List ℕ) (start : ℕ) {j k : ByteClass} → is_of_class j (slice_index bytes start) ≡ true → j ≡ k → is_of_class k (slice_index (rest_of bytes start) 0) ≡ true
-told bytes start {j} class is =
-    (λ i. is_of_class (sym is i) ((ap (λ l. slice_index l 0) (rest_is bytes start) ∙ first_later bytes start) i)) ∙ class
+told bytes start {j} class is = (λ i. is_of_class (sym is i) ((ap (λ l. slice_index l 0) (rest_is bytes start) ∙ first_later bytes start) i)) ∙ class
 
 -- so it was read, as a slice has the bytes
 read : (bytes : List ℕ) (start : ℕ) {old new : LineTokens} {line len ends : ℕ} {role : Role} → 0 < len → len ≤ length (rest_of bytes start) → ends ≤ len

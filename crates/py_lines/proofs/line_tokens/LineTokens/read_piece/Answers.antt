@@ -12,7 +12,7 @@ use Rattle.py_lines.specs.Private.LineTokens.{AddsPiece, BeginWithPiece, IsFirst
 use Rattle.py_lines.specs.Private.Marks.{is_of_class}
 use Rattle.py_lines.specs.Private.Run.{is_ascii_word, is_wide_word}
 use Rattle.py_lines.proofs.FieldScans.TextLengths.{rest_is, rest_of}
-use Rattle.py_lines.proofs.LineTokens.Anyway.{begins_from}
+use Rattle.py_lines.proofs.LineTokens.Anyway.{begins_from, piece_read}
 use Rattle.py_lines.proofs.LineTokens.FirstCharacters.{class_is, class_told, some_bytes}
 use Rattle.py_lines.proofs.LineTokens.FirstPieces.{join_taken, line_end_taken}
 use Rattle.py_lines.proofs.LineTokens.FirstString.{first_within}
@@ -34,8 +34,7 @@ pub returns-in-Some : goal.returns-in-Some
 returns-in-Some c =
     let l = drop c.args.start c.args.text.now in
     let (old, new) : _ × _ = (c.args.self.now, c.read_anyway.new.self) in
-    let r : ReadsAnyway l old c.args.start c.args.line c.in-Some.piece.0 c.in-Some.piece.1 new
-    = subst (λ o. MatchOption o (StaysUnread c.of-class.result old new) (λ p. ReadsAnyway l old c.args.start c.args.line p.0 p.1 new)) c.in-Some.is c.in_ok-piece.ensures in
+    let r : ReadsAnyway l old c.args.start c.args.line c.in-Some.piece.0 c.in-Some.piece.1 new = piece_read _ c.in-Some.is c.in_ok-piece.ensures in
     record {
       role = r.role;
       is = subst (λ x. IsFirstPiece x (record { role = r.role; len = c.in-Some.piece.0; line_ends = c.in-Some.piece.1 })) (take_all (length l) l (le_refl (length l))) (r.is (length l) r.within (le_refl (length l)));
@@ -51,10 +50,16 @@ word_or_string-kind-requires-clause-word c =
     (⊎_elim (λ is. or_left (is_ascii_word first) (nat_le 128 first) (ap (λ k. is_of_class k first) (sym is) ∙ told))
     (λ is. or_right (is_ascii_word first) (nat_le 128 first) (ap (λ k. is_of_class k first) (sym is) ∙ told)) c.in-Word.is)
 
+pub word_or_string-kind-requires-clause-piece : goal.word_or_string-kind-requires-clause-piece
+word_or_string-kind-requires-clause-piece c = there (goal.at.word_or_string-kind-requires-clause-piece c).After-of-class
+
 pub add-requires : goal.add-requires
 add-requires c =
     let (text, start) : _ × _ = (c.args.text.now, c.args.start) in
     omega (arith, c.well_formed, first_within (there (goal.at.add-requires c).After-of-class) c.word_or_string-kind.ensures, ap length (rest_is text start), length-drop start text)
+
+pub string_len-len-requires-clause-piece : goal.string_len-len-requires-clause-piece
+string_len-len-requires-clause-piece c = there (goal.at.string_len-len-requires-clause-piece c).After-of-class
 
 pub string_len-len-requires-clause-string : goal.string_len-len-requires-clause-string
 string_len-len-requires-clause-string c = λ p b. class_is b c.of-class.ensures c.in-Quote.is

@@ -13,8 +13,7 @@ feeds-smaller c =
     omega (arith, base_kept _ _ _ _ _ (c.pass_feeds-in-feeds.ensures c.args.bytes.now there.from there.marked), c.feeds-test.ensures.base)
 
 pub feeds-preserved : goal.feeds-preserved
-feeds-preserved c =
-    block_passed (block_next c.feeds.invariant c.advance.new.self c.feeds-test.ensures.marks) _ (c.pass_feeds-in-feeds.ensures c.args.bytes.now)
+feeds-preserved c = block_passed (block_next c.feeds.invariant c.advance.new.self c.feeds-test.ensures.marks) _ (c.pass_feeds-in-feeds.ensures c.args.bytes.now)
 
 pub returns : goal.returns
 returns c =

@@ -14,8 +14,7 @@ use Rattle.py_lines.proofs.passing.Passing.pass.Goals as goal
 
 -- the line end that stands there ends in the bytes
 end_within : (bytes : List ℕ) (from len : ℕ) → from ≤ length bytes → BeginsOuterEnd (rest_of bytes from) len → from + len ≤ length bytes
-end_within bytes from len there begins =
-    omega (arith, begins.within, ap length (rest_is bytes from), length-drop from bytes, there)
+end_within bytes from len there begins = omega (arith, begins.within, ap length (rest_is bytes from), length-drop from bytes, there)
 
 pub returns-in-LineFeed : goal.returns-in-LineFeed
 returns-in-LineFeed c =

@@ -1,3 +1,4 @@
+use Rattle.std.proofs.lemmas.List.{length-take-le}
 use Rattle.std.proofs.Common.{◌≡◌, ◌+◌, ◌≤◌, ◌∙◌, false, length, length-take, refl, subst, sym, arith}
 use Rattle.py_lines.specs.declared.host.Region.TheVariants as regions
 use Rattle.py_lines.specs.declared.mode.Mode.{Mode as OpenMode}
@@ -15,9 +16,18 @@ overflow_cast-host c = quote_fits c.in-Fields-default-Literal-false.host.quote (
 pub overflow_cast-host-in-Fields : goal.overflow_cast-host-in-Fields
 overflow_cast-host-in-Fields c = quote_fits c.in-Fields.host.quote (subst HasQuote c.in-Fields.is c.requires.quote)
 
+pub slice_bounds-last_operator_end-end : goal.slice_bounds-last_operator_end-end
+slice_bounds-last_operator_end-end c = sym (length-take-le c.len_in.result c.args.bytes.now c.len_in.ensures.within)
+
 -- up to the last sign
 signs : (c : After-last_operator_end-len) → c.last_operator_end-len.result ≤ length c.args.bytes.now
 signs c = omega (arith, c.last_operator_end-len.ensures.0, length-take c.len_in.result c.args.bytes.now)
+
+pub overflow_add-self : goal.overflow_add-self
+overflow_add-self c = omega (arith, signs c, c.requires.bytes)
+
+pub characters_in-len-requires : goal.characters_in-len-requires
+characters_in-len-requires c = record { quote = c.requires.quote }
 
 -- so many of the bytes
 within : (c : Joined-self) → (c.match-self.self.stop ≡ c.args.self.now.stop) × (c.match-self.len ≤ length c.args.bytes.now)
@@ -27,6 +37,15 @@ within c = elim c.match-self.branch [
   | in-Fields+in-Fields w ↦ rw (w.self-is, w.len-is) (refl, w.literal_run-len.ensures.within)
   | in_default w ↦ rw (w.self-is, w.len-is) (refl, w.characters_in-len.ensures.run.within)
 ]
+
+pub overflow_add-self-2 : goal.overflow_add-self-2
+overflow_add-self-2 c = let (stop, fits) = within (goal.at.overflow_add-self-2 c).Joined-self in omega (arith, stop, fits, c.requires.bytes)
+
+pub slice_bounds-result-count : goal.slice_bounds-result-count
+slice_bounds-result-count c = (within (goal.at.slice_bounds-result-count c).Joined-self).1
+
+pub slice_bounds-result-start : goal.slice_bounds-result-start
+slice_bounds-result-start c = (within (goal.at.slice_bounds-result-start c).Joined-self).1
 
 pub returns : goal.returns
 returns c = let old = c.args.self.now in let bytes = c.args.bytes.now in (

@@ -24,6 +24,9 @@ specials-init c =
     (finds_on (rw (c.restart.ensures, c.new-passing.ensures.nothing) (no_line_passed c.args.bytes.now))
     (none_counted _ _ c.new-passing.ensures.nothing) c.next-at.ensures).on
 
+pub overflow_sub-at : goal.overflow_sub-at
+overflow_sub-at c = omega (arith, c.specials.invariant.have.before, c.specials.invariant.next.after)
+
 pub pass-requires : goal.pass-requires
 pass-requires c = record { next = c.specials.invariant.next; within = c.specials-test.true; counted = c.specials.invariant.counted }
 
@@ -33,6 +36,9 @@ there c = unpassed c.specials.invariant c.in-Unpassed.ensures
 
 same_line : (c : In-Unpassed) → c.specials.passing.lines ≡ c.pass.new.self.lines
 same_line c = ap (λ (p : Passing). p.lines) (sym c.in-Unpassed.ensures.0)
+
+pub slice_bounds-word_start-count : goal.slice_bounds-word_start-count
+slice_bounds-word_start-count c = (there c).next.after
 
 pub slice_bounds-word_start-start : goal.slice_bounds-word_start-start
 slice_bounds-word_start-start c = (there c).next.after
@@ -142,8 +148,14 @@ last c = elim c.specials-test.branch [
   | then-specials-test+in-Unpassed+in-Some w ↦ rw (w.passing-is, w.in-Unpassed.ensures.0) c.specials.invariant
 ]
 
+pub slice_bounds-line_ends_up_to-count : goal.slice_bounds-line_ends_up_to-count
+slice_bounds-line_ends_up_to-count c = (last c).have.are.within
+
 pub slice_bounds-line_ends_up_to-start : goal.slice_bounds-line_ends_up_to-start
 slice_bounds-line_ends_up_to-start c = (last c).have.are.within
+
+pub overflow_sub-passing : goal.overflow_sub-passing
+overflow_sub-passing c = (last (goal.at.overflow_sub-passing c).Left-specials).have.before
 
 pub line_ends_up_to-last-requires : goal.line_ends_up_to-last-requires
 line_ends_up_to-last-requires c =

@@ -1,4 +1,5 @@
-use Rattle.std.proofs.Common.{◌-◌, length, take, drop, sym, ap, ◌∙◌, arith, length-drop}
+use Rattle.std.specs.Prelude.{encode_utf8_all}
+use Rattle.std.proofs.Common.{◌-◌, length, take, drop, sym, ap, ◌∙◌, arith, length-drop, ◌≤◌, length-append}
 use Rattle.std.proofs.lemmas.List.{take_rest}
 use Rattle.py_lines.specs.Private.Scan.{GoesOver}
 use Rattle.py_lines.specs.declared.scan.Scan.{Scan}
@@ -44,6 +45,17 @@ over c =
 
 goes : (c : Else-is_in_code) → InFirst c.args.bytes.now c.step.new.self (drop c.in-Going.len c.items.rest.now)
 goes c = step_on c.items.invariant.first (over c) (sym c.is_in_code.ensures ∙ c.if-is_in_code.false)
+
+within : (c : Else-is_in_code) → c.in-Going.len ≤ length c.items.rest.now
+within c =
+    let item = over c in
+    omega (arith, item.size, ap length item.spell, length-append (encode_utf8_all item.run) (drop c.in-Going.len c.items.rest.now))
+
+pub slice_bounds-hold-count : goal.slice_bounds-hold-count
+slice_bounds-hold-count c = within (goal.at.slice_bounds-hold-count c).Else-is_in_code
+
+pub slice_bounds-hold-start : goal.slice_bounds-hold-start
+slice_bounds-hold-start c = within (goal.at.slice_bounds-hold-start c).Else-is_in_code
 
 pub hold-rest-requires : goal.hold-rest-requires
 hold-rest-requires c =

@@ -38,8 +38,7 @@ returns-in-EndsField c = λ t follow.
     ends_over c.args.self.now t c.args.bytes.now c.end_field.result c.end_field.new.self follow c.requires.text does.0 does.1 c.end_field.ensures
 
 pub returns-in-Waits : goal.returns-in-Waits
-returns-in-Waits c = λ t follow.
-    let does = rw c.in-Waits.is at c.requires.does in waits_over c.args.self.now t follow c.requires.text c.args.bytes.now does
+returns-in-Waits c = λ t follow. let does = rw c.in-Waits.is at c.requires.does in waits_over c.args.self.now t follow c.requires.text c.args.bytes.now does
 
 pub returns-in-BreaksString : goal.returns-in-BreaksString
 returns-in-BreaksString c = λ t follow.

@@ -1,9 +1,28 @@
-use Rattle.std.proofs.Common.{ap, ◌∙◌, arith, sym}
+use Rattle.py_lines.specs.Private.Feed.{StandsSo}
+use Rattle.std.proofs.Common.{ap, ◌∙◌, arith, sym, subst}
 use Rattle.std.proofs.lemmas.Result.{err_from_is_err_and}
 use Rattle.py_lines.specs.ScannerState.{ScannerState}
-use Rattle.py_lines.proofs.Feeds.EndedHeld.{ends_known, finish_errs, finish_read, finish_short}
+use Rattle.py_lines.proofs.Feeds.EndedHeld.{ends_known, finish_errs, finish_read, finish_short, same_room}
 use Rattle.py_lines.proofs.Feeds.ReadyLines.{none_ready}
 use Rattle.py_lines.proofs.scanner.Scanner.finish.Goals as goal
+
+pub end_text-requires-clause-opens : goal.end_text-requires-clause-opens
+end_text-requires-clause-opens c = subst (StandsSo c.self.inside.feed) (none_ready c.self.inside.feed c.self.inside.feed.ready (ap (λ (s : ScannerState). s.ready) c.self.view_is ∙ c.requires.released)) c.self.invariant.state c.in_default.is
+
+pub end_text-requires-clause-not_ready : goal.end_text-requires-clause-not_ready
+end_text-requires-clause-not_ready c = none_ready c.self.inside.feed c.self.inside.feed.ready (ap (λ (s : ScannerState). s.ready) c.self.view_is ∙ c.requires.released)
+
+pub end_text-requires-clause-room : goal.end_text-requires-clause-room
+end_text-requires-clause-room c = c.self.invariant.room
+
+pub read_tokens-requires-clause-holds : goal.read_tokens-requires-clause-holds
+read_tokens-requires-clause-holds c = (c.in_ok-end_text.ensures.line, c.in_ok-end_text.ensures.holds)
+
+pub read_tokens-requires-clause-no_fault : goal.read_tokens-requires-clause-no_fault
+read_tokens-requires-clause-no_fault c = c.in_ok-end_text.ensures.text.fault ∙ c.in_default.is
+
+pub read_tokens-requires-clause-room : goal.read_tokens-requires-clause-room
+read_tokens-requires-clause-room c = same_room c.self.invariant c.in_ok-end_text.ensures.text
 
 pub invariant_of-self : goal.invariant_of-self
 invariant_of-self c = (finish_errs c.self.invariant c.in_default.is (none_ready c.self.inside.feed c.self.inside.feed.ready (ap (λ (s : ScannerState). s.ready) c.self.view_is ∙ c.requires.released)) _ c.in_err-end_text.ensures).1
