@@ -1,9 +1,5 @@
 -- ASCII letters make words.
-use Rattle.std.proofs.Common.{◌≡◌, ℕ, ◌==◌, Bool, true, ◌||◌, List, [], ◌∷◌, refl, ap, ◌∙◌, arith}
-use Rattle.std.specs.Char.{is_ascii_alphabetic}
-use Rattle.std.specs.List.{list_all}
-use Rattle.std.proofs.lemmas.Bool.{and_parts, and_from}
-use Rattle.std.proofs.lemmas.Bool.Decides.{nat_tests}
+use Rattle.py_lines.proofs.Prelude.{◌≡◌, ℕ, ◌==◌, Bool, true, ◌||◌, List, [], ◌∷◌, refl, ap, ◌∙◌, arith, is_ascii_alphabetic, list_all, and_parts, and_from, nat_tests}
 use Rattle.unicode_ident.proofs.IdentLemmas.{is_xid_start-ascii, is_xid_start-is_xid_continue}
 use Rattle.unicode_ident.specs.Ident.{is_xid_start}
 use Rattle.py_lines.specs.Character.{is_word_start, is_word_character, is_digit}

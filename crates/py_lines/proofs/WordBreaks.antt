@@ -1,7 +1,5 @@
 -- Words hold no line end.
-use Rattle.std.proofs.Common.{◌≡◌, ℕ, false, List, [], ◌∷◌, refl, ap, ◌∙◌}
-use Rattle.std.specs.List.{list_any}
-use Rattle.std.proofs.lemmas.Bool.{or_from}
+use Rattle.py_lines.proofs.Prelude.{◌≡◌, ℕ, false, List, [], ◌∷◌, refl, ap, ◌∙◌, list_any, or_from}
 use Rattle.unicode_ident.proofs.Computing.{unicode_ident}
 use Rattle.py_lines.specs.Character.{is_break, is_word_character, is_word_start, is_digit}
 use Rattle.py_lines.specs.PieceGrammar.{IsWord}

@@ -1,8 +1,6 @@
 -- What is open in a text that has no prefix of a string with fields before a quote is the same with fields and without, and so are
 -- its fault and its lexing.
-use Rattle.std.proofs.Common.{◌≡◌, ℕ, Bool, true, false, ◌||◌, ◌&&◌, List, [], ◌∷◌, ◌++◌, refl, sym, ap, ◌∙◌, inl, inr, ⊎_elim, append_assoc, append-nil, Option, None, Some}
-use Rattle.std.specs.Str.{byte}
-use Rattle.std.proofs.lemmas.Bool.{or_parts, or_from, both_ways}
+use Rattle.py_lines.proofs.Prelude.{◌≡◌, ℕ, Bool, true, false, ◌||◌, ◌&&◌, List, [], ◌∷◌, ◌++◌, refl, sym, ap, ◌∙◌, inl, inr, ⊎_elim, append_assoc, append-nil, Option, None, Some, byte, or_parts, or_from, both_ways}
 use Rattle.py_lines.specs.Character.{is_quote, is_r, is_f, is_t}
 use Rattle.py_lines.specs.Piece.{Piece, begins, spelled}
 use Rattle.py_lines.specs.PieceGrammar.{AreReadIn, joined}
@@ -27,10 +25,10 @@ begins_fewer : (a b : List ℕ) → begins_fielded (a ++ b) ≡ false → begins
 begins_fewer [] b h = refl
 begins_fewer (c ∷ []) b h = none_false (is_f c || is_t c)
 begins_fewer (c ∷ d ∷ []) b h = go (is_f c || is_t c) (is_quote d) (is_r d) (begins is_quote b) h where
-    go : (x y z w : Bool) → x && (y || (z && w)) ≡ false → x && (y || (z && false)) ≡ false
-    go false y z w k = refl
-    go true true z w k = k
-    go true false z w k = none_false z
+  go : (x y z w : Bool) → x && (y || (z && w)) ≡ false → x && (y || (z && false)) ≡ false
+  go false y z w k = refl
+  go true true z w k = k
+  go true false z w k = none_false z
 begins_fewer (c ∷ d ∷ e ∷ es) b h = h
 
 pub earlier : (a b : List ℕ) → may_have_fields (a ++ b) ≡ false → may_have_fields a ≡ false

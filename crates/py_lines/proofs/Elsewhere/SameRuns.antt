@@ -1,8 +1,6 @@
 -- A text that has no prefix of a string with fields before a quote is live with fields exactly if it is live without: the machine goes
 -- through it and opens no string with fields, and nor does what closes all that is open.
-use Rattle.std.proofs.Common.{◌≡◌, ℕ, true, false, Option, None, Some, List, [], ◌∷◌, ◌++◌, refl, sym, ap, ◌∙◌, subst, inl, inr, append_assoc, append-nil}
-use Rattle.std.proofs.lemmas.Bool.{and_parts, both_ways, false_from_ne_true}
-use Rattle.std.proofs.lemmas.List.{append_cancel_left}
+use Rattle.py_lines.proofs.Prelude.{◌≡◌, ℕ, true, false, Option, None, Some, List, [], ◌∷◌, ◌++◌, refl, sym, ap, ◌∙◌, subst, inl, inr, append_assoc, append-nil, and_parts, both_ways, false_from_ne_true, append_cancel_left}
 use Rattle.py_lines.specs.Character.{is_mark, is_quote}
 use Rattle.py_lines.specs.Piece.{Class, mark, string, operator, line_end, Piece, begins, spelled}
 use Rattle.py_lines.specs.PieceGrammar.{IsPrefix, InPlainClass, MayPrecedePlain, AreReadPlain}
@@ -62,9 +60,9 @@ plain_closed m done held own quoted = unfielded-push Fields done (piece (class_o
 plain_started : (done : List Piece) (os : List ℕ) (c : ℕ) (x : Start) → AreUnfielded Fields done → PlainIf (field_started [] done os c x)
 plain_started done os c (starts.Open m) own = own
 plain_started done os c starts.Operator own = go (openers_with os c) where
-    go : (o : Option (List ℕ)) → PlainIf (after_operator [] done c o)
-    go None = tt
-    go (Some after) = unfielded-push Fields done (piece operator (c ∷ [])) own (λ is. absurd (cc))
+  go : (o : Option (List ℕ)) → PlainIf (after_operator [] done c o)
+  go None = tt
+  go (Some after) = unfielded-push Fields done (piece operator (c ∷ [])) own (λ is. absurd (cc))
 plain_started done os c starts.LineEnd own = unfielded-push Fields done (piece line_end (c ∷ [])) own (λ is. absurd (cc))
 plain_started done os c starts.Nothing own = tt
 
@@ -139,14 +137,14 @@ cut_at : (ps : List Piece) (cs more : List ℕ) → spelled ps ≡ cs ++ more �
 cut_at ps [] more is = between [] ps refl refl
 cut_at [] (c ∷ cs) more is = absurd (cc)
 cut_at (p ∷ ps) (c ∷ cs) more is = go (λ k same. cut_at ps k more same) (either p.text (spelled ps) (c ∷ cs) more is) where
-    with_first : (k : List ℕ) → c ∷ cs ≡ p.text ++ k → CutAt ps k → CutAt (p ∷ ps) (c ∷ cs)
-    with_first k one (between qs rs at spell) = between (p ∷ qs) rs (ap (λ l. p ∷ l) at) (ap (λ t. p.text ++ t) spell ∙ sym one)
-    with_first k one (in_piece qs rs q e front d back at spell own) =
-        in_piece (p ∷ qs) rs q e front d back (ap (λ l. p ∷ l) at) (append_assoc p.text (spelled qs) (e ∷ front) ∙ ap (λ t. p.text ++ t) spell ∙ sym one) own
+  with_first : (k : List ℕ) → c ∷ cs ≡ p.text ++ k → CutAt ps k → CutAt (p ∷ ps) (c ∷ cs)
+  with_first k one (between qs rs at spell) = between (p ∷ qs) rs (ap (λ l. p ∷ l) at) (ap (λ t. p.text ++ t) spell ∙ sym one)
+  with_first k one (in_piece qs rs q e front d back at spell own) =
+      in_piece (p ∷ qs) rs q e front d back (ap (λ l. p ∷ l) at) (append_assoc p.text (spelled qs) (e ∷ front) ∙ ap (λ t. p.text ++ t) spell ∙ sym one) own
 
-    go : ((k : List ℕ) → spelled ps ≡ k ++ more → CutAt ps k) → Either p.text (c ∷ cs) more → CutAt (p ∷ ps) (c ∷ cs)
-    go after (Either.shorter k one) = with_first k one (after k (append_cancel_left p.text (spelled ps) (k ++ more) (is ∙ ap (λ t. t ++ more) one ∙ append_assoc p.text k more)))
-    go later_cut (Either.longer e k after one two) = in_piece [] ps p c cs e k refl refl one
+  go : ((k : List ℕ) → spelled ps ≡ k ++ more → CutAt ps k) → Either p.text (c ∷ cs) more → CutAt (p ∷ ps) (c ∷ cs)
+  go after (Either.shorter k one) = with_first k one (after k (append_cancel_left p.text (spelled ps) (k ++ more) (is ∙ ap (λ t. t ++ more) one ∙ append_assoc p.text k more)))
+  go later_cut (Either.longer e k after one two) = in_piece [] ps p c cs e k refl refl one
 
 -- the first characters by which the open piece grows
 grown_first : (m n : Mode) (a b : List ℕ) → Grown m (a ++ b) n → (k : Mode) × Grown m a k
@@ -156,11 +154,11 @@ grown_first m n (c ∷ a) b (next, grows, others) = let rest = grown_first next 
 front_grown : (class : Class) (m : Mode) (front : List ℕ) (d : ℕ) (back rest : List ℕ) → EndsWith class m (front ++ d ∷ back) rest → (k : Mode) × Grown m front k
 front_grown class m front d back rest (ends_before n grown is stops) = grown_first m n front (d ∷ back) grown
 front_grown class m front d back rest (ends_at n all e cut grown is closing) = go (either front (d ∷ back) all (e ∷ []) cut) where
-    go : Either front all (e ∷ []) → (k : Mode) × Grown m front k
-    go (Either.shorter k one) = grown_first m n front k (subst (λ t. Grown m t n) one grown)
-    go (Either.longer x k after one two) =
-        let left : x ∷ (k ++ d ∷ back) ≡ e ∷ [] = append_cancel_left all _ _ (sym (append_assoc all (x ∷ k) (d ∷ back)) ∙ ap (λ t. t ++ d ∷ back) (sym one) ∙ cut) in
-        absurd (not_nothing k d back (cc))
+  go : Either front all (e ∷ []) → (k : Mode) × Grown m front k
+  go (Either.shorter k one) = grown_first m n front k (subst (λ t. Grown m t n) one grown)
+  go (Either.longer x k after one two) =
+      let left : x ∷ (k ++ d ∷ back) ≡ e ∷ [] = append_cancel_left all _ _ (sym (append_assoc all (x ∷ k) (d ∷ back)) ∙ ap (λ t. t ++ d ∷ back) (sym one) ∙ cut) in
+      absurd (not_nothing k d back (cc))
 
 -- a piece of two characters or more begins with one that opens it
 record Opens (class : Class) (c : ℕ) (cs rest : List ℕ) : Type 0 where
@@ -220,24 +218,24 @@ first_reached qs rs front balanced shallow own fit unmarked =
 
 pub live_with : (cs : List ℕ) → may_have_fields cs ≡ false → IsLiveIn plain_dialect cs → IsLiveIn fielded_dialect cs
 live_with cs h live = go (cut_at live.pieces cs live.more live.reading.reads.spell) where
-    first : (qs rs : List Piece) (front : List ℕ) → live.pieces ≡ qs ++ rs → spelled qs ++ front ≡ cs → AreReadPlain qs front → (qs ≡ [] → begins is_mark front ≡ false) → (os : List ℕ) × Reaches qs os front
-    first qs rs front is spell fit unmarked =
-        first_reached qs rs front (subst IsBalanced is live.reading.balanced) (subst (IsShallowPlain 0) is live.reading.shallow) (ap may_have_fields spell ∙ h) fit unmarked
+  first : (qs rs : List Piece) (front : List ℕ) → live.pieces ≡ qs ++ rs → spelled qs ++ front ≡ cs → AreReadPlain qs front → (qs ≡ [] → begins is_mark front ≡ false) → (os : List ℕ) × Reaches qs os front
+  first qs rs front is spell fit unmarked =
+      first_reached qs rs front (subst IsBalanced is live.reading.balanced) (subst (IsShallowPlain 0) is live.reading.shallow) (ap may_have_fields spell ∙ h) fit unmarked
 
-    go : CutAt live.pieces cs → IsLiveIn fielded_dialect cs
-    go (between qs rs is spell) = let fit = AreReadIn-first _ qs rs [] (subst (λ l. AreReadPlain l []) is live.reading.reads.fit) in
-        let (os, at) = first qs rs [] is (append-nil (spelled qs) ∙ spell) (read_nothing _ qs _ fit) (λ none. refl) in
-        runs_live cs at.to (subst (λ t. RunsFrom field_text_start t at.to) spell at.runs)
-    go (in_piece qs rs p c front d back is spell own) = let all = subst (λ l. AreReadPlain l []) is live.reading.reads.fit in
-        let after : spelled (p ∷ rs) ++ [] ≡ c ∷ ((front ++ d ∷ back) ++ (spelled rs ++ [])) = append_assoc p.text (spelled rs) [] ∙ ap (λ t. t ++ (spelled rs ++ [])) own in
-        let fit = read_before _ qs c _ front (subst (AreReadPlain qs) after (AreReadIn-first _ qs (p ∷ rs) [] all)) in
-        let read = AreReadIn-second _ qs (p ∷ rs) [] all in let opens = opens_so p.class p.text _ c front d back own read.0 read.1 in
-        let (os, at) = first qs (p ∷ rs) (c ∷ front) is spell fit (λ none. false_from_ne_true _ (λ marks. let none : starts.Nothing ≡ starts.Open opens.mode = sym (start-mark c marks) ∙ opens.starts_as in absurd (cc))) in
-        let (k, grown) = front_grown p.class opens.mode front d back _ opens.ends in let to = at.to in
-        let end : FieldScanned = field_state to.outer (field_pieces to) to.openers (plain k) (c ∷ front) in let goes : Goes BelowLimit to (c ∷ front) end =
-        goes-begins BelowLimit to (field_state to.outer (field_pieces to) to.openers (plain opens.mode) (c ∷ [])) end c front at.stops
-        (ap (field_started to.outer (field_pieces to) to.openers c) opens.starts_as)
-        (λ bracket. absurd (both_ways _ (opens_no c (starts.Open opens.mode) opens.starts_as (λ (is : starts.Open opens.mode ≡ starts.Operator). cc)) bracket))
-        (grown_with to.outer (field_pieces to) to.openers opens.mode k (c ∷ []) front (later (spelled qs) (c ∷ front) (ap may_have_fields spell ∙ h)) grown) in
-        let runs = runs_both field_text_start (spelled qs) (c ∷ front) to end at.runs (steps_of BelowLimit to end (c ∷ front) goes, room_of to end (c ∷ front) goes) in
-        runs_live cs end (subst (λ t. RunsFrom field_text_start t end) spell runs)
+  go : CutAt live.pieces cs → IsLiveIn fielded_dialect cs
+  go (between qs rs is spell) = let fit = AreReadIn-first _ qs rs [] (subst (λ l. AreReadPlain l []) is live.reading.reads.fit) in
+      let (os, at) = first qs rs [] is (append-nil (spelled qs) ∙ spell) (read_nothing _ qs _ fit) (λ none. refl) in
+      runs_live cs at.to (subst (λ t. RunsFrom field_text_start t at.to) spell at.runs)
+  go (in_piece qs rs p c front d back is spell own) = let all = subst (λ l. AreReadPlain l []) is live.reading.reads.fit in
+      let after : spelled (p ∷ rs) ++ [] ≡ c ∷ ((front ++ d ∷ back) ++ (spelled rs ++ [])) = append_assoc p.text (spelled rs) [] ∙ ap (λ t. t ++ (spelled rs ++ [])) own in
+      let fit = read_before _ qs c _ front (subst (AreReadPlain qs) after (AreReadIn-first _ qs (p ∷ rs) [] all)) in
+      let read = AreReadIn-second _ qs (p ∷ rs) [] all in let opens = opens_so p.class p.text _ c front d back own read.0 read.1 in
+      let (os, at) = first qs (p ∷ rs) (c ∷ front) is spell fit (λ none. false_from_ne_true _ (λ marks. let none : starts.Nothing ≡ starts.Open opens.mode = sym (start-mark c marks) ∙ opens.starts_as in absurd (cc))) in
+      let (k, grown) = front_grown p.class opens.mode front d back _ opens.ends in let to = at.to in
+      let end : FieldScanned = field_state to.outer (field_pieces to) to.openers (plain k) (c ∷ front) in let goes : Goes BelowLimit to (c ∷ front) end =
+      goes-begins BelowLimit to (field_state to.outer (field_pieces to) to.openers (plain opens.mode) (c ∷ [])) end c front at.stops
+      (ap (field_started to.outer (field_pieces to) to.openers c) opens.starts_as)
+      (λ bracket. absurd (both_ways _ (opens_no c (starts.Open opens.mode) opens.starts_as (λ (is : starts.Open opens.mode ≡ starts.Operator). cc)) bracket))
+      (grown_with to.outer (field_pieces to) to.openers opens.mode k (c ∷ []) front (later (spelled qs) (c ∷ front) (ap may_have_fields spell ∙ h)) grown) in
+      let runs = runs_both field_text_start (spelled qs) (c ∷ front) to end at.runs (steps_of BelowLimit to end (c ∷ front) goes, room_of to end (c ∷ front) goes) in
+      runs_live cs end (subst (λ t. RunsFrom field_text_start t end) spell runs)

@@ -1,6 +1,5 @@
 -- A text with a prefix before a quote, where the dialects differ: rows worked out by hand.
-use Rattle.std.proofs.Common.{[], ◌∷◌, refl, inl, inr, arith}
-use Rattle.std.specs.Prelude.{codes}
+use Rattle.py_lines.proofs.Prelude.{[], ◌∷◌, refl, inl, inr, arith, codes}
 use Rattle.py_lines.specs.Piece.{string}
 use Rattle.py_lines.specs.PieceGrammar.{IsShortString}
 use Rattle.py_lines.specs.Balance as balance

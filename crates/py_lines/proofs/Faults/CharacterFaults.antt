@@ -1,8 +1,6 @@
 -- Where the machine with fields can't go on, or has no room to, the text dies: its state and the character tell the cause of the
 -- fault, and the fault's byte.
-use Rattle.std.proofs.Common.{⊎_elim, ◌≡◌, ℕ, Bool, true, false, not, ◌&&◌, ◌||◌, ◌==◌, List, [], ◌⊎◌, inl, inr, refl, sym, ap, ◌∙◌, subst, ◌+◌, None, Some, ◌∷◌, ◌++◌, length, append_assoc, append-nil, arith, ◌≤◌, nat_lt}
-use Rattle.std.specs.Prelude.{if◌then◌else◌, codes}
-use Rattle.std.proofs.lemmas.Bool.{both_ways, cond_both, and_from, or_parts, or_from, not_from_false, eq-eqb, and_parts, eqb-true, ltb-false}
+use Rattle.py_lines.proofs.Prelude.{⊎_elim, ◌≡◌, ℕ, Bool, true, false, not, ◌&&◌, ◌||◌, ◌==◌, List, [], ◌⊎◌, inl, inr, refl, sym, ap, ◌∙◌, subst, ◌+◌, None, Some, ◌∷◌, ◌++◌, length, append_assoc, append-nil, arith, ◌≤◌, nat_lt, if◌then◌else◌, codes, both_ways, cond_both, and_from, or_parts, or_from, not_from_false, eq-eqb, and_parts, eqb-true, ltb-false, append_cancel_right}
 use Rattle.py_lines.specs.Character.{is_quote, is_line_feed, is_return, is_break}
 use Rattle.py_lines.specs.FieldStrings.{Host, Place, literal, specification}
 use Rattle.py_lines.specs.Private.Machine.{Mode, Move, Holds, move_of, short_move, long_move, start_of}
@@ -15,7 +13,6 @@ use Rattle.py_lines.proofs.FieldSoundness.Lists.{not_specification}
 use Rattle.py_lines.proofs.FieldSoundness.HostSteps.{opened_moves, sound_at}
 use Rattle.py_lines.proofs.FieldMachine.WholeRuns.{stops_there}
 use Rattle.py_lines.proofs.FieldSoundness.LiveTexts.{quotes_at, goes_live, steps-append}
-use Rattle.std.proofs.lemmas.List.{append_cancel_right}
 use Rattle.py_lines.specs.Piece.{operator, Piece, begins_marked, spelled}
 use Rattle.py_lines.specs.Balance.{IsBalanced, is_opening, depth_after, depth_through, is_closing}
 use Rattle.py_lines.specs.Fields.{HasNoColon, fielded}
@@ -243,10 +240,10 @@ module _ (s : FieldScanned) (read : List ℕ) (c : ℕ) (after : List ℕ) (step
 
   brace_fits : is_deep ≡ true → (offset : ℕ) × OpensBraceTooDeep read (c ∷ []) offset
   brace_fits is = go s.mode (and_parts (is_waiting s.mode) (frames s == 200) is).0 no_grows sound where
-      go : (m : FieldMode) → is_waiting m ≡ true → ((n : FieldMode) → field_move m s.held c ≡ grows n → ⊥) → IsFieldSound two_hundred (field_state s.outer s.done s.openers m s.held) read → (offset : ℕ) × OpensBraceTooDeep read (c ∷ []) offset
-      go (body host literal named after_brace) waits none own =
-          brace_is_due two_hundred s.outer s.done s.openers host named s.held read own (c ∷ []) (not_second host named s.held c none) (eqb-true (frames s) 200 (and_parts (is_waiting s.mode) (frames s == 200) is).1)
-      go m waits none own = absurd (both_ways _ refl waits)
+    go : (m : FieldMode) → is_waiting m ≡ true → ((n : FieldMode) → field_move m s.held c ≡ grows n → ⊥) → IsFieldSound two_hundred (field_state s.outer s.done s.openers m s.held) read → (offset : ℕ) × OpensBraceTooDeep read (c ∷ []) offset
+    go (body host literal named after_brace) waits none own =
+        brace_is_due two_hundred s.outer s.done s.openers host named s.held read own (c ∷ []) (not_second host named s.held c none) (eqb-true (frames s) 200 (and_parts (is_waiting s.mode) (frames s == 200) is).1)
+    go m waits none own = absurd (both_ways _ refl waits)
 
   not_deep : is_deep ≡ false → is_waiting s.mode ≡ true → 200 ≤ frames s → ⊥
   not_deep other waits many = let full : frames s ≡ 200 = omega (arith, few, many) in both_ways _ other (and_from _ _ waits (eq-eqb (frames s) 200 full))
@@ -254,32 +251,32 @@ module _ (s : FieldScanned) (read : List ℕ) (c : ℕ) (after : List ℕ) (step
   why : is_deep ≡ false → Why s c
   unfolding has_room_at
   why shallow = go (field_move s.mode s.held c) refl stuck where
-      go : (v : FieldMove) → field_move s.mode s.held c ≡ v → IsStuck s c → Why s c
-      go (grows n) is at = absurd (no_grows n is)
-      go closes is at = absurd (goes_free s _ c closes is refl refl stuck)
-      go breaks is (inl none) = Why.begins s.outer (field_pieces s) s.openers (ap (field_moved s c) is) (inl none)
-      go breaks is (inr full) = Why.begins s.outer (field_pieces s) s.openers (ap (field_moved s c) is) (inr (begun_room (is_opening c) (frames s) (sym (ap (has_room_at (frames s) c) is) ∙ full) few))
-      go (begins_code h) is (inl none) = Why.begins (opened_level s h literal s.held ∷ s.outer) [] [] (ap (field_moved s c) is) (inl none)
-      go (begins_code h) is (inr full) =
-          let room = code_room (is_opening c) (frames s) (sym (ap (has_room_at (frames s) c) is) ∙ full) few (not_deep shallow (reason_is (begins_code h) is)) in
-          Why.begins (opened_level s h literal s.held ∷ s.outer) [] [] (ap (field_moved s c) is) (inr (room.0, omega (arith, room.1)))
-      go (opens_field h) is (inl none) = absurd (none_some (sym none ∙ ap (field_moved s c) is))
-      go (opens_field h) is (inr full) = Why.deep_field h is (omega (arith, few, ltb-false (frames s) 200 (sym (ap (has_room_at (frames s) c) is) ∙ full)))
-      go ends_field is at = Why.closes_field (reason_is ends_field is).0 (reason_is ends_field is).1
-      go refused is at = Why.refuses (reason_is refused is)
+    go : (v : FieldMove) → field_move s.mode s.held c ≡ v → IsStuck s c → Why s c
+    go (grows n) is at = absurd (no_grows n is)
+    go closes is at = absurd (goes_free s _ c closes is refl refl stuck)
+    go breaks is (inl none) = Why.begins s.outer (field_pieces s) s.openers (ap (field_moved s c) is) (inl none)
+    go breaks is (inr full) = Why.begins s.outer (field_pieces s) s.openers (ap (field_moved s c) is) (inr (begun_room (is_opening c) (frames s) (sym (ap (has_room_at (frames s) c) is) ∙ full) few))
+    go (begins_code h) is (inl none) = Why.begins (opened_level s h literal s.held ∷ s.outer) [] [] (ap (field_moved s c) is) (inl none)
+    go (begins_code h) is (inr full) =
+        let room = code_room (is_opening c) (frames s) (sym (ap (has_room_at (frames s) c) is) ∙ full) few (not_deep shallow (reason_is (begins_code h) is)) in
+        Why.begins (opened_level s h literal s.held ∷ s.outer) [] [] (ap (field_moved s c) is) (inr (room.0, omega (arith, room.1)))
+    go (opens_field h) is (inl none) = absurd (none_some (sym none ∙ ap (field_moved s c) is))
+    go (opens_field h) is (inr full) = Why.deep_field h is (omega (arith, few, ltb-false (frames s) 200 (sym (ap (has_room_at (frames s) c) is) ∙ full)))
+    go ends_field is at = Why.closes_field (reason_is ends_field is).0 (reason_is ends_field is).1
+    go refused is at = Why.refuses (reason_is refused is)
 
   -- a line end is refused where a short string is open, or a specification of one
   pub short_here : is_deep ≡ false → is_break c ≡ true → IsShortHere s.mode
   unfolding is_opening is_closing
   short_here shallow break = by (why shallow) where
-      by : Why s c → IsShortHere s.mode
-      by (Why.begins outer ps os step (inl none)) = absurd (break_starts outer ps os c break (sym step ∙ none))
-      by (Why.begins outer ps os step (inr (opens, full))) = absurd (both_ways _ (break-not-others c break).0 opens)
-      by (Why.deep_field h is full) = absurd (both_ways _ (break-not-others c break).0 (ap is_opening (reason_is (opens_field h) is).0))
-      by (Why.closes_field brace at) = absurd (both_ways _ (break-not-others c break).1 (ap is_closing brace))
-      by (Why.refuses (inl (at, short))) = short
-      by (Why.refuses (inr (inl (slash, other)))) = absurd (both_ways _ other break)
-      by (Why.refuses (inr (inr (same, quotes)))) = absurd (both_ways _ (break-not-others c break).2 quotes)
+    by : Why s c → IsShortHere s.mode
+    by (Why.begins outer ps os step (inl none)) = absurd (break_starts outer ps os c break (sym step ∙ none))
+    by (Why.begins outer ps os step (inr (opens, full))) = absurd (both_ways _ (break-not-others c break).0 opens)
+    by (Why.deep_field h is full) = absurd (both_ways _ (break-not-others c break).0 (ap is_opening (reason_is (opens_field h) is).0))
+    by (Why.closes_field brace at) = absurd (both_ways _ (break-not-others c break).1 (ap is_closing brace))
+    by (Why.refuses (inl (at, short))) = short
+    by (Why.refuses (inr (inl (slash, other)))) = absurd (both_ways _ other break)
+    by (Why.refuses (inr (inr (same, quotes)))) = absurd (both_ways _ (break-not-others c break).2 quotes)
 
   -- a line end that is refused
   break_fits : is_deep ≡ false → is_break c ≡ true → (offset : ℕ) × BreaksString read c offset
@@ -302,16 +299,16 @@ module _ (s : FieldScanned) (read : List ℕ) (c : ℕ) (after : List ℕ) (step
   opening_fits : is_deep ≡ false → is_break c ≡ false → after_open_backslash s.mode ≡ false → is_closing c ≡ false → is_opening c ≡ true → (offset : ℕ) × OpensTooDeep read c offset
   unfolding is_closing is_opening is_quote
   opening_fits shallow no_break no_slash no_closing opens = by (why shallow) where
-      by : Why s c → (offset : ℕ) × OpensTooDeep read c offset
-      by (Why.begins outer ps os step (inl none)) = absurd (none_some (sym none ∙ step ∙ started s read c sound steps outer ps os opens))
-      by (Why.begins outer ps os step (inr (also, full))) =
-          (byte_len read, record { opens = opens; deep = inl (bracket_at s read c sound steps outer ps os opens (step ∙ started s read c sound steps outer ps os opens) full); place = refl })
-      by (Why.deep_field h is full) =
-          (byte_len read, record { opens = opens; deep = inr ((reason_is (opens_field h) is).0, opens_due s.mode h (reason_is (opens_field h) is).1 is sound full); place = refl })
-      by (Why.closes_field brace at) = absurd (both_ways _ no_closing (ap is_closing brace))
-      by (Why.refuses (inl (break, short))) = absurd (both_ways _ no_break break)
-      by (Why.refuses (inr (inl (slash, other)))) = absurd (both_ways _ no_slash slash)
-      by (Why.refuses (inr (inr (same, quotes)))) = absurd (both_ways _ (none_of is_quote (codes "([{") c refl opens) quotes)
+    by : Why s c → (offset : ℕ) × OpensTooDeep read c offset
+    by (Why.begins outer ps os step (inl none)) = absurd (none_some (sym none ∙ step ∙ started s read c sound steps outer ps os opens))
+    by (Why.begins outer ps os step (inr (also, full))) =
+        (byte_len read, record { opens = opens; deep = inl (bracket_at s read c sound steps outer ps os opens (step ∙ started s read c sound steps outer ps os opens) full); place = refl })
+    by (Why.deep_field h is full) =
+        (byte_len read, record { opens = opens; deep = inr ((reason_is (opens_field h) is).0, opens_due s.mode h (reason_is (opens_field h) is).1 is sound full); place = refl })
+    by (Why.closes_field brace at) = absurd (both_ways _ no_closing (ap is_closing brace))
+    by (Why.refuses (inl (break, short))) = absurd (both_ways _ no_break break)
+    by (Why.refuses (inr (inl (slash, other)))) = absurd (both_ways _ no_slash slash)
+    by (Why.refuses (inr (inr (same, quotes)))) = absurd (both_ways _ (none_of is_quote (codes "([{") c refl opens) quotes)
 
   -- what follows a backslash
   join_fits : after_open_backslash s.mode ≡ true → (offset : ℕ) × Explains breaks_join read c offset
@@ -321,17 +318,17 @@ module _ (s : FieldScanned) (read : List ℕ) (c : ℕ) (after : List ℕ) (step
   -- the quote of the string of a specification
   end_back : (offset : ℕ) → Explains ends_specification read c offset → quotes_specification s.mode c ≡ true
   end_back offset fits = quoted s.mode (specification_mode s read c sound steps fits.host fits.start fits.inside) where
-      quoted : (m : FieldMode) → InSpecificationOf fits.host m → quotes_specification m c ≡ true
-      quoted (body host specification named at) is = eq-eqb c host.quote (fits.quotes ∙ ap (λ (h : Host). h.quote) (sym is.0))
-      quoted m is = absurd is
+    quoted : (m : FieldMode) → InSpecificationOf fits.host m → quotes_specification m c ≡ true
+    quoted (body host specification named at) is = eq-eqb c host.quote (fits.quotes ∙ ap (λ (h : Host). h.quote) (sym is.0))
+    quoted m is = absurd is
 
   end_fits : quotes_specification s.mode c ≡ true → (offset : ℕ) × Explains ends_specification read c offset
   end_fits is = go s.mode is sound where
-      go : (m : FieldMode) → quotes_specification m c ≡ true → IsFieldSound two_hundred (field_state s.outer s.done s.openers m s.held) read → (offset : ℕ) × Explains ends_specification read c offset
-      go (body host specification named at) same own =
-          let found = specification_is_open two_hundred s.outer s.done s.openers host named at s.held read own (no_brace_at s.outer (frames s) s.held host named at own.mode) in
-          (byte_len found.0, record { host = host; start = found.0; inside = found.1; quotes = eqb-true c host.quote same; place = refl })
-      go m same own = absurd (both_ways _ refl same)
+    go : (m : FieldMode) → quotes_specification m c ≡ true → IsFieldSound two_hundred (field_state s.outer s.done s.openers m s.held) read → (offset : ℕ) × Explains ends_specification read c offset
+    go (body host specification named at) same own =
+        let found = specification_is_open two_hundred s.outer s.done s.openers host named at s.held read own (no_brace_at s.outer (frames s) s.held host named at own.mode) in
+        (byte_len found.0, record { host = host; start = found.0; inside = found.1; quotes = eqb-true c host.quote same; place = refl })
+    go m same own = absurd (both_ways _ refl same)
 
   -- a fault whose cause fits, where none before it does
   abbrev HasFault : Cause → Type 0

@@ -1,9 +1,6 @@
 -- What is open where a text with fields ends, and where it starts, are told by the state of the machine there. So a live text that
 -- has no reading has a fault at its end, and one alone.
-use Rattle.std.specs.Prelude.{if◌then◌else◌}
-use Rattle.std.proofs.Math.Utf8.{encode}
-use Rattle.std.proofs.Common.{◌≡◌, ℕ, ◌+◌, Bool, true, false, not, ◌||◌, arith, Option, None, Some, List, [], ◌∷◌, ◌++◌, refl, sym, ap, ◌∙◌, subst, ◌<◌, ◌⊎◌, inl, inr, length, nat_lt, append_assoc, append-nil}
-use Rattle.std.proofs.lemmas.Bool.{both_ways, not-true, cond_both}
+use Rattle.py_lines.proofs.Prelude.{if◌then◌else◌, encode, ◌≡◌, ℕ, ◌+◌, Bool, true, false, not, ◌||◌, arith, Option, None, Some, List, [], ◌∷◌, ◌++◌, refl, sym, ap, ◌∙◌, subst, ◌<◌, ◌⊎◌, inl, inr, length, nat_lt, append_assoc, append-nil, both_ways, not-true, cond_both}
 use Rattle.py_lines.specs.Piece.{Class, operator, Piece, spelled, string}
 use Rattle.py_lines.specs.LogicalLine.{byte_len, first_or_zero}
 use Rattle.py_lines.specs.Balance.{is_opening, is_operator_that, is_opener, IsBalanced}
@@ -52,11 +49,11 @@ IsPlaced what s offset = StandsThere s what offset
 -- a bracket is open after one that no bracket closes
 some_after : (outer inner : List Piece) (a : Piece) (after : List ℕ) → is_opener a ≡ true → IsBalanced inner → openers_through (Some []) (outer ++ a ∷ inner) ≡ Some after → (o : ℕ) × (os : List ℕ) × (after ≡ o ∷ os)
 some_after outer inner a after opens within is = go (openers_through (Some []) outer) (sym (openers_through-append (Some []) outer (a ∷ inner)) ∙ is) where
-    go : (o : Option (List ℕ)) → openers_through o (a ∷ inner) ≡ Some after → (c : ℕ) × (os : List ℕ) × (after ≡ c ∷ os)
-    go None is = absurd (none_some is)
-    go (Some os) is = let c = first_or_zero a.text in
-        let same : Some (c ∷ os) ≡ Some after = sym (balanced_openers inner within (c ∷ os)) ∙ sym (ap (λ o. openers_through o inner) (opener_pushes os a.class a.text opens)) ∙ is in
-        (c, os, cc)
+  go : (o : Option (List ℕ)) → openers_through o (a ∷ inner) ≡ Some after → (c : ℕ) × (os : List ℕ) × (after ≡ c ∷ os)
+  go None is = absurd (none_some is)
+  go (Some os) is = let c = first_or_zero a.text in
+      let same : Some (c ∷ os) ≡ Some after = sym (balanced_openers inner within (c ∷ os)) ∙ sym (ap (λ o. openers_through o inner) (opener_pushes os a.class a.text opens)) ∙ is in
+      (c, os, cc)
 
 -- so the innermost open bracket is one
 unclosed : (outer inner : List Piece) (a : Piece) → IsBalanced (outer ++ a ∷ inner) → is_opener a ≡ true → IsBalanced inner → ⊥
@@ -124,10 +121,10 @@ same_state characters s t one two = cc
 
 opener_text : (p : Piece) → is_opener p ≡ true → (c : ℕ) × (cs : List ℕ) × (p.text ≡ c ∷ cs)
 opener_text p h = go p.class p.text h where
-    go : (class : Class) (text : List ℕ) → is_operator_that is_opening class text ≡ true → (c : ℕ) × (cs : List ℕ) × (text ≡ c ∷ cs)
-    go operator [] is = absurd (both_ways _ refl is)
-    go operator (c ∷ cs) is = (c, cs, refl)
-    go other text is = absurd (both_ways _ refl is)
+  go : (class : Class) (text : List ℕ) → is_operator_that is_opening class text ≡ true → (c : ℕ) × (cs : List ℕ) × (text ≡ c ∷ cs)
+  go operator [] is = absurd (both_ways _ refl is)
+  go operator (c ∷ cs) is = (c, cs, refl)
+  go other text is = absurd (both_ways _ refl is)
 
 pub bracket_back : (characters start : List ℕ) (s : FieldScanned) → InOpenBracket characters start → field_steps_from (Some field_text_start) characters ≡ Some s → (unfinished_at s ≡ Some open_bracket) × IsPlaced open_bracket s (byte_len start)
 bracket_back characters start s is steps =
@@ -160,9 +157,9 @@ open_now characters s steps room = open_in s.outer s.done s.openers s.mode s.hel
 -- a live text is read, or has a fault at its end
 pub read_or_open : (characters : List ℕ) (s : FieldScanned) → field_steps_from (Some field_text_start) characters ≡ Some s → have_room (Some field_text_start) characters ≡ true → IsBalancedReading (field_pieces s) characters ⊎ ((kind : FaultKind) × (offset : ℕ) × IsEndFault kind characters [] offset)
 read_or_open characters s steps room = go (unfinished_at s) (open_now characters s steps room) where
-    go : (o : Option Unfinished) → EndsSo s characters o → IsBalancedReading (field_pieces s) characters ⊎ ((kind : FaultKind) × (offset : ℕ) × IsEndFault kind characters [] offset)
-    go None final = inl (final_is_reading characters s steps room final)
-    go (Some what) at = inr (kind_of_unfinished what, at.0, record { unfinished = what; is = refl; whole = refl; live = goes_live characters s steps room; ends_in = at.1 })
+  go : (o : Option Unfinished) → EndsSo s characters o → IsBalancedReading (field_pieces s) characters ⊎ ((kind : FaultKind) × (offset : ℕ) × IsEndFault kind characters [] offset)
+  go None final = inl (final_is_reading characters s steps room final)
+  go (Some what) at = inr (kind_of_unfinished what, at.0, record { unfinished = what; is = refl; whole = refl; live = goes_live characters s steps room; ends_in = at.1 })
 
 code_inside : (outer : List Level) (openers : List ℕ) → 0 < levels_open outer → openers ≡ [] → unfinished_code outer openers ≡ Some open_inside
 code_inside [] openers deep none = absurd (omega arith)
@@ -184,13 +181,13 @@ module _ (characters : List ℕ) (s : FieldScanned) (steps : field_steps_from (S
     rw ((code_unfinished s.outer s.openers s.mode may).1) (ap (λ n. n + 1) place ∙ brace_more start _ (sym is)),
   )
   code_named start offset (at_brace host mode_is is) place other = go s.mode mode_is sound where
-      go : (m : FieldMode) → m ≡ body host literal false after_brace → IsFieldSound two_hundred (field_state s.outer s.done s.openers m s.held) characters → (unfinished_in s.outer s.openers m ≡ Some open_inside) × (offset + 1 ≡ (if is_waiting m then here s else byte_len (before literal s.outer)))
-      go (body own literal named after_brace) same here = let depth = length s.openers + levels_open s.outer in (
-        cond_both (nat_lt depth 200) open_inside open_brace (λ (w : Unfinished). (at : ℕ) × IsOpenAtEnd w characters at → Some w ≡ Some open_inside) (λ less due. refl) (λ full due. absurd (other due.0 due.1))
-            (brace_open s.outer s.done s.openers own named s.held characters here (λ at due. absurd (other at due))),
-        ap (λ n. n + 1) place ∙ brace_more start _ (sym is ∙ append_assoc (before literal s.outer) (spelled s.done) s.held ∙ here.spell) ∙ sym text_is,
-      )
-      go m same here = absurd (both_ways _ refl (ap is_waiting same))
+    go : (m : FieldMode) → m ≡ body host literal false after_brace → IsFieldSound two_hundred (field_state s.outer s.done s.openers m s.held) characters → (unfinished_in s.outer s.openers m ≡ Some open_inside) × (offset + 1 ≡ (if is_waiting m then here s else byte_len (before literal s.outer)))
+    go (body own literal named after_brace) same here = let depth = length s.openers + levels_open s.outer in (
+      cond_both (nat_lt depth 200) open_inside open_brace (λ (w : Unfinished). (at : ℕ) × IsOpenAtEnd w characters at → Some w ≡ Some open_inside) (λ less due. refl) (λ full due. absurd (other due.0 due.1))
+          (brace_open s.outer s.done s.openers own named s.held characters here (λ at due. absurd (other at due))),
+      ap (λ n. n + 1) place ∙ brace_more start _ (sym is ∙ append_assoc (before literal s.outer) (spelled s.done) s.held ∙ here.spell) ∙ sym text_is,
+    )
+    go m same here = absurd (both_ways _ refl (ap is_waiting same))
 
   pub specification_named : (host : Host) (start : List ℕ) (offset : ℕ) → SpecificationAt host start s → offset ≡ byte_len start → IsNamed open_inside offset
   specification_named host start offset at place = let inside = specification_says s.outer s.openers host s.mode at.mode_is in

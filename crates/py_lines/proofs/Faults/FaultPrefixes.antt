@@ -1,6 +1,5 @@
 -- The place of a fault of a text with fields stands after some characters of the text.
-use Rattle.std.proofs.Common.{⊎_elim, ◌≡◌, ℕ, List, [], ◌∷◌, ◌++◌, sym, ap, ◌∙◌, inl, inr, append_assoc, append-nil}
-use Rattle.std.specs.Str.{byte}
+use Rattle.py_lines.proofs.Prelude.{⊎_elim, ◌≡◌, ℕ, List, [], ◌∷◌, ◌++◌, sym, ap, ◌∙◌, inl, inr, append_assoc, append-nil, byte}
 use Rattle.py_lines.specs.Piece.{spelled}
 use Rattle.py_lines.specs.PieceGrammar.{joined}
 use Rattle.py_lines.specs.Faults.{Cause, brace_too_deep, breaks_string, breaks_join, ends_specification, begins_nothing, kind_of_cause, Explains, kind_of_unfinished, IsUndecodable, Unfinished, open_brace, open_bracket, open_inside, IsOpenAtEnd, IsFaultAt, at_character, at_bytes, at_end}

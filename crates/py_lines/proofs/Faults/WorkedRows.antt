@@ -1,6 +1,5 @@
 -- What is open where a text with fields ends: rows worked out by hand, on the machine's state.
-use Rattle.std.proofs.Common.{◌≡◌, ℕ, Option, None, Some, List, [], ◌∷◌, map, refl}
-use Rattle.std.specs.Prelude.{codes}
+use Rattle.py_lines.proofs.Prelude.{◌≡◌, ℕ, Option, None, Some, List, [], ◌∷◌, map, refl, codes}
 use Rattle.py_lines.specs.Faults.{Unfinished, open_short, open_long, open_join, open_bracket, open_inside}
 use Rattle.py_lines.specs.Private.FieldMachine.{FieldScanned, field_text_start, field_steps_from}
 use Rattle.py_lines.proofs.FieldMachine.WorkedRows.{tested}

@@ -1,9 +1,5 @@
 -- Which faults the known bytes decide: where the machine refuses a character, where no bytes complete one, and where the text ends.
-use Rattle.std.proofs.Common.{◌≡◌, ℕ, ◌+◌, ◌<◌, ◌≤◌, false, true, not, ◌&&◌, Some, None, List, [], ◌∷◌, ◌++◌, length, take, drop, refl, sym, ap, ◌∙◌, subst, ⊎_elim, inl, inr, append_assoc, append-nil, arith, length-append, encode_utf8, encode_utf8_all, take-append-drop, take_all}
-use Rattle.std.specs.Char.{IsScalar}
-use Rattle.std.specs.Str.{StartsWithNoChar, all_scalars}
-use Rattle.std.proofs.lemmas.Bool.{and_from, both_ways, cases_Bool, false_from_ne_true}
-use Rattle.std.proofs.lemmas.Str.{length-le-encodes}
+use Rattle.py_lines.proofs.Prelude.{◌≡◌, ℕ, ◌+◌, ◌<◌, ◌≤◌, false, true, not, ◌&&◌, Some, None, List, [], ◌∷◌, ◌++◌, length, take, drop, refl, sym, ap, ◌∙◌, subst, ⊎_elim, inl, inr, append_assoc, append-nil, arith, length-append, encode_utf8, encode_utf8_all, take-append-drop, take_all, IsScalar, StartsWithNoChar, all_scalars, and_from, both_ways, cases_Bool, false_from_ne_true, length-le-encodes}
 use Rattle.py_lines.specs.Character.{is_line_feed}
 use Rattle.py_lines.specs.Piece.{spelled}
 use Rattle.py_lines.specs.Fields.{AreReadBefore}
@@ -83,14 +79,14 @@ module _ (text : List ℕ) (state : LineState) (lines : List LogicalLine) (read 
     module _ (some : 0 < length rest) (fault : Fault) (at : IsFaultAfter state FaultKind.BadUtf8 (byte_len read) (encode_utf8_all read) fault) where
       pub refused_bytes : StartsWithNoChar rest → IsLexedToFault (of.bytes text state.place state.line lines read rest k) lines fault
       refused_bytes bad = go rest refl where
-          go : (left : List ℕ) → rest ≡ left → IsLexedToFault (of.bytes text state.place state.line lines read rest k) lines fault
-          go [] none = absurd (omega (arith, some, ap length none))
-          go (d ∷ ds) is = let known = of.bytes text state.place state.line lines read rest k in
-              let decodes = subst (λ t. Decodes known (spelled k.base ++ read) t) is (of.decodes text state.place state.line lines read rest k bad) in
-              subst (λ l. IsLexedToFault known l fault) (sym k.cut)
-              (refused_at_bytes known (spelled k.base ++ read) d ds joined_here.state k.base fault decodes joined_here.runs prefix_of at.is
-              (omega (arith, at.place, k.here, byte_len-append (spelled k.base) read))
-              (line_after FaultKind.BadUtf8 (byte_len read) fault (record { prefix = read; later = []; split = append-nil read; size = refl }) at))
+        go : (left : List ℕ) → rest ≡ left → IsLexedToFault (of.bytes text state.place state.line lines read rest k) lines fault
+        go [] none = absurd (omega (arith, some, ap length none))
+        go (d ∷ ds) is = let known = of.bytes text state.place state.line lines read rest k in
+            let decodes = subst (λ t. Decodes known (spelled k.base ++ read) t) is (of.decodes text state.place state.line lines read rest k bad) in
+            subst (λ l. IsLexedToFault known l fault) (sym k.cut)
+            (refused_at_bytes known (spelled k.base ++ read) d ds joined_here.state k.base fault decodes joined_here.runs prefix_of at.is
+            (omega (arith, at.place, k.here, byte_len-append (spelled k.base) read))
+            (line_after FaultKind.BadUtf8 (byte_len read) fault (record { prefix = read; later = []; split = append-nil read; size = refl }) at))
 
       -- no bytes complete them
       pub decided_bytes : IsHopeless rest → Decides (of.bytes text state.place state.line lines read rest k) fault × IsLexed (of.bytes text state.place state.line lines read rest k) lines (Some fault)

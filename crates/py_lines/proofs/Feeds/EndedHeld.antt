@@ -1,6 +1,5 @@
 -- The text ends with what is held: its last line, or the fault that stands there.
-use Rattle.std.proofs.Common.{◌≡◌, ℕ, ◌+◌, ◌<◌, ⊎_elim, true, None, Some, Ok, Err, List, [], ◌∷◌, ◌++◌, length, refl, sym, ap, ◌∙◌, subst, append-nil, arith, Option, drop, take, length-drop, encode_utf8_all, length-append}
-use Rattle.std.proofs.lemmas.List.{length-take-le, take-append-drop, take_all}
+use Rattle.py_lines.proofs.Prelude.{◌≡◌, ℕ, ◌+◌, ◌<◌, ⊎_elim, true, None, Some, Ok, Err, List, [], ◌∷◌, ◌++◌, length, refl, sym, ap, ◌∙◌, subst, append-nil, arith, Option, drop, take, length-drop, encode_utf8_all, length-append, length-take-le, take-append-drop, take_all}
 use Rattle.py_lines.specs.LogicalLine.{LogicalLine, byte_len, line_ends}
 use Rattle.py_lines.specs.Lexed.{IsLexed}
 use Rattle.py_lines.specs.ScannerState.{IsScanning, fed_of, EndsFaulty, EndsScan, Finishes, ScannerState}

@@ -1,10 +1,8 @@
 -- Bytes of a piece were taken: what they settle and decide, where they were scanned, and what the call that feeds it answers.
-use Rattle.std.proofs.Common.{◌≡◌, ℕ, ◌+◌, ◌<◌, false, None, Some, List, [], ◌∷◌, ◌++◌, length, take, sym, ap, ◌∙◌, subst, ⊎_elim, inl, inr, append-nil, arith, length-append, encode_utf8_all, ◌-◌, ◌≤◌, ◌^◌, Option, Err, drop, refl, append_assoc, length-drop, ◌⊎◌, true, is_some}
-use Rattle.std.proofs.lemmas.Bool.{cases_lt}
+use Rattle.py_lines.proofs.Prelude.{◌≡◌, ℕ, ◌+◌, ◌<◌, false, None, Some, List, [], ◌∷◌, ◌++◌, length, take, sym, ap, ◌∙◌, subst, ⊎_elim, inl, inr, append-nil, arith, length-append, encode_utf8_all, ◌-◌, ◌≤◌, ◌^◌, Option, Err, drop, refl, append_assoc, length-drop, ◌⊎◌, true, is_some, cases_lt, all_scalars, length-take-le, nil_from_length, take-append-drop, take_all, take-add}
 use Rattle.py_lines.specs.Character.{is_return}
 use Rattle.py_lines.specs.Piece.{ends, spelled}
 use Rattle.py_lines.specs.LogicalLine.{LogicalLine, line_of}
-use Rattle.std.specs.Str.{all_scalars}
 use Rattle.py_lines.specs.Lexed.{IsLexed}
 use Rattle.py_lines.specs.Settled.{IsSettled, Decides, DecideNone}
 use Rattle.py_lines.specs.ScannerState.{GoesOnWith, EndsExactly, HoldsReady, ScannerState, IsScanning, TakesBytes, WhereFed, fed_of, ready_lines, Feeds, FeedsNaming, LacksBoth, MeetsFault, Releases, TakesNaming}
@@ -20,8 +18,6 @@ use Rattle.py_lines.proofs.Feeds.DecidedSoFar.{undecided}
 use Rattle.py_lines.proofs.Feeds.ReadyLines.{ended_alone, line_alone, pieces_alone, ended_holds, held_within, line_stands, none_read, none_ready, some_is, text_stands}
 use Rattle.py_lines.proofs.Feeds.LastBytes.{exactly_encoded}
 use Rattle.py_lines.proofs.LineScan.LineSteps.{follows_whole}
-use Rattle.std.proofs.lemmas.List.{length-take-le, nil_from_length, take-append-drop, take_all}
-use Rattle.std.proofs.Math.Seq.{take-add}
 use Rattle.py_lines.proofs.Feeds.OpenLine.{fails_later, holds_on, room_more, left_none, dropped, runs_out}
 use Rattle.py_lines.proofs.Feeds.Released.{released_sound, releases}
 

@@ -1,10 +1,6 @@
 -- What stays held where a line is ready.
 use mir.Val.{bool_byte}
-use Rattle.std.proofs.Common.{Bool, ◌≡◌, ℕ, zero, suc, ◌+◌, ◌-◌, ◌==◌, ◌<◌, ◌≤◌, ◌⊎◌, true, false, None, Some, Ok, Err, Result, List, ◌++◌, length, take, drop, refl, sym, ap, ◌∙◌, subst, ⊎_elim, inl, inr, arith, length-append, length-drop, length-take, encode_utf8_all, max, slice_index, min, take_all}
-use Rattle.std.specs.Global.{Vec}
-use Rattle.std.proofs.lemmas.Bool.{cases_lt}
-use Rattle.std.proofs.lemmas.List.{length-take-le, take-take, take_min}
-use Rattle.std.proofs.Math.Seq.{take-add, take-append-add, take-append_seam, drop-append_seam}
+use Rattle.py_lines.proofs.Prelude.{Bool, ◌≡◌, ℕ, zero, suc, ◌+◌, ◌-◌, ◌==◌, ◌<◌, ◌≤◌, ◌⊎◌, true, false, None, Some, Ok, Err, Result, List, ◌++◌, length, take, drop, refl, sym, ap, ◌∙◌, subst, ⊎_elim, inl, inr, arith, length-append, length-drop, length-take, encode_utf8_all, max, slice_index, min, take_all, Vec, cases_lt, length-take-le, take-take, take_min, take-add, take-append-add, take-append_seam, drop-append_seam}
 use Rattle.py_lines.proofs.Feeds.OpenLine.{fails_later, holds_on}
 use Rattle.py_lines.specs.Character.{is_return}
 use Rattle.py_lines.specs.Piece.{ends}

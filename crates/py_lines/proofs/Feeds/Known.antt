@@ -1,9 +1,5 @@
 -- The bytes of a text that are known: those of the lines given, characters after them, and a part of a character.
-use Rattle.std.proofs.Common.{◌≡◌, ℕ, ◌+◌, ◌<◌, true, List, [], ◌∷◌, ◌++◌, length, take, drop, refl, sym, ap, ◌∙◌, subst, ⊎_elim, append_assoc, arith, length-append, encode_utf8_all}
-use Rattle.std.specs.Str.{all_scalars, StartsWithNoChar}
-use Rattle.std.proofs.lemmas.List.{drop-drop, drop-take, length-take, take-append-drop, take-take}
-use Rattle.std.proofs.lemmas.Str.{encodes-append}
-use Rattle.std.proofs.Math.Seq.{take-add, take-append_seam, drop-append_seam}
+use Rattle.py_lines.proofs.Prelude.{◌≡◌, ℕ, ◌+◌, ◌<◌, true, List, [], ◌∷◌, ◌++◌, length, take, drop, refl, sym, ap, ◌∙◌, subst, ⊎_elim, append_assoc, arith, length-append, encode_utf8_all, all_scalars, StartsWithNoChar, drop-drop, drop-take, length-take, take-append-drop, take-take, encodes-append, take-add, take-append_seam, drop-append_seam}
 use Rattle.py_lines.specs.Piece.{Piece, spelled}
 use Rattle.py_lines.specs.Balance.{IsBalanced}
 use Rattle.py_lines.specs.Fields.{fielded, AreReadBefore, IsShallow}

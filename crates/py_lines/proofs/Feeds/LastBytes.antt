@@ -1,11 +1,6 @@
 -- The last byte of characters: it is CR just where their last character is.
 use mir.Val.{bool_byte}
-use Rattle.std.proofs.Common.{take-suc, ◌≡◌, ℕ, suc, ◌-◌, ◌<◌, ◌≤◌, Bool, true, false, List, [], ◌∷◌, ◌++◌, ◌==◌, eqb, length, take, slice_index, refl, sym, ap, ◌∙◌, ⊎_elim, inl, inr, append-nil, arith, encode_utf8, encode_utf8_all}
-use Rattle.std.specs.List.{ends_with}
-use Rattle.std.proofs.Math.Bool.{or-false}
-use Rattle.std.proofs.lemmas.Bool.Decides.{nat_tests}
-use Rattle.std.proofs.lemmas.Bool.{both_ways, cases_lt, false_from_ne_true}
-use Rattle.std.proofs.lemmas.Str.{length-le-encodes}
+use Rattle.py_lines.proofs.Prelude.{take-suc, ◌≡◌, ℕ, suc, ◌-◌, ◌<◌, ◌≤◌, Bool, true, false, List, [], ◌∷◌, ◌++◌, ◌==◌, eqb, length, take, slice_index, refl, sym, ap, ◌∙◌, ⊎_elim, inl, inr, append-nil, arith, encode_utf8, encode_utf8_all, ends_with, or-false, nat_tests, both_ways, cases_lt, false_from_ne_true, length-le-encodes}
 use Rattle.py_lines.specs.Character.{is_return}
 use Rattle.py_lines.specs.Piece.{ends}
 use Rattle.py_lines.specs.ScannerState.{EndsExactly}
@@ -22,10 +17,10 @@ no_return c wide = false_from_ne_true _ (λ returns. omega (arith, wide, return_
 -- the last byte of a character
 ends-encode : (c : ℕ) → ends is_return (encode_utf8 c) ≡ is_return c
 ends-encode c = ⊎_elim (λ narrow. ap (ends is_return) (one c narrow)) (λ wide. last_byte wide ∙ sym (no_return c wide)) (cases_lt c 128) where
-    last_byte : 128 ≤ c → ends is_return (encode_utf8 c) ≡ false
-    last_byte wide = ⊎_elim (λ short. ap (ends is_return) (two c wide short) ∙ no_return _ (omega arith))
-        (λ long. ⊎_elim (λ short. ap (ends is_return) (three c long short) ∙ no_return _ (omega arith))
-        (λ longer. ap (ends is_return) (four c longer) ∙ no_return _ (omega arith)) (cases_lt c 65536)) (cases_lt c 2048)
+  last_byte : 128 ≤ c → ends is_return (encode_utf8 c) ≡ false
+  last_byte wide = ⊎_elim (λ short. ap (ends is_return) (two c wide short) ∙ no_return _ (omega arith))
+      (λ long. ⊎_elim (λ short. ap (ends is_return) (three c long short) ∙ no_return _ (omega arith))
+      (λ longer. ap (ends is_return) (four c longer) ∙ no_return _ (omega arith)) (cases_lt c 65536)) (cases_lt c 2048)
 
 -- the last of some characters is the last of all
 pub ends-later : (p : ℕ → Bool) (first later : List ℕ) → (later ≡ [] → ⊥) → ends p (first ++ later) ≡ ends p later

@@ -1,7 +1,5 @@
 -- What is held of a line that is open, what a scan of it comes to, and what is left where the scan stops before bytes that do not tell.
-use Rattle.std.proofs.Common.{◌≡◌, ℕ, ◌+◌, ◌<◌, true, false, None, Some, List, [], ◌∷◌, ◌++◌, length, take, drop, refl, sym, ap, ◌∙◌, subst, arith, append-nil, length-append, encode_utf8_all, IsUtf8, length-take-le, take-append-drop, ◌-◌, ◌≤◌, Bool, append_assoc, length-drop, ◌^◌, Option, Err, ⊎_elim, ◌==◌}
-use Rattle.std.specs.Str.{StartsWithNoChar}
-use Rattle.std.proofs.lemmas.Bool.{both_ways, eqb-true, cases_lt}
+use Rattle.py_lines.proofs.Prelude.{◌≡◌, ℕ, ◌+◌, ◌<◌, true, false, None, Some, List, [], ◌∷◌, ◌++◌, length, take, drop, refl, sym, ap, ◌∙◌, subst, arith, append-nil, length-append, encode_utf8_all, IsUtf8, length-take-le, take-append-drop, ◌-◌, ◌≤◌, Bool, append_assoc, length-drop, ◌^◌, Option, Err, ⊎_elim, ◌==◌, StartsWithNoChar, both_ways, eqb-true, cases_lt, Vec, vec_len, encodes-append, nil_from_length, take_all, take-append_seam, drop-append_seam}
 use Rattle.py_lines.specs.LogicalLine.{byte_len}
 use Rattle.py_lines.specs.Settled.{IsHopeless}
 use Rattle.py_lines.specs.Private.FieldMachine.{FieldScanned}
@@ -10,11 +8,6 @@ use Rattle.py_lines.specs.Private.LineScan.{IsLeft, begins_line, Reached}
 use Rattle.py_lines.specs.Private.Feed.{Mode, Scan, IsHeldOpen, IsOpen, StopsHeld, Stop, Feed, DropsLine, FailsAt, FailsIn, HasRoom, Holds, HoldsAt, IsDecidedAt, IsSoundFeed, IsUnchanged, Meets, StandsSo, WhereHeld, Fault, FaultKind, LexError, ready_of, scanning_of, LineState, LineFault}
 use Rattle.py_lines.proofs.Text.Utf8Prefixes.{one_decoding}
 use Rattle.py_lines.proofs.LineScan.LineSteps.{rests_end, begun_reached}
-use Rattle.std.specs.Global.{Vec}
-use Rattle.std.specs.Vec.{vec_len}
-use Rattle.std.proofs.lemmas.Str.{encodes-append}
-use Rattle.std.proofs.lemmas.List.{nil_from_length, take_all}
-use Rattle.std.proofs.Math.Seq.{take-append_seam, drop-append_seam}
 use Rattle.py_lines.specs.Piece.{begins}
 use Rattle.py_lines.specs.Private.LineState.{first_mode, BeginsAnew, IsFaultAfter}
 use Rattle.py_lines.proofs.LogicalLines.Cuts.{byte_len-append}
@@ -37,9 +30,9 @@ module _ {m : Mode} {whole : List ℕ} {scan : Scan} {read rest : List ℕ} (l :
   -- after CR that ended it no byte follows
   pub left_none : has_returned l.way.field ≡ true → rest ≡ []
   left_none returned = by rest (λ some. left_open some) where
-      by : (r : List ℕ) → (0 < length r → has_returned l.way.field ≡ false) → r ≡ []
-      by [] open_yet = refl
-      by (b ∷ more) open_yet = absurd (both_ways _ (open_yet (omega arith)) returned)
+    by : (r : List ℕ) → (0 < length r → has_returned l.way.field ≡ false) → r ≡ []
+    by [] open_yet = refl
+    by (b ∷ more) open_yet = absurd (both_ways _ (open_yet (omega arith)) returned)
 
   left_spell : encode_utf8_all l.all.run ++ rest ≡ l.left
   left_spell = ap (λ t. encode_utf8_all l.all.run ++ t) (sym l.rest_is) ∙ l.all.spell

@@ -1,7 +1,5 @@
 -- A settled line is released, or the text's last: the lines before it and this one are the first of the whole text.
-use Rattle.std.proofs.Common.{◌≡◌, ℕ, ◌+◌, List, [], ◌∷◌, ◌++◌, length, take, drop, refl, sym, ap, ◌∙◌, subst, inr, append_assoc, append-nil, arith, Option, None, Some, length-append, encode_utf8_all, IsSome}
-use Rattle.std.proofs.lemmas.List.{take-append-drop, append_cancel_left, drop-drop}
-use Rattle.std.proofs.lemmas.Str.{encodes-append, encodes_same}
+use Rattle.py_lines.proofs.Prelude.{◌≡◌, ℕ, ◌+◌, List, [], ◌∷◌, ◌++◌, length, take, drop, refl, sym, ap, ◌∙◌, subst, inr, append_assoc, append-nil, arith, Option, None, Some, length-append, encode_utf8_all, IsSome, take-append-drop, append_cancel_left, drop-drop, encodes-append, encodes_same, both_ways, drop-append_seam}
 use Rattle.py_lines.specs.Piece.{spelled}
 use Rattle.py_lines.specs.Fields.{AreReadBefore}
 use Rattle.py_lines.specs.Lexed.{IsLexedWhole, IsLexed}
@@ -12,8 +10,6 @@ use Rattle.py_lines.proofs.LogicalLines.Cuts.{byte_len-append}
 use Rattle.py_lines.proofs.LogicalLines.NextLine.{texts, texts-append, texts-lines}
 use Rattle.py_lines.proofs.Lexings.FirstLines.{base_lines, settled_first}
 use Rattle.py_lines.proofs.Feeds.Known.{first_at, goes_after, goes_at}
-use Rattle.std.proofs.lemmas.Bool.{both_ways}
-use Rattle.std.proofs.Math.Seq.{drop-append_seam}
 use Rattle.py_lines.specs.ScannerState.{ScannerState, GoesOnWith, IsScanning, HasEnded, HoldsReady, HoldsLast, Releases, fed_of, ready_lines}
 use Rattle.py_lines.specs.Private.Feed.{HasRoom, HoldsLine, IsReady, StandsSo, IsSoundFeed, LetsGo, line_held, with_line, Feed, ready_of, scanning_of, AreFirstLines}
 use Rattle.py_lines.proofs.LineScan.LineCount.{line_ends-bytes}
@@ -57,9 +53,9 @@ module _ {text : List ℕ} {place line : ℕ} {lines : List LogicalLine} (first 
 -- a line is ready where a caller sees one
 pub ready_from : (f : Feed) → IsSoundFeed f → IsSome (ready_of f f.ready) → (n : ℕ) × (f.ready ≡ Some n) × IsReady f n
 ready_from f sound some = go f.ready refl sound.state some where
-    go : (ready : Option ℕ) → f.ready ≡ ready → StandsSo f ready → IsSome (ready_of f ready) → (n : ℕ) × (f.ready ≡ Some n) × IsReady f n
-    go None is stands some = absurd (both_ways _ refl some)
-    go (Some n) is stands some = (n, is, stands)
+  go : (ready : Option ℕ) → f.ready ≡ ready → StandsSo f ready → IsSome (ready_of f ready) → (n : ℕ) × (f.ready ≡ Some n) × IsReady f n
+  go None is stands some = absurd (both_ways _ refl some)
+  go (Some n) is stands some = (n, is, stands)
 
 module _ (old new : Feed) (n : ℕ) (r : HoldsLine old n) (go : LetsGo old new) where
   abbrev unit : LogicalLine

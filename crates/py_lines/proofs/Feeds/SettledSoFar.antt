@@ -1,9 +1,5 @@
 -- What the known bytes settle: the lines given, where the machine has found no line end after them, or one line more.
-use Rattle.std.proofs.Common.{◌≡◌, Bool, true, ℕ, ◌<◌, ◌⊎◌, false, List, [], ◌∷◌, ◌++◌, length, refl, sym, ap, ◌∙◌, subst, ⊎_elim, inl, inr, append-nil, arith, length-append, encode_utf8_all}
-use Rattle.std.specs.Str.{StartsWithNoChar}
-use Rattle.std.proofs.lemmas.Bool.{cases_lt, and_from, false_from_ne_true}
-use Rattle.std.proofs.lemmas.List.{nil_from_length}
-use Rattle.std.proofs.lemmas.Str.{encodes-append, encodes_same, encode_ascii}
+use Rattle.py_lines.proofs.Prelude.{◌≡◌, Bool, true, ℕ, ◌<◌, ◌⊎◌, false, List, [], ◌∷◌, ◌++◌, length, refl, sym, ap, ◌∙◌, subst, ⊎_elim, inl, inr, append-nil, arith, length-append, encode_utf8_all, StartsWithNoChar, cases_lt, and_from, false_from_ne_true, nil_from_length, encodes-append, encodes_same, encode_ascii, low_scalar}
 use Rattle.py_lines.specs.Character.{is_line_feed, is_return}
 use Rattle.py_lines.specs.Piece.{line_end, Piece, ends, spelled}
 use Rattle.py_lines.specs.Balance.{depth_through}
@@ -17,7 +13,6 @@ use Rattle.py_lines.specs.Private.LineScan.{EndsNoLine, IsApart, IsAtLineEnd, Is
 use Rattle.py_lines.specs.Private.LineState.{first_mode}
 use Rattle.py_lines.specs.Private.Scan.{has_returned}
 use Rattle.py_lines.specs.Private.Machine.{Mode}
-use Rattle.std.proofs.Math.Utf8.{low_scalar}
 use Rattle.py_lines.proofs.Text.CharacterTests.{feed_is}
 use Rattle.py_lines.proofs.Text.Utf8Prefixes.{goes_on, all_scalars-append, nothing_bad}
 use Rattle.py_lines.proofs.Text.Utf8Shapes.{no_char}
@@ -38,10 +33,10 @@ use Rattle.py_lines.proofs.Feeds.Known.{IsKnown}
 ends_none : {m : Mode} {read : List ℕ} (way : IsUnderWay m read) → begins_line m ≡ true → (rest : List ℕ)
     → (has_returned way.field ≡ true → rest ≡ []) → EndsNoneYet (outer_pieces way.field) rest
 ends_none way start rest last = by (has_returned way.field) refl where
-    by : (b : Bool) → has_returned way.field ≡ b → EndsNoneYet (outer_pieces way.field) rest
-    by false open_yet = EndsNoneYet.none (open_line way start open_yet)
-    by true is = let t = way.field in let r = returned_at way start is in let alone = outer_alone t r.outside in
-        EndsNoneYet.by_return t.done t.held (alone.3 ∙ ap (λ m. field_closed m t.done t.held) r.mode) (subst (EndsNoLine 0) alone.0 (way_one_line way start)) r.held (last is)
+  by : (b : Bool) → has_returned way.field ≡ b → EndsNoneYet (outer_pieces way.field) rest
+  by false open_yet = EndsNoneYet.none (open_line way start open_yet)
+  by true is = let t = way.field in let r = returned_at way start is in let alone = outer_alone t r.outside in
+      EndsNoneYet.by_return t.done t.held (alone.3 ∙ ap (λ m. field_closed m t.done t.held) r.mode) (subst (EndsNoLine 0) alone.0 (way_one_line way start)) r.held (last is)
 
 module _ (text : List ℕ) (place line : ℕ) (lines : List LogicalLine) (read rest : List ℕ) (k : IsKnown text place line lines read rest) where
   -- no line has ended since

@@ -1,6 +1,5 @@
 -- The machine with fields goes through lists of pieces, and so through fields, where it goes through those in them: so through all.
-use Rattle.std.proofs.Common.{◌≡◌, ℕ, ◌+◌, true, false, Some, List, [], ◌∷◌, ◌++◌, length, refl, sym, ap, ◌∙◌, subst, inl, inr, append_assoc, append-nil, add-zero, Bool, ◌==◌, arith}
-use Rattle.std.proofs.lemmas.Bool.{both_ways}
+use Rattle.py_lines.proofs.Prelude.{◌≡◌, ℕ, ◌+◌, true, false, Some, List, [], ◌∷◌, ◌++◌, length, refl, sym, ap, ◌∙◌, subst, inl, inr, append_assoc, append-nil, add-zero, Bool, ◌==◌, arith, both_ways}
 use Rattle.py_lines.specs.Piece.{Class, mark, string, operator, Piece, is_mark_class, begins_marked, spelled}
 use Rattle.py_lines.specs.PieceGrammar.{InClassIn, MayPrecedeIn, AreReadIn, joined, has_triple}
 use Rattle.py_lines.specs.Balance.{is_opener, depth_after, is_opening}
@@ -50,12 +49,12 @@ module _ (Room : ℕ → Type 0) (F : ℕ → Host → List ℕ → Type 0) (beg
       no_colon [] h = tt
       no_colon (level ∷ outer) h = (h (λ is. absurd (cc))).0
   one_found G from string text after rest unmarked is before room own opens none stops = same_openers from text _ after rest opens (either (own refl)) where
-      either : (with_fields (F (frames from))).IsString text → FieldFinds Room from text (piece string text ∷ []) from.openers rest
-      either (inl (inl (short, no_field))) = string_found Room from text short.prefix short.quote _ rest short.spell short.begun no_field short.opens
-          (short_ends text short.prefix short.quote short.items rest short.spell short.begun short.opens short.each (precede_without G string text rest before)) stops
-      either (inl (inr (long, no_field))) =
-          string_found Room from text long.prefix long.quote _ rest long.spell long.begun no_field long.opens (long_ends long.quote long.items rest long.opens long.each long.first) stops
-      either (inr fields) = field_string_found Room from (F (frames from)) (begin (frames from)) (run from.outer (field_pieces from) from.openers) G text rest fields before stops
+    either : (with_fields (F (frames from))).IsString text → FieldFinds Room from text (piece string text ∷ []) from.openers rest
+    either (inl (inl (short, no_field))) = string_found Room from text short.prefix short.quote _ rest short.spell short.begun no_field short.opens
+        (short_ends text short.prefix short.quote short.items rest short.spell short.begun short.opens short.each (precede_without G string text rest before)) stops
+    either (inl (inr (long, no_field))) =
+        string_found Room from text long.prefix long.quote _ rest long.spell long.begun no_field long.opens (long_ends long.quote long.items rest long.opens long.each long.first) stops
+    either (inr fields) = field_string_found Room from (F (frames from)) (begin (frames from)) (run from.outer (field_pieces from) from.openers) G text rest fields before stops
   one_found G from class text after rest unmarked is before room own opens none stops = same_openers from text _ after rest opens (plain_found Room G from class text rest tt is before stops)
 
   -- pieces, one after another

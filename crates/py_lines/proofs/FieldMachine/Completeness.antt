@@ -1,6 +1,5 @@
 -- The machine with fields goes through all fields, however many stand one in another, and so through every text that is read with fields: it finds its pieces.
-use Rattle.std.proofs.Common.{◌≡◌, ℕ, true, false, Some, List, [], ◌∷◌, ◌++◌, refl, sym, ap, ◌∙◌, subst, zero, suc, length}
-use Rattle.std.proofs.lemmas.Bool.{false_from_ne_true}
+use Rattle.py_lines.proofs.Prelude.{◌≡◌, ℕ, true, false, Some, List, [], ◌∷◌, ◌++◌, refl, sym, ap, ◌∙◌, subst, zero, suc, length, false_from_ne_true}
 use Rattle.py_lines.specs.Character.{is_mark}
 use Rattle.py_lines.specs.Piece.{Class, mark, Piece, begins, spelled, begins_marked}
 use Rattle.py_lines.specs.PieceGrammar.{AreReadIn, InClassIn}
@@ -91,14 +90,14 @@ module _ (Room : ℕ → Type 0) (F : ℕ → Host → List ℕ → Type 0) (beg
   reached [] after rest fit passed opens may = let same : [] ≡ after = cc in
       record { done = []; mode = plain Mode.Start; held = []; goes = ap (λ os. field_state [] [] os (plain Mode.Start) []) same; pieces_are = refl; stops = stops_start rest may }
   reached (p ∷ ps) after rest fit passed opens may = go p.class p.text fit passed opens where
-      go : (class : Class) (text : List ℕ) → AreReadIn (with_fields G) (piece class text ∷ ps) rest → ArePassed Room F 0 (piece class text ∷ ps) → openers_through (Some []) (piece class text ∷ ps) ≡ Some after → FieldFinds Room field_text_start (spelled (piece class text ∷ ps)) (piece class text ∷ ps) after rest
-      go mark text h k l = let c = h.0.0 in let move : field_move (plain Mode.Start) [] c ≡ closes = rw h.0.2 in
-          let marked : FieldScanned = field_fresh [] (piece mark (c ∷ []) ∷ []) [] in
-          let found = all_found Room F begin run G marked ps after rest h.3 h.2 k.2 l (λ some. absurd (some refl)) (stops-fresh _) in
-          rw h.0.1 (found_from marked _ _ ps _ after rest found (goes-append Room field_text_start marked _ (c ∷ []) (spelled ps) (goes-closes Room field_text_start c move) found.goes) refl)
-      go class text h k l =
-          let found = all_found Room F begin run G (field_fresh [] [] []) (piece class text ∷ ps) after rest h refl k l (λ some. absurd (some refl)) (stops-fresh _) in
-          found_from (field_fresh [] [] []) _ _ (piece class text ∷ ps) _ after rest found (start_goes Room (text ++ spelled ps) _ (piece class text) ps found.goes found.pieces_are) refl
+    go : (class : Class) (text : List ℕ) → AreReadIn (with_fields G) (piece class text ∷ ps) rest → ArePassed Room F 0 (piece class text ∷ ps) → openers_through (Some []) (piece class text ∷ ps) ≡ Some after → FieldFinds Room field_text_start (spelled (piece class text ∷ ps)) (piece class text ∷ ps) after rest
+    go mark text h k l = let c = h.0.0 in let move : field_move (plain Mode.Start) [] c ≡ closes = rw h.0.2 in
+        let marked : FieldScanned = field_fresh [] (piece mark (c ∷ []) ∷ []) [] in
+        let found = all_found Room F begin run G marked ps after rest h.3 h.2 k.2 l (λ some. absurd (some refl)) (stops-fresh _) in
+        rw h.0.1 (found_from marked _ _ ps _ after rest found (goes-append Room field_text_start marked _ (c ∷ []) (spelled ps) (goes-closes Room field_text_start c move) found.goes) refl)
+    go class text h k l =
+        let found = all_found Room F begin run G (field_fresh [] [] []) (piece class text ∷ ps) after rest h refl k l (λ some. absurd (some refl)) (stops-fresh _) in
+        found_from (field_fresh [] [] []) _ _ (piece class text ∷ ps) _ after rest found (start_goes Room (text ++ spelled ps) _ (piece class text) ps found.goes found.pieces_are) refl
 
 -- The machine goes through pieces that are read before the rest, however deep they are.
 pub fields_reached : (ps : List Piece) (after rest : List ℕ) → AreReadIn fielded ps rest → openers_through (Some []) ps ≡ Some after → MayBegin ps rest → FieldFinds NoLimit field_text_start (spelled ps) ps after rest

@@ -1,5 +1,5 @@
 -- The machine with fields goes from the text's start to a list of pieces that begins in fields, and through its first pieces.
-use Rattle.std.proofs.Common.{◌≡◌, ℕ, ◌+◌, false, Some, List, [], ◌∷◌, ◌++◌, ◌⊎◌, inl, inr, length, refl, sym, ap, ◌∙◌, subst, append_assoc, append-nil, add-zero, arith}
+use Rattle.py_lines.proofs.Prelude.{◌≡◌, ℕ, ◌+◌, false, Some, List, [], ◌∷◌, ◌++◌, ◌⊎◌, inl, inr, length, refl, sym, ap, ◌∙◌, subst, append_assoc, append-nil, add-zero, arith}
 use Rattle.py_lines.specs.Character.{is_mark}
 use Rattle.py_lines.specs.Piece.{Piece, begins, spelled}
 use Rattle.py_lines.specs.Balance.{IsBalanced, depth_through}
@@ -43,18 +43,18 @@ pub record PiecesRun (outer : List Level) (pieces : List Piece) (rest : List ℕ
 
 pub pieces_run : (outer : List Level) (depth : ℕ) (pieces : List Piece) (rest : List ℕ) → levels_open outer ≡ depth → AreBegun depth pieces rest → MayBegin pieces rest → PiecesRun outer pieces rest
 pieces_run outer depth pieces rest deep begun may = go outer deep where
-    open_after : (after : List ℕ) × (openers_through (Some []) pieces ≡ Some after)
-    open_after = some_open pieces begun.others begun.balanced
+  open_after : (after : List ℕ) × (openers_through (Some []) pieces ≡ Some after)
+  open_after = some_open pieces begun.others begun.balanced
 
-    many : depth_through 0 pieces ≡ length open_after.0
-    many = depth_of pieces [] open_after.0 0 open_after.1 ∙ add-zero (length open_after.0)
+  many : depth_through 0 pieces ≡ length open_after.0
+  many = depth_of pieces [] open_after.0 0 open_after.1 ∙ add-zero (length open_after.0)
 
-    go : (ls : List Level) → levels_open ls ≡ depth → PiecesRun ls pieces rest
-    go [] is = let found = fields_reached pieces open_after.0 rest begun.fit open_after.1 may in
-        record { done = found.done; after = open_after.0; mode = found.mode; held = found.held; goes = found.goes; pieces_are = found.pieces_are; stops = found.stops; opens = open_after.1; deep = many }
-    go (l ∷ ls) is = let inside = begun.inside (omega (arith, is)) in
-        let found = fields_found (field_fresh (l ∷ ls) [] []) pieces open_after.0 rest begun.fit inside.0 open_after.1 (λ some. inside.1) (stops-fresh (spelled pieces ++ rest)) in
-        record { done = found.done; after = open_after.0; mode = found.mode; held = found.held; goes = found.goes; pieces_are = found.pieces_are; stops = found.stops; opens = open_after.1; deep = many }
+  go : (ls : List Level) → levels_open ls ≡ depth → PiecesRun ls pieces rest
+  go [] is = let found = fields_reached pieces open_after.0 rest begun.fit open_after.1 may in
+      record { done = found.done; after = open_after.0; mode = found.mode; held = found.held; goes = found.goes; pieces_are = found.pieces_are; stops = found.stops; opens = open_after.1; deep = many }
+  go (l ∷ ls) is = let inside = begun.inside (omega (arith, is)) in
+      let found = fields_found (field_fresh (l ∷ ls) [] []) pieces open_after.0 rest begun.fit inside.0 open_after.1 (λ some. inside.1) (stops-fresh (spelled pieces ++ rest)) in
+      record { done = found.done; after = open_after.0; mode = found.mode; held = found.held; goes = found.goes; pieces_are = found.pieces_are; stops = found.stops; opens = open_after.1; deep = many }
 
 -- directly after the `{` of a field, where the text ends
 abbrev pub IsBraced : List Level → FieldScanned → Type 0

@@ -1,5 +1,5 @@
 -- The machine with fields goes from the start of a string that is open up to a spot into that spot.
-use Rattle.std.proofs.Common.{◌≡◌, ℕ, ◌+◌, ◌==◌, eqb, Bool, true, false, List, [], ◌∷◌, ◌++◌, inl, inr, length, refl, sym, ap, ◌∙◌, subst, append_assoc, append-nil, arith}
+use Rattle.py_lines.proofs.Prelude.{◌≡◌, ℕ, ◌+◌, ◌==◌, eqb, Bool, true, false, List, [], ◌∷◌, ◌++◌, inl, inr, length, refl, sym, ap, ◌∙◌, subst, append_assoc, append-nil, arith}
 use Rattle.py_lines.specs.Character.{is_mark, is_quote}
 use Rattle.py_lines.specs.Piece.{Piece, begins, spelled}
 use Rattle.py_lines.specs.PieceGrammar.{joined, has_triple}
@@ -122,25 +122,25 @@ string_runs from host spot front rest (in_specification _ round _ _ opening insi
 -- where the string is open up to a backslash after the spot
 pub up_to_runs : (from : FieldScanned) (host : Host) (spot : Spot) (front : List ℕ) → IsOpenUpTo host spot front → StopsAt from.mode from.held front → StringRun from host spot front []
 up_to_runs from host spot front is stops = go is.escapes where
-    run : StringRun from host spot is.body is.last
-    run = string_runs from host spot is.body is.last is.string (subst (StopsAt from.mode from.held) is.spell stops)
+  run : StringRun from host spot is.body is.last
+  run = string_runs from host spot is.body is.last is.string (subst (StopsAt from.mode from.held) is.spell stops)
 
-    go : IsUnescaped is.last → StringRun from host spot front []
-    go (inl none) =
-        subst (λ t. StringRun from host spot t []) (sym (append-nil is.body) ∙ ap (λ t. is.body ++ t) (sym none) ∙ sym is.spell) (subst (StringRun from host spot is.body) none run)
-    go (inr (s, one, slashes)) =
-        let quotes = open_quotes host spot is.body is.last is.string in let other = not_quote s host.quote quotes (slash-not-quote s slashes) in
-        let move = string_moves host spot.place spot.named run.mode is.body s [] (subst (IsInString host spot.place spot.named run.mode) one run.stands) other in
-        let before_slash : FieldScanned = field_state run.outer run.done run.openers run.mode is.body in
-        subst (λ t. StringRun from host spot t []) (ap (λ t. is.body ++ t) (sym one) ∙ sym is.spell) (record {
-          outer = run.outer;
-          done = run.done;
-          openers = run.openers;
-          mode = body host spot.place spot.named after_slash;
-          goes = goes-append NoLimit from before_slash _ is.body (s ∷ []) run.goes
-              (goes-grows NoLimit before_slash _ (body host spot.place spot.named after_slash) s [] (move.1 ∙ slash_grows host spot.place spot.named move.0 s quotes slashes) refl);
-          stands = in_part after_slash refl refl;
-          start_is = run.start_is;
-          depth_is = run.depth_is;
-          field_is = run.field_is;
-        })
+  go : IsUnescaped is.last → StringRun from host spot front []
+  go (inl none) =
+      subst (λ t. StringRun from host spot t []) (sym (append-nil is.body) ∙ ap (λ t. is.body ++ t) (sym none) ∙ sym is.spell) (subst (StringRun from host spot is.body) none run)
+  go (inr (s, one, slashes)) =
+      let quotes = open_quotes host spot is.body is.last is.string in let other = not_quote s host.quote quotes (slash-not-quote s slashes) in
+      let move = string_moves host spot.place spot.named run.mode is.body s [] (subst (IsInString host spot.place spot.named run.mode) one run.stands) other in
+      let before_slash : FieldScanned = field_state run.outer run.done run.openers run.mode is.body in
+      subst (λ t. StringRun from host spot t []) (ap (λ t. is.body ++ t) (sym one) ∙ sym is.spell) (record {
+        outer = run.outer;
+        done = run.done;
+        openers = run.openers;
+        mode = body host spot.place spot.named after_slash;
+        goes = goes-append NoLimit from before_slash _ is.body (s ∷ []) run.goes
+            (goes-grows NoLimit before_slash _ (body host spot.place spot.named after_slash) s [] (move.1 ∙ slash_grows host spot.place spot.named move.0 s quotes slashes) refl);
+        stands = in_part after_slash refl refl;
+        start_is = run.start_is;
+        depth_is = run.depth_is;
+        field_is = run.field_is;
+      })

@@ -1,6 +1,6 @@
 -- The outermost list of pieces, where the machine with fields stands: its finished pieces, and the text after them, which is that of the
 -- piece that is open there. While a field is open, that is the string in whose field all else stands.
-use Rattle.std.proofs.Common.{◌≡◌, ℕ, false, Option, None, Some, List, [], ◌∷◌, ◌++◌, refl, sym, ap, ◌∙◌, subst, append_assoc, append-nil, arith}
+use Rattle.py_lines.proofs.Prelude.{◌≡◌, ℕ, false, Option, None, Some, List, [], ◌∷◌, ◌++◌, refl, sym, ap, ◌∙◌, subst, append_assoc, append-nil, arith}
 use Rattle.py_lines.specs.Piece.{string, operator, line_end, Piece, spelled}
 use Rattle.py_lines.specs.FieldStrings.{Place, literal, specification}
 use Rattle.py_lines.specs.Private.Machine.{Start, start_of, closed}
@@ -43,10 +43,10 @@ outer_pieces t = field_closed (outer_mode t) (outer_done t) (outer_held t)
 -- where no field is open, they are those of the innermost list
 pub outer_alone : (t : FieldScanned) → t.outer ≡ [] → (outer_done t ≡ t.done) × (outer_held t ≡ t.held) × (outer_mode t ≡ t.mode) × (outer_pieces t ≡ field_pieces t)
 outer_alone t none = go t.outer none where
-    go : (outer : List Level) → outer ≡ [] → (outer_list outer t.done ≡ t.done) × (outer_text (text_place t.mode) outer t.done t.held ≡ t.held) × (outer_open outer t.mode ≡ t.mode)
-        × (field_closed (outer_open outer t.mode) (outer_list outer t.done) (outer_text (text_place t.mode) outer t.done t.held) ≡ field_pieces t)
-    go [] is = (refl, refl, refl, refl)
-    go (l ∷ ls) is = absurd (cc)
+  go : (outer : List Level) → outer ≡ [] → (outer_list outer t.done ≡ t.done) × (outer_text (text_place t.mode) outer t.done t.held ≡ t.held) × (outer_open outer t.mode ≡ t.mode)
+      × (field_closed (outer_open outer t.mode) (outer_list outer t.done) (outer_text (text_place t.mode) outer t.done t.held) ≡ field_pieces t)
+  go [] is = (refl, refl, refl, refl)
+  go (l ∷ ls) is = absurd (cc)
 
 -- together they spell what was read
 text_parts : (place : Place) (outer : List Level) (done : List Piece) (held : List ℕ) → before place outer ++ (spelled done ++ held) ≡ spelled (outer_list outer done) ++ outer_text place outer done held
@@ -98,14 +98,14 @@ moved_keeps outer done os m held c v inside = grind arith
 
 pub outer_steps : (t : FieldScanned) (c : ℕ) (u : FieldScanned) → field_step t c ≡ Some u → OuterStep t c u
 outer_steps t c u step = go t.outer (field_move t.mode t.held c) refl refl where
-    stays : (outer : List Level) (v : FieldMove) → t.outer ≡ outer → field_move t.mode t.held c ≡ v → IsInField outer v → OuterStep t c u
-    stays outer v is move inside =
-        outer_stays (subst (KeepsList (outer_done t)) step (moved_keeps t.outer t.done t.openers t.mode t.held c (field_move t.mode t.held c) (rw (is, move) inside)))
+  stays : (outer : List Level) (v : FieldMove) → t.outer ≡ outer → field_move t.mode t.held c ≡ v → IsInField outer v → OuterStep t c u
+  stays outer v is move inside =
+      outer_stays (subst (KeepsList (outer_done t)) step (moved_keeps t.outer t.done t.openers t.mode t.held c (field_move t.mode t.held c) (rw (is, move) inside)))
 
-    go : (outer : List Level) (v : FieldMove) → t.outer ≡ outer → field_move t.mode t.held c ≡ v → OuterStep t c u
-    go [] closes is move = outer_closes is move (rw is at (sym (some_is _ u (sym (ap (field_moved t c) move) ∙ step))))
-    go [] breaks is move = outer_breaks is move (rw is at (sym (ap (field_moved t c) move) ∙ step))
-    go outer v is move = stays outer v is move (grind arith)
+  go : (outer : List Level) (v : FieldMove) → t.outer ≡ outer → field_move t.mode t.held c ≡ v → OuterStep t c u
+  go [] closes is move = outer_closes is move (rw is at (sym (some_is _ u (sym (ap (field_moved t c) move) ∙ step))))
+  go [] breaks is move = outer_breaks is move (rw is at (sym (ap (field_moved t c) move) ∙ step))
+  go outer v is move = stays outer v is move (grind arith)
 
 -- a piece that begins there begins after all others
 abbrev StartedIf : List Piece → Option FieldScanned → Type 0
@@ -114,15 +114,15 @@ StartedIf done (Some u) = (u.outer ≡ []) × ((ps : List Piece) × (u.done ≡ 
 
 pub started_outer : (done : List Piece) (openers : List ℕ) (c : ℕ) (x : Start) (u : FieldScanned) → field_started [] done openers c x ≡ Some u → (u.outer ≡ []) × ((ps : List Piece) × (u.done ≡ done ++ ps))
 started_outer done openers c x u is = subst (StartedIf done) is (go x) where
-    operator_started : (o : Option (List ℕ)) → StartedIf done (after_operator [] done c o)
-    operator_started None = tt
-    operator_started (Some os) = (refl, (piece operator (c ∷ []) ∷ [], refl))
+  operator_started : (o : Option (List ℕ)) → StartedIf done (after_operator [] done c o)
+  operator_started None = tt
+  operator_started (Some os) = (refl, (piece operator (c ∷ []) ∷ [], refl))
 
-    go : (y : Start) → StartedIf done (field_started [] done openers c y)
-    go (Start.Open m) = (refl, ([], sym (append-nil done)))
-    go Start.Operator = operator_started (openers_with openers c)
-    go Start.LineEnd = (refl, (piece line_end (c ∷ []) ∷ [], refl))
-    go Start.Nothing = tt
+  go : (y : Start) → StartedIf done (field_started [] done openers c y)
+  go (Start.Open m) = (refl, ([], sym (append-nil done)))
+  go Start.Operator = operator_started (openers_with openers c)
+  go Start.LineEnd = (refl, (piece line_end (c ∷ []) ∷ [], refl))
+  go Start.Nothing = tt
 
 -- the finished pieces stay, and others may come after them
 pub closed_on : (m : FieldMode) (done : List Piece) (held : List ℕ) → (ps : List Piece) × (field_closed m done held ≡ done ++ ps)
@@ -131,13 +131,13 @@ closed_on m done held = (piece string held ∷ [], refl)
 
 pub outer_grows : (t : FieldScanned) (c : ℕ) (u : FieldScanned) → field_step t c ≡ Some u → (ps : List Piece) × (outer_done u ≡ outer_done t ++ ps)
 outer_grows t c u step = go (outer_steps t c u step) where
-    go : OuterStep t c u → (ps : List Piece) × (outer_done u ≡ outer_done t ++ ps)
-    go (outer_stays same) = ([], same ∙ sym (append-nil (outer_done t)))
-    go (outer_closes none move is) = let last : Piece = piece (field_class_of t.mode) (t.held ++ c ∷ []) in
-        (last ∷ [], ap outer_done is ∙ ap (λ l. l ++ last ∷ []) (sym (outer_alone t none).0))
-    go (outer_breaks none move is) = let (outside, (ps, more)) = started_outer (field_pieces t) t.openers c (start_of c) u is in
-        let (qs, closed_so) = closed_on t.mode t.done t.held in
-        (qs ++ ps, (outer_alone u outside).0 ∙ more ∙ ap (λ l. l ++ ps) closed_so ∙ append_assoc t.done qs ps ∙ ap (λ l. l ++ (qs ++ ps)) (sym (outer_alone t none).0))
+  go : OuterStep t c u → (ps : List Piece) × (outer_done u ≡ outer_done t ++ ps)
+  go (outer_stays same) = ([], same ∙ sym (append-nil (outer_done t)))
+  go (outer_closes none move is) = let last : Piece = piece (field_class_of t.mode) (t.held ++ c ∷ []) in
+      (last ∷ [], ap outer_done is ∙ ap (λ l. l ++ last ∷ []) (sym (outer_alone t none).0))
+  go (outer_breaks none move is) = let (outside, (ps, more)) = started_outer (field_pieces t) t.openers c (start_of c) u is in
+      let (qs, closed_so) = closed_on t.mode t.done t.held in
+      (qs ++ ps, (outer_alone u outside).0 ∙ more ∙ ap (λ l. l ++ ps) closed_so ∙ append_assoc t.done qs ps ∙ ap (λ l. l ++ (qs ++ ps)) (sym (outer_alone t none).0))
 
 pub outer_runs : (cs : List ℕ) (t u : FieldScanned) → field_steps_from (Some t) cs ≡ Some u → (ps : List Piece) × (outer_done u ≡ outer_done t ++ ps)
 outer_runs [] t u steps = ([], ap outer_done (some_is u t (sym steps)) ∙ sym (append-nil (outer_done t)))

@@ -1,7 +1,5 @@
 -- The machine with fields goes through the text of a piece that has no fields.
-use Rattle.std.proofs.Common.{◌≡◌, ℕ, true, false, ◌&&◌, ◌==◌, Some, List, [], ◌∷◌, ◌++◌, length, refl, sym, ap, ◌∙◌, subst, inl, inr, append_assoc, arith}
-use Rattle.std.specs.List.{list_all}
-use Rattle.std.proofs.lemmas.Bool.Decides.{nat_tests}
+use Rattle.py_lines.proofs.Prelude.{◌≡◌, ℕ, true, false, ◌&&◌, ◌==◌, Some, List, [], ◌∷◌, ◌++◌, length, refl, sym, ap, ◌∙◌, subst, inl, inr, append_assoc, arith, list_all, nat_tests}
 use Rattle.py_lines.specs.Character.{is_word_character, is_word_start, is_quote, is_operator}
 use Rattle.py_lines.specs.Piece.{Class, word, string, operator, line_end, Piece, begins}
 use Rattle.py_lines.specs.PieceGrammar.{is_prefix, IsPrefix, InPlainClass, MayPrecedeIn}
@@ -38,9 +36,9 @@ EndsNoPrefix class text rest = class ≡ word → is_field_prefix text && begins
 stops_after : (m : Mode) (class : Class) (text rest : List ℕ) → class_of m ≡ class → EndsNoPrefix class text rest → StopsBefore m rest → StopsAt (plain m) text rest
 stops_after m class text [] is none stops = stops
 stops_after m class text (c ∷ cs) is none stops = plain_moves m text c (no_host_after m is) ∙ ap plain_move stops where
-    no_host_after : (n : Mode) → class_of n ≡ class → begins_host n text c ≡ false
-    no_host_after (Mode.Word s) so = none (sym so)
-    no_host_after n so = refl
+  no_host_after : (n : Mode) → class_of n ≡ class → begins_host n text c ≡ false
+  no_host_after (Mode.Word s) so = none (sym so)
+  no_host_after n so = refl
 
 ends_no_prefix : (F : Host → List ℕ → Type 0) (class : Class) (text rest : List ℕ) → MayPrecedeIn (with_fields F) class text rest → EndsNoPrefix class text rest
 ends_no_prefix F word text rest before is = (either_prefix (is_prefix text) (is_field_prefix text) (begins is_quote rest) before.1).1
@@ -98,14 +96,14 @@ module _ (Room : ℕ → Type 0) where
   pub plain_found : (F : Host → List ℕ → Type 0) (from : FieldScanned) (class : Class) (text rest : List ℕ) → IsPlainClass class → InPlainClass class text → MayPrecedeIn (with_fields F) class text rest → StopsAt from.mode from.held (text ++ rest) → FieldFinds Room from text (piece class text ∷ []) from.openers rest
   unfolding is_opening
   plain_found F from class text rest plain_class is before stops = go (is_read class text rest plain_class is (precede_without F class text rest before)) where
-      go : IsRead class text rest → FieldFinds Room from text (piece class text ∷ []) from.openers rest
-      go (at_once so feed) =
-          subst (λ p. FieldFinds Room from p.text (p ∷ []) from.openers rest) (ap (λ k. piece k (10 ∷ [])) (sym so) ∙ ap (piece class) (sym feed))
-          (fresh_found from line_end (10 ∷ []) from.openers rest
-          (goes-begins Room from _ _ 10 [] (subst (λ t. StopsAt from.mode from.held (t ++ rest)) feed stops)
-          (ap (field_started from.outer (field_pieces from) from.openers 10) feed-starts) (λ opens. absurd (cc)) refl))
-      go (opened c cs m spell starts_as quiet ends) =
-          ends_found from class text (c ∷ []) cs rest m spell (goes-opens from c (cs ++ rest) m (subst (λ t. StopsAt from.mode from.held (t ++ rest)) spell stops) starts_as) quiet ends (ends_no_prefix F class text rest before)
+    go : IsRead class text rest → FieldFinds Room from text (piece class text ∷ []) from.openers rest
+    go (at_once so feed) =
+        subst (λ p. FieldFinds Room from p.text (p ∷ []) from.openers rest) (ap (λ k. piece k (10 ∷ [])) (sym so) ∙ ap (piece class) (sym feed))
+        (fresh_found from line_end (10 ∷ []) from.openers rest
+        (goes-begins Room from _ _ 10 [] (subst (λ t. StopsAt from.mode from.held (t ++ rest)) feed stops)
+        (ap (field_started from.outer (field_pieces from) from.openers 10) feed-starts) (λ opens. absurd (cc)) refl))
+    go (opened c cs m spell starts_as quiet ends) =
+        ends_found from class text (c ∷ []) cs rest m spell (goes-opens from c (cs ++ rest) m (subst (λ t. StopsAt from.mode from.held (t ++ rest)) spell stops) starts_as) quiet ends (ends_no_prefix F class text rest before)
 
   -- the characters of a word
   pub word_goes : (from : FieldScanned) (a : ℕ) (bs after : List ℕ) → is_word_start a ≡ true → list_all is_word_character bs ≡ true → StopsAt from.mode from.held (a ∷ bs ++ after) → Goes Room from (a ∷ bs) (open_at from (Mode.Word (spelling_on (first_spelling a) bs)) (a ∷ bs))

@@ -1,7 +1,5 @@
 -- The machine with fields goes through a text: from one state to another, with room for what each character opens.
-use Rattle.std.proofs.Common.{◌≡◌, ℕ, ◌+◌, ◌<◌, true, false, Some, List, [], ◌∷◌, ◌++◌, refl, sym, ap, ◌∙◌, subst, append_assoc, append-nil, arith}
-use Rattle.std.proofs.lemmas.Bool.{and_from}
-use Rattle.std.proofs.lemmas.Bool.Decides.{nat_tests}
+use Rattle.py_lines.proofs.Prelude.{◌≡◌, ℕ, ◌+◌, ◌<◌, true, false, Some, List, [], ◌∷◌, ◌++◌, refl, sym, ap, ◌∙◌, subst, append_assoc, append-nil, arith, and_from, nat_tests}
 use Rattle.py_lines.specs.Character.{is_mark}
 use Rattle.py_lines.specs.Piece.{Piece, begins}
 use Rattle.py_lines.specs.Balance.{is_opening}

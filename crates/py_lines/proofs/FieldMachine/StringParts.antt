@@ -1,8 +1,5 @@
 -- The machine with fields goes through the parts of a string, where it goes through the fields among them.
-use Rattle.std.proofs.Common.{◌≡◌, ℕ, Bool, true, false, not, ◌&&◌, ◌||◌, eqb, List, [], ◌∷◌, ◌++◌, refl, sym, ap, ◌∙◌, subst, append_assoc, append-nil, arith}
-use Rattle.std.proofs.Math.Bool.{and-true}
-use Rattle.std.proofs.lemmas.Bool.{eq-eqb, eqb-true}
-use Rattle.std.proofs.lemmas.Bool.Decides.{nat_tests}
+use Rattle.py_lines.proofs.Prelude.{◌≡◌, ℕ, Bool, true, false, not, ◌&&◌, ◌||◌, eqb, List, [], ◌∷◌, ◌++◌, refl, sym, ap, ◌∙◌, subst, append_assoc, append-nil, arith, and-true, eq-eqb, eqb-true, nat_tests}
 use Rattle.py_lines.specs.Character.{is_quote, is_line_feed, is_return, is_break, is_backslash, is_barred, is_brace}
 use Rattle.py_lines.specs.Piece.{Piece, begins}
 use Rattle.py_lines.specs.PieceGrammar.{joined, has_triple}
@@ -123,15 +120,15 @@ module _ (host : Host) (place : Place) (named : Bool) (at : At) (rest : List ℕ
   bare_passes : (c : ℕ) → is_backslash c ≡ false → may_stand host c ≡ true → is_ordinary place named c ≡ true → Passes host place named at rest tail (c ∷ [])
   unfolding is_barred is_break
   bare_passes c no_slash stands itself = go (eqb c host.quote) refl where
-      own_quote : may_stand host host.quote ≡ true → Passes host place named at rest tail (host.quote ∷ [])
-      own_quote may here open_yet = let seen = quote_seen host.quote at tail open_yet in
-          subst (λ n. PartGrows host place named n at (host.quote ∷ []) rest tail) (sym (ap (λ b. named && not b) (quote_no_end host.quote quotes) ∙ and-true named))
-          (one_grows named (with_quote (settled at)) host.quote here (quote_grows host place named (settled at) (grind (arith, eq-eqb host.quote host.quote refl)) seen.0) (goes_on-quotes host place named (settled at) rest) seen.1)
+    own_quote : may_stand host host.quote ≡ true → Passes host place named at rest tail (host.quote ∷ [])
+    own_quote may here open_yet = let seen = quote_seen host.quote at tail open_yet in
+        subst (λ n. PartGrows host place named n at (host.quote ∷ []) rest tail) (sym (ap (λ b. named && not b) (quote_no_end host.quote quotes) ∙ and-true named))
+        (one_grows named (with_quote (settled at)) host.quote here (quote_grows host place named (settled at) (grind (arith, eq-eqb host.quote host.quote refl)) seen.0) (goes_on-quotes host place named (settled at) rest) seen.1)
 
-      go : (b : Bool) → eqb c host.quote ≡ b → Passes host place named at rest tail (c ∷ [])
-      go true same = subst (λ x. may_stand host x ≡ true → Passes host place named at rest tail (x ∷ [])) (sym (eqb-true c host.quote same)) own_quote stands
-      go false other = λ here open_yet. one_grows _ between c here (itself_grows host place named (settled at) c other no_slash (grind arith) itself)
-          (goes_on host place _ rest) (later_triple host.quote (quotes_seen host.quote at) (c ∷ []) tail open_yet)
+    go : (b : Bool) → eqb c host.quote ≡ b → Passes host place named at rest tail (c ∷ [])
+    go true same = subst (λ x. may_stand host x ≡ true → Passes host place named at rest tail (x ∷ [])) (sym (eqb-true c host.quote same)) own_quote stands
+    go false other = λ here open_yet. one_grows _ between c here (itself_grows host place named (settled at) c other no_slash (grind arith) itself)
+        (goes_on host place _ rest) (later_triple host.quote (quotes_seen host.quote at) (c ∷ []) tail open_yet)
 
   -- a backslash, and what the string's text grows by after it
   slash_then : (text : List ℕ) (s : ℕ) (to : FieldMode) → is_backslash s ≡ true → MayGoOn host place named at (s ∷ text ++ rest) → GrowsTo (body host place named after_slash) text to → GrowsTo (body host place named at) (s ∷ text) to
@@ -151,13 +148,13 @@ module _ (host : Host) (place : Place) (named : Bool) (at : At) (rest : List ℕ
   escape_passes : (s c : ℕ) → is_backslash s ≡ true → is_brace c ≡ false → may_be_escaped host place c ≡ true → names host c && begins_open rest ≡ false → is_return c && begins is_line_feed rest ≡ false → Passes host place named at rest tail (s ∷ c ∷ [])
   unfolding field_move body_move escape_move
   escape_passes s c slashes brace may none ended = go (is_return c) (names host c) refl refl where
-      by : (to : At) → quotes_seen host.quote to ≡ [] → MayFollow to rest → ((held : List ℕ) → field_move (body host place named after_slash) held c ≡ grows (body host place named to)) → Passes host place named at rest tail (s ∷ c ∷ [])
-      by to seen follows moves = passes_to (s ∷ c ∷ []) to seen follows (λ here. slash_then (c ∷ []) s _ slashes here (body host place named to, moves, refl))
+    by : (to : At) → quotes_seen host.quote to ≡ [] → MayFollow to rest → ((held : List ℕ) → field_move (body host place named after_slash) held c ≡ grows (body host place named to)) → Passes host place named at rest tail (s ∷ c ∷ [])
+    by to seen follows moves = passes_to (s ∷ c ∷ []) to seen follows (λ here. slash_then (c ∷ []) s _ slashes here (body host place named to, moves, refl))
 
-      go : (r n : Bool) → is_return c ≡ r → names host c ≡ n → Passes host place named at rest tail (s ∷ c ∷ [])
-      go true n returns is_name = by after_return refl (rw returns at ended) (λ held. grind arith)
-      go false true other is_name = by after_name refl (rw is_name at none) (λ held. grind arith)
-      go false false other no_name = by between refl tt (λ held. grind arith)
+    go : (r n : Bool) → is_return c ≡ r → names host c ≡ n → Passes host place named at rest tail (s ∷ c ∷ [])
+    go true n returns is_name = by after_return refl (rw returns at ended) (λ held. grind arith)
+    go false true other is_name = by after_name refl (rw is_name at none) (λ held. grind arith)
+    go false false other no_name = by between refl tt (λ held. grind arith)
 
   -- a backslash, CR and LF
   end_passes : (s r f : ℕ) → is_backslash s ≡ true → is_return r ≡ true → is_line_feed f ≡ true → may_be_escaped host place r ≡ true → Passes host place named at rest tail (s ∷ r ∷ f ∷ [])
@@ -216,21 +213,21 @@ module _ (Room : ℕ → Type 0) (outer : List Level) (done : List Piece) (opene
   -- a part
   part_goes : (F : Host → List ℕ → Type 0) → BeginOpen F → FieldsGo F → (host : Host) (place : Place) (named : Bool) (at : At) (held part rest : List ℕ) (tail : List (List ℕ)) → is_quote host.quote ≡ true → MayGoOn host place named at (part ++ rest) → has_triple host.quote (quotes_seen host.quote at ++ part ∷ tail) ≡ false → IsPart F host place named part rest → PartGoes host place named (named_after named part) at held part rest tail
   part_goes F begin go host place named at held part rest tail quotes here open_yet is_part = by is_part where
-      grown : (text : List ℕ) → part ≡ text → Passes host place named at rest tail text → PartGoes host place named (named_after named part) at held part rest tail
-      grown text is passes = let own = subst (Passes host place named at rest tail) (sym is) passes here open_yet in
-          record { to = own.to; goes = goes-grown Room outer done openers _ _ held part own.grown; on = own.on; open_yet = own.open_yet }
+    grown : (text : List ℕ) → part ≡ text → Passes host place named at rest tail text → PartGoes host place named (named_after named part) at held part rest tail
+    grown text is passes = let own = subst (Passes host place named at rest tail) (sym is) passes here open_yet in
+        record { to = own.to; goes = goes-grown Room outer done openers _ _ held part own.grown; on = own.on; open_yet = own.open_yet }
 
-      by : IsPart F host place named part rest → PartGoes host place named (named_after named part) at held part rest tail
-      by (bare c is no_slash stands itself) = grown (c ∷ []) is (bare_passes host place named at rest tail quotes c no_slash stands itself)
-      by (slash s is slashes braces) = grown (s ∷ []) is (slash_passes host place named at rest tail quotes s slashes braces)
-      by (escape s c is slashes brace may none ended) = grown (s ∷ c ∷ []) is (escape_passes host place named at rest tail quotes s c slashes brace may none ended)
-      by (escaped_end s r f is slashes returns feeds may) = grown (s ∷ r ∷ f ∷ []) is (end_passes host place named at rest tail quotes s r f slashes returns feeds may)
-      by (name s c b is slashes is_name braces) = grown (s ∷ c ∷ 123 ∷ []) (is ∙ ap (λ x. s ∷ c ∷ x ∷ []) braces) (name_passes host place named at rest tail quotes s c slashes is_name)
-      by (double b c is one two at_literal unnamed) = let P : Place → Bool → Type 0 = λ p n. Passes host p n at rest tail (123 ∷ 123 ∷ []) in
-          grown (123 ∷ 123 ∷ []) (is ∙ ap (λ x. x ∷ c ∷ []) one ∙ ap (λ x. 123 ∷ x ∷ []) two) (subst (λ p. P p named) (sym at_literal) (subst (P literal) (sym unnamed) (double_passes host at rest tail quotes)))
-      by (field is single unnamed) =
-          let P : Bool → Type 0 = λ n. MayGoOn host place n at (part ++ rest) → PartGoes host place n (named_after n part) at held part rest tail in
-          subst P (sym unnamed) (λ h. field_goes F begin go host place at held part rest tail quotes is single h open_yet) here
+    by : IsPart F host place named part rest → PartGoes host place named (named_after named part) at held part rest tail
+    by (bare c is no_slash stands itself) = grown (c ∷ []) is (bare_passes host place named at rest tail quotes c no_slash stands itself)
+    by (slash s is slashes braces) = grown (s ∷ []) is (slash_passes host place named at rest tail quotes s slashes braces)
+    by (escape s c is slashes brace may none ended) = grown (s ∷ c ∷ []) is (escape_passes host place named at rest tail quotes s c slashes brace may none ended)
+    by (escaped_end s r f is slashes returns feeds may) = grown (s ∷ r ∷ f ∷ []) is (end_passes host place named at rest tail quotes s r f slashes returns feeds may)
+    by (name s c b is slashes is_name braces) = grown (s ∷ c ∷ 123 ∷ []) (is ∙ ap (λ x. s ∷ c ∷ x ∷ []) braces) (name_passes host place named at rest tail quotes s c slashes is_name)
+    by (double b c is one two at_literal unnamed) = let P : Place → Bool → Type 0 = λ p n. Passes host p n at rest tail (123 ∷ 123 ∷ []) in
+        grown (123 ∷ 123 ∷ []) (is ∙ ap (λ x. x ∷ c ∷ []) one ∙ ap (λ x. 123 ∷ x ∷ []) two) (subst (λ p. P p named) (sym at_literal) (subst (P literal) (sym unnamed) (double_passes host at rest tail quotes)))
+    by (field is single unnamed) =
+        let P : Bool → Type 0 = λ n. MayGoOn host place n at (part ++ rest) → PartGoes host place n (named_after n part) at held part rest tail in
+        subst P (sym unnamed) (λ h. field_goes F begin go host place at held part rest tail quotes is single h open_yet) here
 
   -- parts, one after another
   pub parts_go : (F : Host → List ℕ → Type 0) → BeginOpen F → FieldsGo F → (host : Host) (place : Place) (named : Bool) (at : At) (held : List ℕ) (parts : List (List ℕ)) (rest : List ℕ) (tail : List (List ℕ)) → is_quote host.quote ≡ true → AreParts F host place named parts rest → MayGoOn host place named at (joined parts ++ rest) → has_triple host.quote (quotes_seen host.quote at ++ (parts ++ tail)) ≡ false → PartGoes host place named (named_through named parts) at held (joined parts) rest tail

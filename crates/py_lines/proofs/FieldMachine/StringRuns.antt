@@ -1,7 +1,5 @@
 -- The machine with fields goes through a string with fields, where it goes through these.
-use Rattle.std.proofs.Common.{◌≡◌, ℕ, Bool, true, false, not, ◌&&◌, ◌==◌, eqb, List, [], ◌∷◌, ◌++◌, refl, sym, ap, ◌∙◌, subst, inr, append_assoc, append-nil, arith}
-use Rattle.std.specs.List.{list_all, list_any}
-use Rattle.std.proofs.lemmas.Bool.{and_parts, both_ways, eq-eqb, eqb-true, false_from_ne_true, or_right}
+use Rattle.py_lines.proofs.Prelude.{◌≡◌, ℕ, Bool, true, false, not, ◌&&◌, ◌==◌, eqb, List, [], ◌∷◌, ◌++◌, refl, sym, ap, ◌∙◌, subst, inr, append_assoc, append-nil, arith, list_all, list_any, and_parts, both_ways, eq-eqb, eqb-true, false_from_ne_true, or_right}
 use Rattle.py_lines.specs.Character.{is_word_character, is_word_start, is_quote, is_r}
 use Rattle.py_lines.specs.Piece.{Piece, string, begins}
 use Rattle.py_lines.specs.PieceGrammar.{has_triple, joined, is_prefix, MayPrecedeIn}

@@ -1,6 +1,6 @@
 -- What is open at a place is told by the state of the machine with fields there, so nothing else is: a string, a backslash, a
 -- specification, code of a field, or a spot where a field may open.
-use Rattle.std.proofs.Common.{◌≡◌, ℕ, Bool, true, false, Some, List, [], ◌∷◌, ◌++◌, inl, inr, refl, sym, ap, ◌∙◌, subst, append_assoc, ⊎_elim, ◌<◌, append-nil, arith}
+use Rattle.py_lines.proofs.Prelude.{◌≡◌, ℕ, Bool, true, false, Some, List, [], ◌∷◌, ◌++◌, inl, inr, refl, sym, ap, ◌∙◌, subst, append_assoc, ⊎_elim, ◌<◌, append-nil, arith, byte, if◌then◌else◌}
 use Rattle.py_lines.specs.Character.{is_mark, is_quote}
 use Rattle.py_lines.specs.Piece.{begins, spelled}
 use Rattle.py_lines.specs.PieceGrammar.{IsPrefix}
@@ -17,8 +17,6 @@ use Rattle.py_lines.proofs.FieldMachine.PieceRuns.{plain_opens}
 use Rattle.py_lines.proofs.FieldMachine.Runs.{NoLimit, Goes, StopsAt, goes-append, goes-grown, goes-begins, steps_of}
 use Rattle.py_lines.proofs.FieldMachine.OpenStrings.{IsInString, in_part, at_first, HasOpened, open_unmarked, open_begins, up_to_runs, open_quotes, brace_opens, string_runs}
 use Rattle.py_lines.proofs.FieldMachine.OpenLists.{list_runs, after_pieces, string_begins, pieces_run, IsBraced, alike, alike_after, ListRun, level_of, braces}
-use Rattle.std.specs.Str.{byte}
-use Rattle.std.specs.Prelude.{if◌then◌else◌}
 use Rattle.py_lines.specs.Faults.{IsFieldDue}
 use Rattle.py_lines.proofs.FieldMachine.Completeness.{may_begin}
 use Rattle.py_lines.proofs.FieldMachine.ListBrackets.{balanced_openers}
@@ -153,32 +151,32 @@ pub data CodeAt (start : List ℕ) (s : FieldScanned) : Type 0 where
 
 pub code_comes : (characters start : List ℕ) → InFieldCode characters start → Comes characters (CodeAt start)
 code_comes characters start is = go (spelled is.pieces) refl where
-    outside : List ℕ
-    outside = start ++ 123 ∷ []
+  outside : List ℕ
+  outside = start ++ 123 ∷ []
 
-    list : ListRun outside (spelled is.pieces ++ []) is.depth
-    list = list_runs outside (spelled is.pieces ++ []) is.depth (subst (λ t. BeginsList outside t is.depth) (sym (append-nil (spelled is.pieces))) is.list)
+  list : ListRun outside (spelled is.pieces ++ []) is.depth
+  list = list_runs outside (spelled is.pieces ++ []) is.depth (subst (λ t. BeginsList outside t is.depth) (sym (append-nil (spelled is.pieces))) is.list)
 
-    at : (outer : List Level) (t : FieldScanned) → levels_open outer ≡ is.depth → before literal outer ≡ outside → IsBraced outer t → CodeAt start t
-    at [] t deep start_is braced = absurd (omega (arith, is.deep, deep))
-    at (l ∷ ls) t deep start_is (inr braced) = subst (CodeAt start) (sym braced.1) (in_code (subst (λ n. 0 < n) (sym deep) is.deep) refl refl start_is)
-    at (l ∷ ls) t deep start_is (inl braced) = subst (CodeAt start) (sym braced.1)
-        (at_brace l.host refl (append_assoc (before literal ls) (spelled l.done) l.front ∙ ap (λ p. before p ls ++ (spelled l.done ++ l.front)) (sym braced.0) ∙ start_is))
+  at : (outer : List Level) (t : FieldScanned) → levels_open outer ≡ is.depth → before literal outer ≡ outside → IsBraced outer t → CodeAt start t
+  at [] t deep start_is braced = absurd (omega (arith, is.deep, deep))
+  at (l ∷ ls) t deep start_is (inr braced) = subst (CodeAt start) (sym braced.1) (in_code (subst (λ n. 0 < n) (sym deep) is.deep) refl refl start_is)
+  at (l ∷ ls) t deep start_is (inl braced) = subst (CodeAt start) (sym braced.1)
+      (at_brace l.host refl (append_assoc (before literal ls) (spelled l.done) l.front ∙ ap (λ p. before p ls ++ (spelled l.done ++ l.front)) (sym braced.0) ∙ start_is))
 
-    go : (text : List ℕ) → spelled is.pieces ≡ text → Comes characters (CodeAt start)
-    go [] none = record {
-      to = list.begins_at.0;
-      goes = subst (λ x. Goes NoLimit field_text_start x list.begins_at.0) (ap (λ t. start ++ 123 ∷ t) (sym none) ∙ is.spell) list.begins_at.1;
-      such = at list.outer list.begins_at.0 list.deep list.start_is list.begins_at.2;
-    }
-    go (c ∷ cs) full = let run = pieces_run list.outer is.depth is.pieces [] list.deep is.begun (may_begin is.pieces) in
-        let to : FieldScanned = field_state list.outer run.done run.after run.mode run.held in
-        let both : Some run.after ≡ Some [] = sym run.opens ∙ balanced_openers is.pieces is.balanced [] in record {
-          to = to;
-          goes = subst (λ x. Goes NoLimit field_text_start x to) (append_assoc start (123 ∷ []) (spelled is.pieces) ∙ is.spell)
-              (list.goes to (spelled is.pieces) (record { first = c; others = cs; more = cs; one_is = append-nil (spelled is.pieces) ∙ full; two_is = full }) run.goes);
-          such = in_code (subst (λ n. 0 < n) (sym list.deep) is.deep) (cc) run.stops list.start_is;
-        }
+  go : (text : List ℕ) → spelled is.pieces ≡ text → Comes characters (CodeAt start)
+  go [] none = record {
+    to = list.begins_at.0;
+    goes = subst (λ x. Goes NoLimit field_text_start x list.begins_at.0) (ap (λ t. start ++ 123 ∷ t) (sym none) ∙ is.spell) list.begins_at.1;
+    such = at list.outer list.begins_at.0 list.deep list.start_is list.begins_at.2;
+  }
+  go (c ∷ cs) full = let run = pieces_run list.outer is.depth is.pieces [] list.deep is.begun (may_begin is.pieces) in
+      let to : FieldScanned = field_state list.outer run.done run.after run.mode run.held in
+      let both : Some run.after ≡ Some [] = sym run.opens ∙ balanced_openers is.pieces is.balanced [] in record {
+        to = to;
+        goes = subst (λ x. Goes NoLimit field_text_start x to) (append_assoc start (123 ∷ []) (spelled is.pieces) ∙ is.spell)
+            (list.goes to (spelled is.pieces) (record { first = c; others = cs; more = cs; one_is = append-nil (spelled is.pieces) ∙ full; two_is = full }) run.goes);
+        such = in_code (subst (λ n. 0 < n) (sym list.deep) is.deep) (cc) run.stops list.start_is;
+      }
 
 -- where a field may open, directly after the `{` of a literal part, and so many brackets and fields are open
 pub brace_comes : (depth : ℕ) (start after : List ℕ) → IsFieldDue literal depth start after → Comes (start ++ byte "{" ∷ []) (λ s. (host : Host) × (s.mode ≡ body host literal false after_brace) × (frames s ≡ depth))

@@ -1,7 +1,6 @@
 -- The machine with fields, from a text's start: a text is live exactly where it goes through it, with room for each character; and where it
 -- may end, its pieces read the text. It goes through every list of pieces that is read before what follows, and finds those pieces.
-use Rattle.std.proofs.Common.{◌≡◌, ℕ, Bool, true, false, Option, None, Some, List, [], ◌∷◌, ◌++◌, refl, sym, ap, ◌∙◌, subst}
-use Rattle.std.proofs.lemmas.Bool.{and_parts, and_from, both_ways}
+use Rattle.py_lines.proofs.Prelude.{◌≡◌, ℕ, Bool, true, false, Option, None, Some, List, [], ◌∷◌, ◌++◌, refl, sym, ap, ◌∙◌, subst, and_parts, and_from, both_ways}
 use Rattle.py_lines.specs.Piece.{Piece, spelled}
 use Rattle.py_lines.specs.Balance.{IsBalanced}
 use Rattle.py_lines.specs.Fields.{AreReadBefore, Fields, IsShallow, ShallowFields}

@@ -1,8 +1,5 @@
 -- How many bytes a text has with one more character.
-use Rattle.std.proofs.Common.{◌≡◌, ℕ, ◌+◌, List, [], ◌∷◌, ◌++◌, sym, ap, ◌∙◌, append_assoc, append-nil, arith, length}
-use Rattle.std.specs.Prelude.{encode_utf8}
-use Rattle.std.specs.Char.{len_utf8}
-use Rattle.std.proofs.lemmas.Str.{length-encode}
+use Rattle.py_lines.proofs.Prelude.{◌≡◌, ℕ, ◌+◌, List, [], ◌∷◌, ◌++◌, sym, ap, ◌∙◌, append_assoc, append-nil, arith, length, encode_utf8, len_utf8, length-encode}
 use Rattle.py_lines.specs.LogicalLine.{byte_len}
 use Rattle.py_lines.proofs.LogicalLines.Cuts.{byte_len-append}
 

@@ -1,11 +1,6 @@
 -- What bytes come to in code, by what their first character begins or adds to; and the quotes with which a string begins there: it is empty, or
 -- its text is open.
-use Rattle.std.proofs.Common.{◌≡◌, ℕ, ◌+◌, ◌<◌, ◌==◌, Bool, true, false, Option, None, Some, List, [], ◌∷◌, ◌++◌, length, drop, refl, sym, ap, ◌∙◌, subst, arith, ◌&&◌, slice_index}
-use Rattle.std.specs.Prelude.{codes, if◌then◌else◌}
-use Rattle.std.specs.Char.{len_utf8}
-use Rattle.std.specs.Str.{StartsWithNoChar}
-use Rattle.std.proofs.lemmas.Bool.{both_ways, cond_both, false_from_ne_true, eq-eqb}
-use Rattle.std.proofs.lemmas.Str.{len_utf8_ascii, len_utf8_bounds}
+use Rattle.py_lines.proofs.Prelude.{◌≡◌, ℕ, ◌+◌, ◌<◌, ◌==◌, Bool, true, false, Option, None, Some, List, [], ◌∷◌, ◌++◌, length, drop, refl, sym, ap, ◌∙◌, subst, arith, ◌&&◌, slice_index, codes, if◌then◌else◌, len_utf8, StartsWithNoChar, both_ways, cond_both, false_from_ne_true, eq-eqb, len_utf8_ascii, len_utf8_bounds}
 use Rattle.py_lines.specs.Balance.{is_closing}
 use Rattle.py_lines.specs.Character.{is_backslash, is_break, is_mark, is_operator, is_quote}
 use Rattle.py_lines.specs.Faults.{kind_of_cause}
@@ -361,10 +356,10 @@ module _ (old : Scan) (t : FieldScanned) (q : ℕ) (follow : Follows old t) (quo
   -- as the scan has it
   pub string_begun : StringBegun old t q (string_start old).1 (string_start old).0
   string_begun = by old.mode refl where
-      by : (m : OpenMode) → old.mode ≡ m → StringBegun old t q (string_from m old.start old.stop).1 (string_from m old.start old.stop).0
-      by (opens.Word s) is = cond_both {A = ℕ × Spelling} (begins_string s) (old.start, s) (old.stop, spellings.Name) (λ p. StringBegun old t q p.1 p.0) (after_prefix s is)
-          (λ none. after_piece (λ r same. let word : r ≡ s = cc (is, same) in ap begins_string word ∙ none))
-      by m is = after_piece (λ r same. absurd (cc (is, same)))
+    by : (m : OpenMode) → old.mode ≡ m → StringBegun old t q (string_from m old.start old.stop).1 (string_from m old.start old.stop).0
+    by (opens.Word s) is = cond_both {A = ℕ × Spelling} (begins_string s) (old.start, s) (old.stop, spellings.Name) (λ p. StringBegun old t q p.1 p.0) (after_prefix s is)
+        (λ none. after_piece (λ r same. let word : r ≡ s = cc (is, same) in ap begins_string word ∙ none))
+    by m is = after_piece (λ r same. absurd (cc (is, same)))
 
 -- the first byte is a quote
 pub first_quote : (bytes : List ℕ) → begins is_quote bytes ≡ true → is_quote (slice_index bytes 0) ≡ true

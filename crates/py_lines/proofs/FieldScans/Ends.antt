@@ -1,8 +1,6 @@
 -- What is open where the text ends, with characters that don't tell yet what they are: a string, or the field whose specification is open or
 -- that a `{` would open; a backslash; a string that they begin; or else a bracket or a field.
-use Rattle.std.proofs.Common.{◌≡◌, ℕ, zero, suc, Bool, ◌<◌, ◌-◌, false, Option, None, Some, List, [], ◌∷◌, length, refl, sym, ap, ◌∙◌, true, ◌==◌, ◌&&◌, ◌++◌, subst, ⊎_elim, drop, slice_index, take, take-append-drop, arith}
-use Rattle.std.specs.Prelude.{if◌then◌else◌, encode_utf8_all, nat_eq, nat_lt}
-use Rattle.std.specs.List.{starts_with}
+use Rattle.py_lines.proofs.Prelude.{◌≡◌, ℕ, zero, suc, Bool, ◌<◌, ◌-◌, false, Option, None, Some, List, [], ◌∷◌, length, refl, sym, ap, ◌∙◌, true, ◌==◌, ◌&&◌, ◌++◌, subst, ⊎_elim, drop, slice_index, take, take-append-drop, arith, if◌then◌else◌, encode_utf8_all, nat_eq, nat_lt, starts_with, and_parts, both_ways, eq-eqb, eqb-true, or_cases, false_from_ne_true, StartsWithNoChar, all_scalars}
 use Rattle.py_lines.specs.LogicalLine.{byte_len}
 use Rattle.py_lines.specs.Faults.{open_bracket, open_inside, Unfinished, open_long, open_short, open_brace, open_join}
 use Rattle.py_lines.specs.FieldStrings.{literal, Host, Place, specification}
@@ -17,7 +15,6 @@ use Rattle.py_lines.specs.Private.FieldFaults.{is_waiting, here, field_start, un
 use Rattle.py_lines.specs.Private.Scan.{bracket_openers, lone_of, Follows, FramesFollow, EndsOpen, IsFieldEnd, Goes, IsPending, is_part_of_text, is_return_at, EndsReturned, GoesOverAll, HasPending, HasQuote, ends_before, has_returned, host_in, is_begun_after, is_lone_brace, is_part_of_code, is_pending, is_text, mode_from, passed, region_in, string_start}
 use Rattle.py_lines.specs.Private.Frames.{IsInnermostFrame, place_of}
 use Rattle.py_lines.proofs.FieldScans.Frames.{innermost_bracket, innermost_field, none_outside}
-use Rattle.std.proofs.lemmas.Bool.{and_parts, both_ways, eq-eqb, eqb-true, or_cases, false_from_ne_true}
 use Rattle.py_lines.specs.Character.{is_backslash, is_brace, is_break, is_quote, is_return}
 use Rattle.py_lines.specs.Piece.{Piece, spelled, begins}
 use Rattle.py_lines.specs.Private.Mode as modes
@@ -29,7 +26,6 @@ use Rattle.py_lines.proofs.Machine.PieceSteps.{some_is}
 use Rattle.py_lines.proofs.FieldScans.Taking.{no_step, steps, StepsOn, follows_open}
 use Rattle.py_lines.proofs.FieldScans.TextItems.{InText, held_nothing, AreLow, low_encoded, low_scalars, one_low, two_low}
 use Rattle.py_lines.proofs.LineScan.AsciiRuns.{quote_ascii}
-use Rattle.std.specs.Str.{StartsWithNoChar, all_scalars}
 use Rattle.py_lines.specs.declared.host.Region.{Region}
 use Rattle.py_lines.specs.declared.host.Region.TheVariants as regions
 use Rattle.py_lines.specs.declared.host.StringWithFields.{StringWithFields}
@@ -314,18 +310,18 @@ module _ (old : Scan) (run : List ℕ) (pending : IsPending old.mode run) where
   pub string_left : (long : Bool) (f : LineFault) → IsStringOf long (lone_of run) old.mode → f.kind ≡ string_kind long → f.place ≡ old.start
       → EndsOpen old run (Some f)
   string_left long f is kind place t u follow goes = subst (λ (s : FieldScanned). IsFieldEnd s (Some f)) (sym e.is) (by long e.told kind) where
-      stays : StaysOpen (string_what long) literal (mode_from old.mode) run × (text_place (mode_from old.mode) ≡ literal)
-      stays = string_stays old.mode long run follow.quote (pending follow.quote) is
+    stays : StaysOpen (string_what long) literal (mode_from old.mode) run × (text_place (mode_from old.mode) ≡ literal)
+    stays = string_stays old.mode long run follow.quote (pending follow.quote) is
 
-      e : EndsText (string_what long) literal t u
-      e = text_end (string_what long) literal t u run (subst (λ (m : FieldMode). StaysOpen (string_what long) literal m run) follow.mode stays.0) goes
+    e : EndsText (string_what long) literal t u
+    e = text_end (string_what long) literal t u run (subst (λ (m : FieldMode). StaysOpen (string_what long) literal m run) follow.mode stays.0) goes
 
-      start : f.place ≡ piece_start (field_state t.outer t.done t.openers e.mode e.held)
-      start = place ∙ follow.start ∙ ap (λ p. byte_len (before p t.outer ++ spelled t.done)) (sym (ap text_place follow.mode) ∙ stays.1 ∙ sym e.told.stands)
+    start : f.place ≡ piece_start (field_state t.outer t.done t.openers e.mode e.held)
+    start = place ∙ follow.start ∙ ap (λ p. byte_len (before p t.outer ++ spelled t.done)) (sym (ap text_place follow.mode) ∙ stays.1 ∙ sym e.told.stands)
 
-      by : (b : Bool) → OpenText (string_what b) literal e.mode → f.kind ≡ string_kind b → IsFieldEnd (field_state t.outer t.done t.openers e.mode e.held) (Some f)
-      by true told kind = (open_long, told.is t.outer t.openers, kind, start)
-      by false told kind = (open_short, told.is t.outer t.openers, kind, start)
+    by : (b : Bool) → OpenText (string_what b) literal e.mode → f.kind ≡ string_kind b → IsFieldEnd (field_state t.outer t.done t.openers e.mode e.held) (Some f)
+    by true told kind = (open_long, told.is t.outer t.openers, kind, start)
+    by false told kind = (open_short, told.is t.outer t.openers, kind, start)
 
   pub specification_left : (host : StringWithFields) (named : Bool) → old.mode ≡ opens.Fields host regions.Specification named
       → (f : LineFault) → ((top : Frame) (others : List Frame) → old.frames ≡ top ∷ others → f.place ≡ place_of top) → f.kind ≡ fault_kind.OpenField
@@ -398,16 +394,16 @@ text_part R m run quote text part lone kept = absurd (both_ways _ refl text)
 pub pending_open : (old : Scan) (t u : FieldScanned) (run : List ℕ) → Follows old t → is_pending old.mode run ≡ true → Goes t run u
     → (is_text old.mode ≡ false → frames t == 0 ≡ true → run ≡ 13 ∷ [] → ⊥) → has_returned u ≡ false
 pending_open old t u run follow pending goes other = by (is_text old.mode) refl where
-    open_at : (s : FieldScanned) → s ≡ u → is_return_at s.mode ≡ false → has_returned u ≡ false
-    open_at s same no_return = ap has_returned (sym same) ∙ ap (λ b. b && (frames s == 0)) no_return
+  open_at : (s : FieldScanned) → s ≡ u → is_return_at s.mode ≡ false → has_returned u ≡ false
+  open_at s same no_return = ap has_returned (sym same) ∙ ap (λ b. b && (frames s == 0)) no_return
 
-    by : (b : Bool) → is_text old.mode ≡ b → has_returned u ≡ false
-    by true text = text_part (has_returned u ≡ false) old.mode run follow.quote text pending
-        (λ host is lone. open_at _ (goes_same t _ u (123 ∷ []) (goes_literal old t follow host is) (subst (λ (x : List ℕ). Goes t x u) lone goes)) refl)
-        (λ what place kept.
-        let e = text_end what place t u run (subst (λ (m : FieldMode). StaysOpen what place m run) follow.mode kept) goes in
-        open_at _ (sym e.is) e.told.no_return)
-    by false code = (code_over old t u follow code run pending goes).open_yet (other code)
+  by : (b : Bool) → is_text old.mode ≡ b → has_returned u ≡ false
+  by true text = text_part (has_returned u ≡ false) old.mode run follow.quote text pending
+      (λ host is lone. open_at _ (goes_same t _ u (123 ∷ []) (goes_literal old t follow host is) (subst (λ (x : List ℕ). Goes t x u) lone goes)) refl)
+      (λ what place kept.
+      let e = text_end what place t u run (subst (λ (m : FieldMode). StaysOpen what place m run) follow.mode kept) goes in
+      open_at _ (sym e.is) e.told.no_return)
+  by false code = (code_over old t u follow code run pending goes).open_yet (other code)
 
 -- what doesn't tell yet are characters of ASCII
 part_low : (long : Bool) (q : ℕ) (run : List ℕ) → is_quote q ≡ true → is_part_of_text long q run ≡ true → AreLow run

@@ -1,13 +1,6 @@
 -- What a line end and a join of two lines come to in code, and which pieces end before which characters.
-use Rattle.std.proofs.Common.{◌≡◌, ℕ, ◌+◌, ◌-◌, ◌<◌, ◌==◌, ◌&&◌, ◌⊎◌, inl, inr, Bool, true, false, Option, None, Some, List, [], ◌∷◌, ◌++◌, length, take, drop, slice_index, refl, sym, ap, ◌∙◌, subst, arith}
-use Rattle.std.specs.Prelude.{MatchOption, codes, encode_utf8, encode_utf8_all}
-use Rattle.std.specs.Char.{len_utf8}
-use Rattle.std.specs.Str.{StartsWithNoChar}
-use Rattle.std.proofs.lemmas.Bool.{and_from, both_ways, false_from_ne_true, not-true}
-use Rattle.std.proofs.Math.Bool.{and-true}
+use Rattle.py_lines.proofs.Prelude.{◌≡◌, ℕ, ◌+◌, ◌-◌, ◌<◌, ◌==◌, ◌&&◌, ◌⊎◌, inl, inr, Bool, true, false, Option, None, Some, List, [], ◌∷◌, ◌++◌, length, take, drop, slice_index, refl, sym, ap, ◌∙◌, subst, arith, MatchOption, codes, encode_utf8, encode_utf8_all, len_utf8, StartsWithNoChar, and_from, both_ways, false_from_ne_true, not-true, and-true, drop-append_seam, length-take-le, take-append-drop, take_rest}
 use Rattle.unicode_ident.proofs.Computing.{unicode_ident}
-use Rattle.std.proofs.Math.Seq.{drop-append_seam}
-use Rattle.std.proofs.lemmas.List.{length-take-le, take-append-drop, take_rest}
 use Rattle.py_lines.specs.Character.{is_backslash, is_break, is_line_feed, is_mark, is_quote, is_return, is_space, is_word_character}
 use Rattle.py_lines.specs.Piece.{Piece, begins, line_end}
 use Rattle.py_lines.specs.Faults.{breaks_join, kind_of_cause}

@@ -1,8 +1,5 @@
 -- What a character does to the open piece: a word is known by its spelling; and what each move leaves open.
-use Rattle.std.proofs.Common.{not, ◌≡◌, ℕ, Bool, true, false, ◌==◌, List, [], ◌∷◌, ◌++◌, refl, sym, ap, ◌&&◌, ◌∙◌, subst, append-nil, arith}
-use Rattle.std.specs.Prelude.{if◌then◌else◌}
-use Rattle.std.specs.Str.{byte}
-use Rattle.std.proofs.lemmas.Bool.{cond_both, both_ways}
+use Rattle.py_lines.proofs.Prelude.{not, ◌≡◌, ℕ, Bool, true, false, ◌==◌, List, [], ◌∷◌, ◌++◌, refl, sym, ap, ◌&&◌, ◌∙◌, subst, append-nil, arith, if◌then◌else◌, byte, cond_both, both_ways}
 use Rattle.py_lines.specs.Character.{is_quote, is_word_character, is_backslash, is_break}
 use Rattle.py_lines.specs.Piece.{string, Piece, spelled}
 use Rattle.py_lines.specs.FieldStrings.{Host, Place, literal, specification}

@@ -1,13 +1,7 @@
 -- What opens and ends in a string's text: a field, at its `{` in the literal part or in a specification, and its specification with the
 -- field.
-use Rattle.std.proofs.Common.{◌≡◌, ℕ, ◌+◌, ◌-◌, ◌<◌, Bool, true, false, ◌&&◌, ◌==◌, None, Some, List, [], ◌∷◌, ◌++◌, drop, length, nat_lt, refl, sym, ap, ◌∙◌, subst, arith, append-nil, append_assoc, length-append}
+use Rattle.py_lines.proofs.Prelude.{◌≡◌, ℕ, ◌+◌, ◌-◌, ◌<◌, Bool, true, false, ◌&&◌, ◌==◌, None, Some, List, [], ◌∷◌, ◌++◌, drop, length, nat_lt, refl, sym, ap, ◌∙◌, subst, arith, append-nil, append_assoc, length-append, encode_utf8_all, encode_utf8, len_utf8, both_ways, eq-eqb, eqb-true, le-ltb, lt-ltb, ltb-true, ne_eqb, low_scalar, nat_tests, encode_ascii, length-encode, len_utf8_ascii, len_utf8_bounds}
 use Rattle.py_lines.proofs.FieldScans.Bytes.{byte_len-one}
-use Rattle.std.specs.Prelude.{encode_utf8_all, encode_utf8}
-use Rattle.std.specs.Char.{len_utf8}
-use Rattle.std.proofs.lemmas.Bool.{both_ways, eq-eqb, eqb-true, le-ltb, lt-ltb, ltb-true, ne_eqb}
-use Rattle.std.proofs.Math.Utf8.{low_scalar}
-use Rattle.std.proofs.lemmas.Bool.Decides.{nat_tests}
-use Rattle.std.proofs.lemmas.Str.{encode_ascii, length-encode, len_utf8_ascii, len_utf8_bounds}
 use Rattle.py_lines.specs.Balance.{is_closing, is_opening}
 use Rattle.py_lines.specs.Character.{is_break, is_backslash, is_quote}
 use Rattle.py_lines.specs.Faults.{Cause, brace_too_deep, opens_too_deep, kind_of_cause, begins_nothing, closes_wrong}
@@ -213,19 +207,19 @@ pub opens_in : (old : Scan) (t : FieldScanned) (follow : Follows old t) (host : 
     → OpensInText (mode_from old.mode) bytes host region → (length old.frames < 200 → new ≡ entered old host region → GoesOver t bytes 1 new)
     × (length old.frames ≡ 200 → IsWrongIn t bytes (record { kind = fault_kind.TooDeep; place = old.stop }))
 opens_in old t follow host region bytes new x = go region x where
-    many : length old.frames ≡ frames t
-    many = open-length old t follow
+  many : length old.frames ≡ frames t
+  many = open-length old t follow
 
-    go : (r : Region) → OpensInText (mode_from old.mode) bytes host r → (length old.frames < 200 → new ≡ entered old host r → GoesOver t bytes 1 new)
-        × (length old.frames ≡ 200 → IsWrongIn t bytes (record { kind = fault_kind.TooDeep; place = old.stop }))
-    go regions.Literal x = let (c, next, other) = x.next refl in (
-      λ few. opens_literal old t follow host x.is bytes new c x.brace next other (lt-ltb (frames t) 200 (omega (arith, many, few))),
-      λ full. deep_literal old t follow host x.is bytes c x.brace next other (omega (arith, many, full)),
-    )
-    go regions.Specification x = (
-      λ few. opens_specified old t follow host x.is bytes new x.brace (lt-ltb (frames t) 200 (omega (arith, many, few))),
-      λ full. deep_specified old t follow host x.is bytes x.brace (le-ltb (frames t) 200 (omega (arith, many, full))),
-    )
+  go : (r : Region) → OpensInText (mode_from old.mode) bytes host r → (length old.frames < 200 → new ≡ entered old host r → GoesOver t bytes 1 new)
+      × (length old.frames ≡ 200 → IsWrongIn t bytes (record { kind = fault_kind.TooDeep; place = old.stop }))
+  go regions.Literal x = let (c, next, other) = x.next refl in (
+    λ few. opens_literal old t follow host x.is bytes new c x.brace next other (lt-ltb (frames t) 200 (omega (arith, many, few))),
+    λ full. deep_literal old t follow host x.is bytes c x.brace next other (omega (arith, many, full)),
+  )
+  go regions.Specification x = (
+    λ few. opens_specified old t follow host x.is bytes new x.brace (lt-ltb (frames t) 200 (omega (arith, many, few))),
+    λ full. deep_specified old t follow host x.is bytes x.brace (le-ltb (frames t) 200 (omega (arith, many, full))),
+  )
 
 -- a field ends with its specification
 pub ends_over : (old : Scan) (t : FieldScanned) (bytes : List ℕ) (result : Progress) (new : Scan) → Follows old t → is_text old.mode ≡ true

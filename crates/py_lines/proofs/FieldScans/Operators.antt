@@ -1,9 +1,5 @@
 -- What an operator of code comes to: it opens or closes a bracket, ends a field, begins its specification, or is a sign.
-use Rattle.std.proofs.Common.{◌≡◌, ℕ, ◌+◌, true, false, not, ◌||◌, ◌&&◌, ◌==◌, Option, None, Some, List, [], ◌∷◌, ◌++◌, length, nat_lt, refl, sym, ap, ◌∙◌, subst, arith, append-nil, append_assoc}
-use Rattle.std.specs.Str.{byte}
-use Rattle.std.specs.Char.{len_utf8}
-use Rattle.std.specs.Prelude.{if◌then◌else◌}
-use Rattle.std.proofs.lemmas.Bool.{and_right, eq-eqb, le-ltb, lt-ltb, ne_eqb}
+use Rattle.py_lines.proofs.Prelude.{◌≡◌, ℕ, ◌+◌, true, false, not, ◌||◌, ◌&&◌, ◌==◌, Option, None, Some, List, [], ◌∷◌, ◌++◌, length, nat_lt, refl, sym, ap, ◌∙◌, subst, arith, append-nil, append_assoc, byte, len_utf8, if◌then◌else◌, and_right, eq-eqb, le-ltb, lt-ltb, ne_eqb}
 use Rattle.py_lines.specs.Character.{is_break, is_operator, is_quote}
 use Rattle.py_lines.specs.Piece.{operator, Piece, spelled}
 use Rattle.py_lines.specs.LogicalLine.{byte_len}
@@ -241,10 +237,10 @@ module _ (old : Scan) (c : ℕ) (t : FieldScanned) (follow : Follows old t) (is 
     by_innermost : (P : Type 0) → (old.frames ≡ [] → P) → ((opener spot : ℕ) (others : List Frame) → old.frames ≡ frame.Bracket opener spot ∷ others → P)
         → ((field : OpenField) (others : List Frame) → old.frames ≡ frame.Field field ∷ others → P) → P
     by_innermost P none bracket field = go old.frames refl where
-        go : (fs : List Frame) → old.frames ≡ fs → P
-        go [] is = none is
-        go (frame.Bracket opener spot ∷ others) is = bracket opener spot others is
-        go (frame.Field f ∷ others) is = field f others is
+      go : (fs : List Frame) → old.frames ≡ fs → P
+      go [] is = none is
+      go (frame.Bracket opener spot ∷ others) is = bracket opener spot others is
+      go (frame.Field f ∷ others) is = field f others is
 
     -- it closes nothing
     pub closes_none : is_closing c ≡ true → ((others : List Frame) → ¬ (IsClosedBy old.frames c others)) → TakesOne t c old (wrong_here old kinds.WrongClose) old

@@ -1,11 +1,5 @@
 -- Runs of words, space and operators that are no brackets: the scan after them is what it would come to by one of them after another.
-use Rattle.std.proofs.Common.{◌≡◌, ℕ, ◌+◌, ◌-◌, ◌<◌, Bool, true, false, ◌&&◌, ◌||◌, not, ◌==◌, Option, None, Some, List, [], ◌∷◌, ◌++◌, length, take, drop, slice_index, refl, sym, ap, ◌∙◌, subst, arith, take-append-drop, ⊎_elim}
-use Rattle.std.specs.Prelude.{if◌then◌else◌, codes}
-use Rattle.std.specs.Char.{len_utf8}
-use Rattle.std.specs.List.{list_all}
-use Rattle.std.proofs.lemmas.Bool.{and_parts, both_ways, cond_both, or_cases}
-use Rattle.std.proofs.lemmas.List.{length-take-le, take_more}
-use Rattle.std.proofs.lemmas.Str.{len_utf8_ascii}
+use Rattle.py_lines.proofs.Prelude.{◌≡◌, ℕ, ◌+◌, ◌-◌, ◌<◌, Bool, true, false, ◌&&◌, ◌||◌, not, ◌==◌, Option, None, Some, List, [], ◌∷◌, ◌++◌, length, take, drop, slice_index, refl, sym, ap, ◌∙◌, subst, arith, take-append-drop, ⊎_elim, if◌then◌else◌, codes, len_utf8, list_all, and_parts, both_ways, cond_both, or_cases, length-take-le, take_more, len_utf8_ascii}
 use Rattle.py_lines.specs.Balance.{is_opening, is_closing}
 use Rattle.py_lines.specs.Character.{is_operator, is_quote, is_space, is_word_character}
 use Rattle.py_lines.specs.FieldStrings.{literal}

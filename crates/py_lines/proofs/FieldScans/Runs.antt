@@ -1,13 +1,6 @@
 -- What is held in one step: characters that leave the open piece as it is, simple text of a string with fields, and words, spaces and
 -- signs of a field's code up to the last sign.
-use Rattle.std.proofs.Common.{◌≡◌, ℕ, zero, suc, ◌+◌, ◌<◌, ◌≤◌, Bool, true, false, ◌&&◌, ◌==◌, List, [], ◌∷◌, ◌++◌, length, take, drop, refl, sym, ap, ◌∙◌, subst, append_assoc, append-nil, arith, take-append-drop}
-use Rattle.std.proofs.Math.Path.{transport}
-use Rattle.std.specs.Prelude.{Some, encode_utf8_all}
-use Rattle.std.specs.Char.{len_utf8}
-use Rattle.std.specs.List.{list_all}
-use Rattle.std.specs.Str.{all_scalars}
-use Rattle.std.proofs.lemmas.Bool.{and_parts, and_right}
-use Rattle.std.proofs.lemmas.List.{length-take-le, take-take}
+use Rattle.py_lines.proofs.Prelude.{◌≡◌, ℕ, zero, suc, ◌+◌, ◌<◌, ◌≤◌, Bool, true, false, ◌&&◌, ◌==◌, List, [], ◌∷◌, ◌++◌, length, take, drop, refl, sym, ap, ◌∙◌, subst, append_assoc, append-nil, arith, take-append-drop, transport, Some, encode_utf8_all, len_utf8, list_all, all_scalars, and_parts, and_right, length-take-le, take-take}
 use Rattle.py_lines.specs.Character.{is_quote}
 use Rattle.py_lines.specs.FieldStrings.{literal}
 use Rattle.py_lines.specs.LogicalLine.{byte_len}

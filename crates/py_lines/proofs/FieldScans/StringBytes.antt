@@ -1,13 +1,5 @@
 -- What the bytes with which a string's text goes on do to it, item after item.
-use Rattle.std.proofs.Common.{◌≡◌, ℕ, ◌<◌, ◌≤◌, Bool, true, false, not, ◌&&◌, ◌==◌, Option, None, Some, List, [], ◌∷◌, ◌++◌, ◌+◌, length, drop, slice_index, refl, sym, ap, ◌∙◌, subst, arith, append_assoc, append-nil, inl, inr, ◌⊎◌}
-use Rattle.std.specs.Prelude.{encode_utf8, encode_utf8_all, nat_lt, if◌then◌else◌}
-use Rattle.std.specs.List.{list_all}
-use Rattle.std.specs.Char.{len_utf8}
-use Rattle.std.specs.Str.{StartsWithNoChar}
-use Rattle.std.proofs.Math.Seq.{drop-append_seam, drop-cons}
-use Rattle.std.proofs.lemmas.List.{drop_all, length_push}
-use Rattle.std.proofs.lemmas.Bool.{and_from, cond_both, both_ways, eq-eqb, eqb-true, ltb-true, ltb-false, or_right}
-use Rattle.std.proofs.lemmas.Str.{encode_ascii, len_utf8_ascii, len_utf8_bounds}
+use Rattle.py_lines.proofs.Prelude.{◌≡◌, ℕ, ◌<◌, ◌≤◌, Bool, true, false, not, ◌&&◌, ◌==◌, Option, None, Some, List, [], ◌∷◌, ◌++◌, ◌+◌, length, drop, slice_index, refl, sym, ap, ◌∙◌, subst, arith, append_assoc, append-nil, inl, inr, ◌⊎◌, encode_utf8, encode_utf8_all, nat_lt, if◌then◌else◌, list_all, len_utf8, StartsWithNoChar, drop-append_seam, drop-cons, drop_all, length_push, and_from, cond_both, both_ways, eq-eqb, eqb-true, ltb-true, ltb-false, or_right, encode_ascii, len_utf8_ascii, len_utf8_bounds}
 use Rattle.py_lines.specs.Character.{is_backslash, is_brace, is_break, is_quote, is_return}
 use Rattle.py_lines.specs.FieldStrings.{literal}
 use Rattle.py_lines.specs.declared.host.StringWithFields.{StringWithFields}

@@ -1,8 +1,5 @@
 -- What a character does to the text of a string: its own quote, a backslash and what it escapes, and any other character.
-use Rattle.std.proofs.Common.{◌≡◌, ℕ, ◌<◌, ◌≤◌, Bool, true, false, not, ◌&&◌, ◌==◌, List, [], ◌∷◌, ◌++◌, drop, slice_index, refl, sym, ap, ◌∙◌, subst, arith, ⊎_elim}
-use Rattle.std.specs.Char.{len_utf8}
-use Rattle.std.proofs.lemmas.Bool.{and_left, both_ways, cases_Bool, cases_lt, eq-eqb, ne_eqb, or_from}
-use Rattle.std.proofs.lemmas.Str.{encode_ascii}
+use Rattle.py_lines.proofs.Prelude.{◌≡◌, ℕ, ◌<◌, ◌≤◌, Bool, true, false, not, ◌&&◌, ◌==◌, List, [], ◌∷◌, ◌++◌, drop, slice_index, refl, sym, ap, ◌∙◌, subst, arith, ⊎_elim, len_utf8, and_left, both_ways, cases_Bool, cases_lt, eq-eqb, ne_eqb, or_from, encode_ascii}
 use Rattle.py_lines.specs.Character.{is_backslash, is_brace, is_break, is_line_feed, is_quote, is_return}
 use Rattle.py_lines.specs.FieldStrings.{Host, Place, literal, specification, names}
 use Rattle.py_lines.specs.declared.mode.Mode.{Mode as OpenMode}
@@ -52,9 +49,9 @@ waits_not host place named at none = grind arith
 pub body_alike : (b : ℕ) (host : Host) (place : Place) (named : Bool) (at : At) → is_after_brace at ≡ false → ((c : ℕ) → IsFirstByte b c → body_move host place named at c ≡ body_move host place named between c) → TextAlike b (body host place named at) (body host place named between)
 unfolding field_move
 body_alike b host place named at none move = record { place = refl; class = refl; move = move; cause = λ c depth first. go c depth place } where
-    go : (c depth : ℕ) (p : Place) → cause_in depth (body host p named at) c ≡ cause_in depth (body host p named between) c
-    go c depth literal = rw (waits_not host literal named at none) refl
-    go c depth specification = refl
+  go : (c depth : ℕ) (p : Place) → cause_in depth (body host p named at) c ≡ cause_in depth (body host p named between) c
+  go c depth literal = rw (waits_not host literal named at none) refl
+  go c depth specification = refl
 
 pub text_as-self : (rest : List ℕ) (m : FieldMode) → TextAs rest m m
 text_as-self [] m = refl
@@ -67,18 +64,18 @@ text_mode m quote long c at quotes = grind arith
 
 pub pending_text : (mode : OpenMode) (m : FieldMode) (quote : ℕ) (long : Bool) (c : ℕ) (run : List ℕ) → IsTextAt m quote long c → is_part_of_text long quote run ≡ true → mode_from mode ≡ m → is_pending mode run ≡ true
 pending_text mode m quote long c run at part same = go mode (subst (λ x. IsTextAt x quote long c) (sym same) at) where
-    go : (mode : OpenMode) → IsTextAt (mode_from mode) quote long c → is_pending mode run ≡ true
-    go other at = grind arith
+  go : (mode : OpenMode) → IsTextAt (mode_from mode) quote long c → is_pending mode run ≡ true
+  go other at = grind arith
 
 -- what holds of the first byte holds of the character
 pub text_at : (m : FieldMode) (quote : ℕ) (long : Bool) (bytes : List ℕ) (c : ℕ) → BeginsWith bytes c → IsTextAt m quote long (slice_index bytes 0) → IsTextAt m quote long c
 text_at m quote long bytes c next at = ⊎_elim (λ (low : c < 128). subst (λ (b : ℕ). IsTextAt m quote long b) (first low) at) (high m at) (cases_lt c 128) where
-    first : c < 128 → slice_index bytes 0 ≡ c
-    first low = sym (ap (λ t. slice_index t 0) (ap (λ t. t ++ drop (len_utf8 c) bytes) (sym (encode_ascii c low)) ∙ next.spell))
+  first : c < 128 → slice_index bytes 0 ≡ c
+  first low = sym (ap (λ t. slice_index t 0) (ap (λ t. t ++ drop (len_utf8 c) bytes) (sym (encode_ascii c low)) ∙ next.spell))
 
-    high : (m : FieldMode) → IsTextAt m quote long (slice_index bytes 0) → 128 ≤ c → IsTextAt m quote long c
-    high (body host place named between) at is = grind (arith, high_apart c is, high_other c 125 is, high_other c 123 is)
-    high m at is = grind arith
+  high : (m : FieldMode) → IsTextAt m quote long (slice_index bytes 0) → 128 ≤ c → IsTextAt m quote long c
+  high (body host place named between) at is = grind (arith, high_apart c is, high_other c 125 is, high_other c 123 is)
+  high m at is = grind arith
 
 -- after one quote more of a long string
 abbrev pub with_one : FieldMode → FieldMode

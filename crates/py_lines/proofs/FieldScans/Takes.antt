@@ -1,9 +1,5 @@
 -- What the scan takes in one step or several: the machine goes through it, and the scan follows.
-use Rattle.std.proofs.Common.{◌≡◌, ℕ, ◌+◌, ◌<◌, true, List, [], ◌∷◌, ◌++◌, drop, refl, sym, ap, ◌∙◌, subst, append_assoc, arith}
-use Rattle.std.specs.Prelude.{encode_utf8_all}
-use Rattle.std.specs.Str.{all_scalars}
-use Rattle.std.proofs.lemmas.List.{drop-drop}
-use Rattle.std.proofs.lemmas.Str.{encodes-append}
+use Rattle.py_lines.proofs.Prelude.{◌≡◌, ℕ, ◌+◌, ◌<◌, true, List, [], ◌∷◌, ◌++◌, drop, refl, sym, ap, ◌∙◌, subst, append_assoc, arith, encode_utf8_all, all_scalars, drop-drop, encodes-append}
 use Rattle.py_lines.specs.LogicalLine.{byte_len}
 use Rattle.py_lines.specs.declared.scan.Progress.TheVariants as progress
 use Rattle.py_lines.specs.declared.scan.Scan.{Scan}
@@ -46,22 +42,22 @@ module _ (new : Scan) (rest bytes : List ℕ) (t u : FieldScanned) where
 
 pub takes_on : (old mid new : Scan) (bytes : List ℕ) (a b : ℕ) → Takes old bytes a mid → Takes mid (drop a bytes) b new → Takes old bytes (a + b) new
 takes_on old mid new bytes a b first second t follows = by (first t follows) where
-    far : drop b (drop a bytes) ≡ drop (a + b) bytes
-    far = drop-drop b a bytes
+  far : drop b (drop a bytes) ≡ drop (a + b) bytes
+  far = drop-drop b a bytes
 
-    both : (run : List ℕ) → encode_utf8_all run ++ drop a bytes ≡ bytes → all_scalars run ≡ true → byte_len run ≡ a → (more : List ℕ)
-        → encode_utf8_all more ++ drop b (drop a bytes) ≡ drop a bytes
-        → all_scalars more ≡ true → byte_len more ≡ b → ComesOver t (run ++ more) new (drop b (drop a bytes)) → TakesFrom t bytes (a + b) new
-    both run spell scalars size more next_spell next_scalars next_size comes = let size_is : byte_len (run ++ more) ≡ a + b = omega (arith, byte_len-append run more, size, next_size) in
-        let spelled = ap (λ x. encode_utf8_all (run ++ more) ++ x) (sym far) ∙ ap (λ x. x ++ drop b (drop a bytes)) (encodes-append run more)
-        ∙ append_assoc (encode_utf8_all run) (encode_utf8_all more) (drop b (drop a bytes)) ∙ ap (λ x. encode_utf8_all run ++ x) next_spell ∙ spell in
-        search (spelled, all_scalars-append run more scalars next_scalars, size_is, subst (ComesOver t (run ++ more) new) far comes)
+  both : (run : List ℕ) → encode_utf8_all run ++ drop a bytes ≡ bytes → all_scalars run ≡ true → byte_len run ≡ a → (more : List ℕ)
+      → encode_utf8_all more ++ drop b (drop a bytes) ≡ drop a bytes
+      → all_scalars more ≡ true → byte_len more ≡ b → ComesOver t (run ++ more) new (drop b (drop a bytes)) → TakesFrom t bytes (a + b) new
+  both run spell scalars size more next_spell next_scalars next_size comes = let size_is : byte_len (run ++ more) ≡ a + b = omega (arith, byte_len-append run more, size, next_size) in
+      let spelled = ap (λ x. encode_utf8_all (run ++ more) ++ x) (sym far) ∙ ap (λ x. x ++ drop b (drop a bytes)) (encodes-append run more)
+      ∙ append_assoc (encode_utf8_all run) (encode_utf8_all more) (drop b (drop a bytes)) ∙ ap (λ x. encode_utf8_all run ++ x) next_spell ∙ spell in
+      search (spelled, all_scalars-append run more scalars next_scalars, size_is, subst (ComesOver t (run ++ more) new) far comes)
 
-    by : TakesFrom t bytes a mid → TakesFrom t bytes (a + b) new
-    by one = go one.run one.spell one.scalars one.size one.comes where
-        go : (run : List ℕ) → encode_utf8_all run ++ drop a bytes ≡ bytes → all_scalars run ≡ true → byte_len run ≡ a
-            → ComesOver t run mid (drop a bytes) → TakesFrom t bytes (a + b) new
-        go [] spell scalars size follows_mid = let two = second t follows_mid in both [] spell scalars size two.run two.spell two.scalars two.size two.comes
-        go (c ∷ cs) spell scalars size (u, goes, rests) = let two = second rests.as_if rests.follows in
-            let (v, on, rested) = comes_as new (drop b (drop a bytes)) (drop a bytes) rests.as_if u two.run rests.stands two.scalars two.spell two.comes in
-            both (c ∷ cs) spell scalars size two.run two.spell two.scalars two.size (v, goes-append t u v (c ∷ cs) two.run goes on, rested)
+  by : TakesFrom t bytes a mid → TakesFrom t bytes (a + b) new
+  by one = go one.run one.spell one.scalars one.size one.comes where
+    go : (run : List ℕ) → encode_utf8_all run ++ drop a bytes ≡ bytes → all_scalars run ≡ true → byte_len run ≡ a
+        → ComesOver t run mid (drop a bytes) → TakesFrom t bytes (a + b) new
+    go [] spell scalars size follows_mid = let two = second t follows_mid in both [] spell scalars size two.run two.spell two.scalars two.size two.comes
+    go (c ∷ cs) spell scalars size (u, goes, rests) = let two = second rests.as_if rests.follows in
+        let (v, on, rested) = comes_as new (drop b (drop a bytes)) (drop a bytes) rests.as_if u two.run rests.stands two.scalars two.spell two.comes in
+        both (c ∷ cs) spell scalars size two.run two.spell two.scalars two.size (v, goes-append t u v (c ∷ cs) two.run goes on, rested)

@@ -1,11 +1,6 @@
 -- Where the scan stands as the machine does before some bytes: what holds of the state that it keeps count of holds of the one in which
 -- the machine is. And what one more character comes to, by what it does there: the open piece goes on, closes, or ends before another.
-use Rattle.std.proofs.Common.{◌≡◌, ℕ, ◌<◌, ◌==◌, ◌&&◌, not, inl, inr, ◌⊎◌, Bool, true, false, None, List, [], ◌∷◌, ◌++◌, length, refl, sym, ap, ◌∙◌, subst, arith, append_assoc, append-nil, slice_index, drop, ◌+◌, Some, ◌||◌, nat_lt}
-use Rattle.std.specs.Prelude.{encode_utf8, encode_utf8_all}
-use Rattle.std.specs.Char.{IsScalar, len_utf8}
-use Rattle.std.specs.Str.{all_scalars}
-use Rattle.std.proofs.lemmas.Bool.{and_from, and_parts, both_ways, and_right, false_from_ne_true}
-use Rattle.std.proofs.lemmas.Str.{encode_ascii, encodes-append, length-encode, len_utf8_bounds, len_utf8_ascii}
+use Rattle.py_lines.proofs.Prelude.{◌≡◌, ℕ, ◌<◌, ◌==◌, ◌&&◌, not, inl, inr, ◌⊎◌, Bool, true, false, None, List, [], ◌∷◌, ◌++◌, length, refl, sym, ap, ◌∙◌, subst, arith, append_assoc, append-nil, slice_index, drop, ◌+◌, Some, ◌||◌, nat_lt, encode_utf8, encode_utf8_all, IsScalar, len_utf8, all_scalars, and_from, and_parts, both_ways, and_right, false_from_ne_true, encode_ascii, encodes-append, length-encode, len_utf8_bounds, len_utf8_ascii}
 use Rattle.py_lines.proofs.Text.Utf8Prefixes.{all_scalars-append}
 use Rattle.py_lines.specs.declared.mode.Mode.{Mode as OpenMode}
 use Rattle.py_lines.specs.declared.mode.Mode.TheVariants as opens
@@ -173,20 +168,20 @@ wrong_real t u bytes f stands w = let last = w.c ∷ [] in
 -- so what a step comes to
 pub comes_real : (old new : Scan) (bytes : List ℕ) (p : Progress) (t : FieldScanned) → 0 < length bytes → Rests old t bytes → Steps old bytes p new → ComesTo t bytes old p new
 comes_real old new bytes p t some rests steps = by p (steps rests.as_if rests.follows) where
-    by : (q : Progress) → ComesTo rests.as_if bytes old q new → ComesTo t bytes old q new
-    by (progress.Going len) o =
-        search (o, goes_real t rests.as_if o.to bytes o.run (drop len bytes) rests.stands o.scalars o.spell (some_run o.run len o.size o.some) o.goes, one_real t rests.as_if bytes o.run (drop len bytes) rests.stands o.scalars o.spell o.one)
-    by (progress.LineEnded len) (inl e) = inl (feed_real t rests.as_if bytes len new rests.stands e)
-    by (progress.LineEnded len) (inr e) =
-        inr (search (e, goes_real t rests.as_if e.to bytes (13 ∷ []) (e.b ∷ e.rest) rests.stands refl (low_spell 13 (e.b ∷ e.rest) (omega arith) ∙ sym e.spell) (omega arith) e.goes))
-    by progress.Waits (all, alone, pending, same) =
-        let o = over_all t rests.as_if bytes all.run all.rest all.to some rests.stands all.scalars all.spell all.goes in (
-          search (all, o.goes, one_real t rests.as_if bytes all.run all.rest rests.stands all.scalars all.spell all.one),
-          (λ is. alone (o.returns is)),
-          pending,
-          same,
-        )
-    by (progress.Wrong f) (wrong, same) = (wrong_real t rests.as_if bytes f rests.stands wrong, same)
+  by : (q : Progress) → ComesTo rests.as_if bytes old q new → ComesTo t bytes old q new
+  by (progress.Going len) o =
+      search (o, goes_real t rests.as_if o.to bytes o.run (drop len bytes) rests.stands o.scalars o.spell (some_run o.run len o.size o.some) o.goes, one_real t rests.as_if bytes o.run (drop len bytes) rests.stands o.scalars o.spell o.one)
+  by (progress.LineEnded len) (inl e) = inl (feed_real t rests.as_if bytes len new rests.stands e)
+  by (progress.LineEnded len) (inr e) =
+      inr (search (e, goes_real t rests.as_if e.to bytes (13 ∷ []) (e.b ∷ e.rest) rests.stands refl (low_spell 13 (e.b ∷ e.rest) (omega arith) ∙ sym e.spell) (omega arith) e.goes))
+  by progress.Waits (all, alone, pending, same) =
+      let o = over_all t rests.as_if bytes all.run all.rest all.to some rests.stands all.scalars all.spell all.goes in (
+        search (all, o.goes, one_real t rests.as_if bytes all.run all.rest rests.stands all.scalars all.spell all.one),
+        (λ is. alone (o.returns is)),
+        pending,
+        same,
+      )
+  by (progress.Wrong f) (wrong, same) = (wrong_real t rests.as_if bytes f rests.stands wrong, same)
 
 -- a contradiction, which `cc` finds faster here than where much is known
 pub some_level : (l : Level) (ls : List Level) → l ∷ ls ≡ [] → ⊥

@@ -1,9 +1,7 @@
 -- How the machine with fields goes through the text of a string: its mode alone tells what a character does, and it alone changes, with the
 -- text that the string holds. And what the items of the text come to for the scan: it goes on, closes the string, waits, or finds a fault.
 -- What opens and ends a field there stands in Openings.
-use Rattle.std.proofs.Common.{◌≡◌, ℕ, Bool, true, false, ◌==◌, eqb, ◌&&◌, Some, List, [], ◌∷◌, ◌++◌, refl, sym, ap, ◌∙◌, subst, append-nil, append_assoc, ◌+◌, ◌<◌, inl, inr, ◌⊎◌, not, drop, length, length-append, arith}
-use Rattle.std.specs.Prelude.{encode_utf8, encode_utf8_all}
-use Rattle.std.proofs.lemmas.Bool.{both_ways, and_from, cond_both}
+use Rattle.py_lines.proofs.Prelude.{◌≡◌, ℕ, Bool, true, false, ◌==◌, eqb, ◌&&◌, Some, List, [], ◌∷◌, ◌++◌, refl, sym, ap, ◌∙◌, subst, append-nil, append_assoc, ◌+◌, ◌<◌, inl, inr, ◌⊎◌, not, drop, length, length-append, arith, encode_utf8, encode_utf8_all, both_ways, and_from, cond_both, len_utf8, list_all, list_all-append, all_scalars, low_scalar, encode_ascii, len_utf8_ascii}
 use Rattle.py_lines.specs.Character.{is_backslash, is_break, is_line_feed, is_quote, is_return}
 use Rattle.py_lines.specs.Piece.{Piece, spelled, string}
 use Rattle.py_lines.specs.Faults.{Cause, breaks_string, ends_specification, kind_of_cause}
@@ -19,13 +17,7 @@ use Rattle.py_lines.proofs.Pieces.PieceLists.{piece}
 use Rattle.py_lines.proofs.FieldMachine.Runs.{room_grows}
 use Rattle.py_lines.proofs.FieldScans.Moves.{BodyMoved, body_moved, list_at}
 use Rattle.py_lines.proofs.FieldScans.Taking.{Shut, StandsAt, by_line, by_room, free_at, goes_on, steps, no_step, stands_at, stands_shut, rests_exact}
-use Rattle.std.specs.Char.{len_utf8}
-use Rattle.std.specs.List.{list_all}
-use Rattle.std.proofs.lemmas.List.Folds.{list_all-append}
 use Rattle.py_lines.proofs.LineScan.AsciiRuns.{break_low, is_low, is_low_from, low_encodes, low_is, quote_ascii}
-use Rattle.std.specs.Str.{all_scalars}
-use Rattle.std.proofs.Math.Utf8.{low_scalar}
-use Rattle.std.proofs.lemmas.Str.{encode_ascii, len_utf8_ascii}
 use Rattle.py_lines.specs.Balance.{is_closing, is_opening}
 use Rattle.py_lines.specs.declared.fault.FaultKind.TheVariants as fault_kind
 use Rattle.py_lines.specs.declared.scan.LineFault.{LineFault}
@@ -106,9 +98,9 @@ text_stays m c in_text = absurd in_text
 
 no_break : (m : FieldMode) (held : List ℕ) (c : ℕ) → InText m → is_break_move (field_move m held c) ≡ false
 no_break m held c in_text = ap is_break_move (held_nothing m held c in_text) ∙ by (field_move m [] c) (text_stays m c in_text) where
-    by : (v : FieldMove) → StaysText (text_place m) v → is_break_move v ≡ false
-    by breaks none = absurd none
-    by v stays = refl
+  by : (v : FieldMove) → StaysText (text_place m) v → is_break_move v ≡ false
+  by breaks none = absurd none
+  by v stays = refl
 
 item_on : (t u : FieldScanned) (c : ℕ) (cs : List ℕ) → room_step t c ≡ Some u → InText u.mode → IsOneItem u cs → IsOneItem t (c ∷ cs)
 item_on t u c [] step in_text one = tt

@@ -1,8 +1,5 @@
 -- How many bytes simple text of a string with fields has, as the code counts them.
-use Rattle.std.proofs.Common.{◌≡◌, ℕ, zero, suc, ◌+◌, ◌-◌, ◌<◌, ◌≤◌, ◌⊎◌, inl, inr, append_assoc, length-append, Bool, true, false, List, [], ◌∷◌, ◌++◌, length, take, drop, slice_index, refl, sym, ap, ◌∙◌, subst, arith, add-one, take_all, length-drop}
-use Rattle.std.specs.List.{list_all}
-use Rattle.std.proofs.lemmas.List.{take_more}
-use Rattle.std.proofs.Math.Seq.{take-add, take-append_seam}
+use Rattle.py_lines.proofs.Prelude.{◌≡◌, ℕ, zero, suc, ◌+◌, ◌-◌, ◌<◌, ◌≤◌, ◌⊎◌, inl, inr, append_assoc, length-append, Bool, true, false, List, [], ◌∷◌, ◌++◌, length, take, drop, slice_index, refl, sym, ap, ◌∙◌, subst, arith, add-one, take_all, length-drop, list_all, take_more, take-add, take-append_seam}
 use Rattle.py_lines.specs.Balance.{closing_of}
 use Rattle.py_lines.specs.Character.{is_quote}
 use Rattle.py_lines.specs.FieldStrings.{begins_open}
@@ -120,11 +117,11 @@ pub code_on : (bytes : List ℕ) (n m k : ℕ) → HasCode bytes n → n < lengt
     → HasSimpleCode (rest_of bytes (n + 1)) m → n + 1 + m < length bytes → slice_index bytes (n + 1 + m) ≡ closing_of (slice_index bytes n)
     → HasSimpleCode (rest_of bytes (n + 1 + m + 1)) k → HasCode bytes (n + 1 + m + 1 + k)
 code_on bytes n m k code within is inside further closes more = record { within = (all 0).0; leads = λ quote. (all quote).1 } where
-    all : (quote : ℕ) → LeadsBy quote (AtCode []) bytes (n + 1 + m + 1 + k) (InCode [])
-    all quote = let o : ℕ = slice_index bytes n in let opened = one_more bytes n o (code.within, code.leads quote) within refl (opening_leads quote o is) in
-        let inner = joined bytes (n + 1) m opened (inside.within, inside.leads (o ∷ []) quote) in
-        let closed = one_more bytes (n + 1 + m) _ inner further refl (closing_leads quote o _ is closes) in
-        joined bytes (n + 1 + m + 1) k closed (more.within, more.leads [] quote)
+  all : (quote : ℕ) → LeadsBy quote (AtCode []) bytes (n + 1 + m + 1 + k) (InCode [])
+  all quote = let o : ℕ = slice_index bytes n in let opened = one_more bytes n o (code.within, code.leads quote) within refl (opening_leads quote o is) in
+      let inner = joined bytes (n + 1) m opened (inside.within, inside.leads (o ∷ []) quote) in
+      let closed = one_more bytes (n + 1 + m) _ inner further refl (closing_leads quote o _ is closes) in
+      joined bytes (n + 1 + m + 1) k closed (more.within, more.leads [] quote)
 
 -- a field after its `{`: code, perhaps a specification, and the `}`
 field_of : (quote : ℕ) (bytes : List ℕ) (n : ℕ) → begins_open bytes ≡ false → LeadsBy quote (AtCode []) bytes (n + 1) InText

@@ -1,10 +1,5 @@
 -- Simple text of a string with fields: the machine goes through it, from one place to another.
-use Rattle.std.proofs.Common.{◌≡◌, ℕ, ◌+◌, ◌<◌, ◌≤◌, Bool, true, false, not, ◌&&◌, ◌==◌, Some, List, [], ◌∷◌, ◌++◌, length, refl, sym, ap, ◌∙◌, subst, arith}
-use Rattle.std.specs.Prelude.{nat_lt}
-use Rattle.std.proofs.lemmas.Bool.Decides.{nat_tests}
-use Rattle.std.specs.List.{list_all}
-use Rattle.std.proofs.lemmas.Bool.{and_from, and_parts, and_right, both_ways, eq-eqb}
-use Rattle.std.proofs.lemmas.List.Folds.{list_all-append}
+use Rattle.py_lines.proofs.Prelude.{◌≡◌, ℕ, ◌+◌, ◌<◌, ◌≤◌, Bool, true, false, not, ◌&&◌, ◌==◌, Some, List, [], ◌∷◌, ◌++◌, length, refl, sym, ap, ◌∙◌, subst, arith, nat_lt, nat_tests, list_all, and_from, and_parts, and_right, both_ways, eq-eqb, list_all-append}
 use Rattle.py_lines.specs.Character.{is_space, is_quote, is_operator, is_break, is_backslash, is_brace, is_line_feed}
 use Rattle.py_lines.specs.Piece.{Piece, spelled, operator, string}
 use Rattle.py_lines.specs.Balance.{is_opening, is_closing, closing_of}
@@ -260,16 +255,16 @@ module _ (outer : List Level) (l : Level) (front os : List ℕ) (ps : List Piece
   piece_goes : (passes : Mode → Bool) (begun : Mode) → is_quote c ≡ false → is_break c ≡ false
       → start_of c ≡ starts.Open begun → passes begun ≡ true → Fits passes (code_result m c) → To passes
   piece_goes passes begun quote none opens fits moves = go (code_result m c) (code_results m held c simple quote) moves where
-      go : (v : FieldMove) → field_move (plain m) held c ≡ v → Fits passes v → To passes
-      go (grows (plain n)) move more = let goes = grows_to T c (plain n) (code_apart m simple) none (inside (plain n)) move in
-          (in_code outer l front ps os n (held ++ c ∷ []), goes, standing passes os outer l front ps n (held ++ c ∷ []) more)
-      go breaks move more = let next : FieldScanned = in_code outer l front (closed m ps held) os begun (c ∷ []) in
-          let room = no_opening _ c (opens_no c (starts.Open begun) opens (λ other. absurd (cc))) in (
-            next,
-            breaks_to next none move room (ap (field_started (level_after l front ∷ outer) (closed m ps held) os c) opens) (inside (plain begun)),
-            standing passes os outer l front (closed m ps held) begun (c ∷ []) fits,
-          )
-      go v move none_so = absurd none_so
+    go : (v : FieldMove) → field_move (plain m) held c ≡ v → Fits passes v → To passes
+    go (grows (plain n)) move more = let goes = grows_to T c (plain n) (code_apart m simple) none (inside (plain n)) move in
+        (in_code outer l front ps os n (held ++ c ∷ []), goes, standing passes os outer l front ps n (held ++ c ∷ []) more)
+    go breaks move more = let next : FieldScanned = in_code outer l front (closed m ps held) os begun (c ∷ []) in
+        let room = no_opening _ c (opens_no c (starts.Open begun) opens (λ other. absurd (cc))) in (
+          next,
+          breaks_to next none move room (ap (field_started (level_after l front ∷ outer) (closed m ps held) os c) opens) (inside (plain begun)),
+          standing passes os outer l front (closed m ps held) begun (c ∷ []) fits,
+        )
+    go v move none_so = absurd none_so
 
   -- it is an operator
   abbrev Operated : List ℕ → FieldScanned
@@ -288,12 +283,12 @@ module _ (outer : List Level) (l : Level) (front os : List ℕ) (ps : List Piece
 
   code_goes : is_code_byte c ≡ true → To (passing (is_ascii_word c))
   code_goes h = go (is_ascii_word c) (is_space c) refl refl where
-      go : (word space : Bool) → is_ascii_word c ≡ word → is_space c ≡ space → To (passing word)
-      go true space word is =
-          piece_goes is_code_mode (modes.Word (first_spelling c)) (word_is c word).1 (word-no_break c word) (start-word c (word_starts c word)) refl (grind arith)
-      go false true word is =
-          piece_goes is_apart_mode modes.Space (space_is c is).1 (space-no_break c is) (start-space c is) refl (grind (arith, (space_is c is).0))
-      go false false word is = let plain_so = code_plain c h in signs_go (plain_operator c plain_so.0 word is) plain_so.1
+    go : (word space : Bool) → is_ascii_word c ≡ word → is_space c ≡ space → To (passing word)
+    go true space word is =
+        piece_goes is_code_mode (modes.Word (first_spelling c)) (word_is c word).1 (word-no_break c word) (start-word c (word_starts c word)) refl (grind arith)
+    go false true word is =
+        piece_goes is_apart_mode modes.Space (space_is c is).1 (space-no_break c is) (start-space c is) refl (grind (arith, (space_is c is).0))
+    go false false word is = let plain_so = code_plain c h in signs_go (plain_operator c plain_so.0 word is) plain_so.1
 
 -- and a run of them
 code_leads : (word : Bool) (os : List ℕ) (quote c : ℕ) → is_code_byte c ≡ true

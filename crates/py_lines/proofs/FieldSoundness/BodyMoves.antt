@@ -1,10 +1,5 @@
 -- What each character does in a string with fields, at each place in it: how the string grows, in its literal part and in specifications, and how it ends.
-use Rattle.std.proofs.Common.{◌≡◌, ◌==◌, ℕ, Bool, true, false, not, ◌||◌, ◌&&◌, List, [], ◌∷◌, ◌++◌, refl, sym, ap, ◌∙◌, subst, inl, inr, ◌⊎◌, ⊎_elim, append_assoc, append-nil}
-use Rattle.std.specs.Prelude.{if◌then◌else◌}
-use Rattle.std.specs.Str.{byte}
-use Rattle.std.specs.List.{list_any}
-use Rattle.std.proofs.Math.Bool.{and-true}
-use Rattle.std.proofs.lemmas.Bool.{cond_both, and_parts, and_from, or_cases, eqb-true, both_ways, not_from_false, and_left, and_right, or_right, not-true}
+use Rattle.py_lines.proofs.Prelude.{◌≡◌, ◌==◌, ℕ, Bool, true, false, not, ◌||◌, ◌&&◌, List, [], ◌∷◌, ◌++◌, refl, sym, ap, ◌∙◌, subst, inl, inr, ◌⊎◌, ⊎_elim, append_assoc, append-nil, if◌then◌else◌, byte, list_any, and-true, cond_both, and_parts, and_from, or_cases, eqb-true, both_ways, not_from_false, and_left, and_right, or_right, not-true}
 use Rattle.py_lines.specs.Character.{is_quote, is_return, is_break, is_backslash, is_brace, is_barred, is_line_feed}
 use Rattle.py_lines.specs.Piece.{string, Piece}
 use Rattle.py_lines.specs.PieceGrammar.{is_prefix, IsNoneOr, is_bare, joined, has_triple, InClassIn, MayPrecedeIn}
@@ -230,9 +225,9 @@ module _ (limit : Limit) (outer : List Level) (depth : ℕ) (host : Host) where
 may_stand_escaped : (host : Host) (place : Place) (c : ℕ) → is_barred_escape host place c ≡ false → may_be_escaped host place c ≡ true
 may_stand_escaped host literal c h = refl
 may_stand_escaped host specification c h = go host.is_long h where
-    go : (long : Bool) → is_break c && not long ≡ false → long || not (is_break c) ≡ true
-    go true e = refl
-    go false e = not_from_false _ (plain_one (is_break c) e)
+  go : (long : Bool) → is_break c && not long ≡ false → long || not (is_break c) ≡ true
+  go true e = refl
+  go false e = not_from_false _ (plain_one (is_break c) e)
 
 barred_short : (host : Host) (place : Place) (c : ℕ) → is_barred_escape host place c ≡ true → (is_break c ≡ true) × (host.is_long ≡ false)
 barred_short host literal c h = absurd (both_ways _ refl h)

@@ -1,7 +1,6 @@
 -- What each character does outside strings with fields: it goes on with the open piece or ends it, begins another one, ends a field,
 -- or opens its specification.
-use Rattle.std.proofs.Common.{◌≡◌, ◌==◌, ℕ, Bool, suc, ◌+◌, true, false, ◌&&◌, Option, None, Some, List, [], ◌∷◌, ◌++◌, length, refl, sym, ap, ◌∙◌, subst, inl, append_assoc, append-nil, arith, inr, ◌⊎◌}
-use Rattle.std.proofs.lemmas.Bool.{cond_both, and_left, and_right, eqb-true, ne_eqb, and_parts, both_ways, or_from, false_from_ne_true, and_from}
+use Rattle.py_lines.proofs.Prelude.{◌≡◌, ◌==◌, ℕ, Bool, suc, ◌+◌, true, false, ◌&&◌, Option, None, Some, List, [], ◌∷◌, ◌++◌, length, refl, sym, ap, ◌∙◌, subst, inl, append_assoc, append-nil, arith, inr, ◌⊎◌, cond_both, and_left, and_right, eqb-true, ne_eqb, and_parts, both_ways, or_from, false_from_ne_true, and_from, list_any}
 use Rattle.py_lines.specs.Character.{is_quote, is_operator, is_word_character}
 use Rattle.py_lines.specs.Piece.{string, operator, line_end, Piece, spelled, Class, word, begins, is_mark_class}
 use Rattle.py_lines.specs.PieceGrammar.{is_bare, joined, InClassIn, MayPrecedeIn, AreReadPlain}
@@ -20,7 +19,6 @@ use Rattle.py_lines.proofs.FieldSoundness.Holds.{BeginsPlain, Limit, OpensSpecif
 use Rattle.py_lines.proofs.FieldSoundness.BodyMoves.{no_parts, longer_next, push_between}
 use Rattle.py_lines.proofs.FieldSoundness.Lists.{FieldSoundIf, not_specification, no_pieces, sound_in, list_more, levels_more, adds_neutral, fresh_sound, stands_at, stands_more, stands_push}
 use Rattle.py_lines.proofs.FieldMachine.StringParts.{field_unnamed}
-use Rattle.std.specs.List.{list_any}
 use Rattle.py_lines.specs.declared.mode.Spelling.{Spelling}
 use Rattle.py_lines.proofs.Fields.Parts.{not_nothing}
 use Rattle.py_lines.proofs.Fields.Prefixes.{word_quotes}
@@ -65,10 +63,10 @@ inside_is limit level outer done read c ready =
 -- an operator that neither ends a field nor opens its specification
 after_sound : (limit : Limit) (outer : List Level) (done : List Piece) (openers read : List ℕ) (c : ℕ) → Ready limit outer done openers read c → (is_opening c ≡ true → limit.Room (length openers + levels_open outer)) → is_operator c ≡ true → ((l : Level) (ls : List Level) → outer ≡ l ∷ ls → (c == 58) && (depth_through 0 done == 0) ≡ false) → FieldSoundIf limit (after_operator outer done c (openers_with openers c)) (read ++ c ∷ [])
 after_sound limit outer done openers read c ready room is colon = go (openers_with openers c) (opens-operator openers done c [] ready.list.opens) where
-    go : (o : Option (List ℕ)) → OpensIf o (done ++ piece operator (c ∷ []) ∷ []) → FieldSoundIf limit (after_operator outer done c o) (read ++ c ∷ [])
-    go None opens = tt
-    go (Some after) opens = fresh_sound limit outer done openers after operator (c ∷ []) (read ++ c ∷ []) ready
-        (record { is = (c, refl, is); precedes = λ more. tt; unmarked = inl refl; opens = opens; colon = colon; room = room })
+  go : (o : Option (List ℕ)) → OpensIf o (done ++ piece operator (c ∷ []) ∷ []) → FieldSoundIf limit (after_operator outer done c o) (read ++ c ∷ [])
+  go None opens = tt
+  go (Some after) opens = fresh_sound limit outer done openers after operator (c ∷ []) (read ++ c ∷ []) ready
+      (record { is = (c, refl, is); precedes = λ more. tt; unmarked = inl refl; opens = opens; colon = colon; room = room })
 
 -- the `}` that ends a field without a specification
 code_ends : (limit : Limit) (level : Level) (outer : List Level) (done : List Piece) (read : List ℕ) (c : ℕ) → Ready limit (level ∷ outer) done [] read c → c ≡ 125 → IsFieldSound limit (field_ended level outer (level.front ++ (spelled done ++ c ∷ []))) (read ++ c ∷ [])
@@ -119,22 +117,22 @@ operator_sound limit (level ∷ outer) done (o ∷ os) read c ready room is =
 -- what a character begins
 pub start_sound : (limit : Limit) (outer : List Level) (done : List Piece) (openers read : List ℕ) (c : ℕ) → Ready limit outer done openers read c → (is_opening c ≡ true → limit.Room (length openers + levels_open outer)) → FieldSoundIf limit (field_started outer done openers c (start_of c)) (read ++ c ∷ [])
 start_sound limit outer done openers read c ready room = go (start_of c) (starts_so c) (start_holds c) where
-    begun : (m : Mode) → StartsSo c (starts.Open m) → (class_of m ≡ string → BeginsPlain (c ∷ [])) × AtStart (plain m) outer done
-    begun modes.Start so = absurd so
-    begun (modes.Opened q) so = (λ at. record { prefix = []; quote = c; body = []; spell = refl; none = refl; opens = so.0; plain = refl }, tt)
-    begun modes.Space so = (λ at. absurd (cc), tt)
-    begun (modes.Word s) so = (λ at. absurd (cc), tt)
-    begun modes.Comment so = (λ at. absurd (cc), tt)
-    begun modes.Return so = (λ at. absurd (cc), tt)
-    begun modes.Backslash so = (λ at. absurd (cc), tt)
-    begun m so = absurd so
+  begun : (m : Mode) → StartsSo c (starts.Open m) → (class_of m ≡ string → BeginsPlain (c ∷ [])) × AtStart (plain m) outer done
+  begun modes.Start so = absurd so
+  begun (modes.Opened q) so = (λ at. record { prefix = []; quote = c; body = []; spell = refl; none = refl; opens = so.0; plain = refl }, tt)
+  begun modes.Space so = (λ at. absurd (cc), tt)
+  begun (modes.Word s) so = (λ at. absurd (cc), tt)
+  begun modes.Comment so = (λ at. absurd (cc), tt)
+  begun modes.Return so = (λ at. absurd (cc), tt)
+  begun modes.Backslash so = (λ at. absurd (cc), tt)
+  begun m so = absurd so
 
-    go : (s : Start) → StartsSo c s → StartHolds c s → FieldSoundIf limit (field_started outer done openers c s) (read ++ c ∷ [])
-    go (starts.Open m) so holds = sound_in limit outer done openers (plain m) (c ∷ []) (read ++ c ∷ []) ready (holds, (begun m so).0) (begun m so).1
-    go starts.Operator so holds = operator_sound limit outer done openers read c ready room so
-    go starts.LineEnd so holds = fresh_sound limit outer done openers openers line_end (c ∷ []) (read ++ c ∷ []) ready
-        (adds_neutral limit outer done openers line_end (c ∷ []) [] ready.list.opens (λ at. absurd (cc)) holds.0 (λ more. holds.1 more) (inl refl))
-    go starts.Nothing so holds = tt
+  go : (s : Start) → StartsSo c s → StartHolds c s → FieldSoundIf limit (field_started outer done openers c s) (read ++ c ∷ [])
+  go (starts.Open m) so holds = sound_in limit outer done openers (plain m) (c ∷ []) (read ++ c ∷ []) ready (holds, (begun m so).0) (begun m so).1
+  go starts.Operator so holds = operator_sound limit outer done openers read c ready room so
+  go starts.LineEnd so holds = fresh_sound limit outer done openers openers line_end (c ∷ []) (read ++ c ∷ []) ready
+      (adds_neutral limit outer done openers line_end (c ∷ []) [] ready.list.opens (λ at. absurd (cc)) holds.0 (λ more. holds.1 more) (inl refl))
+  go starts.Nothing so holds = tt
 
 -- the `}` that ends a field with a specification
 pub specification_ends : (limit : Limit) (outer : List Level) (openers : List ℕ) (host : Host) (held read : List ℕ) (c : ℕ) → openers ≡ [] → c ≡ 125 → HoldsParts limit outer (length openers + levels_open outer) host specification false held (125 ∷ []) → HoldsLevels limit specification outer held → before specification outer ++ held ≡ read → FieldSoundIf limit (specification_ended outer (held ++ c ∷ [])) (read ++ c ∷ [])
@@ -254,31 +252,31 @@ module _ (limit : Limit) (outer : List Level) (done : List Piece) (openers : Lis
   -- the piece ends before it
   ready : ((more : List ℕ) → AreReadPlain (closed m [] held) (c ∷ more)) → Ready limit outer (closed m done held) openers read c
   ready own = go (ends_of m) where
-      go : Ends m → Ready limit outer (closed m done held) openers read c
-      go (nothing is empty) = subst (λ (l : List Piece). Ready limit outer l openers read c) (sym (is done held))
-          (subst (λ t. Stands limit literal outer done openers (t ++ c ∷ []) (read ++ c ∷ [])) (empty held sound.mode.0) (stands_more limit literal outer done openers held read (c ∷ []) (stands_at limit outer done openers (plain m) held read literal sound refl)))
-      go (something is class marked) =
-          let fit : (more : List ℕ) → AreReadPlain (piece (class_of m) held ∷ []) (c ∷ more) = λ more. subst (λ (l : List Piece). AreReadPlain l (c ∷ more)) (is [] held) (own more) in
-          let is_plain : (more : List ℕ) → IsPlainText (class_of m) held (c ∷ more) = λ more. plain_text (class_of m) held (c ∷ more) sound.mode.1 (word_host m held c other) in
-          subst (λ (l : List Piece). Ready limit outer l openers read c) (sym (is done held))
-          (ends_before limit outer done openers (plain m) held read c (class_of m) sound refl class (plain_class _ (class_of m) held (c ∷ []) (is_plain []) (fit []).0)
-          (λ more. plain_precede Fields (class_of m) held (c ∷ more) (is_plain more) (fit more).1) marked)
+    go : Ends m → Ready limit outer (closed m done held) openers read c
+    go (nothing is empty) = subst (λ (l : List Piece). Ready limit outer l openers read c) (sym (is done held))
+        (subst (λ t. Stands limit literal outer done openers (t ++ c ∷ []) (read ++ c ∷ [])) (empty held sound.mode.0) (stands_more limit literal outer done openers held read (c ∷ []) (stands_at limit outer done openers (plain m) held read literal sound refl)))
+    go (something is class marked) =
+        let fit : (more : List ℕ) → AreReadPlain (piece (class_of m) held ∷ []) (c ∷ more) = λ more. subst (λ (l : List Piece). AreReadPlain l (c ∷ more)) (is [] held) (own more) in
+        let is_plain : (more : List ℕ) → IsPlainText (class_of m) held (c ∷ more) = λ more. plain_text (class_of m) held (c ∷ more) sound.mode.1 (word_host m held c other) in
+        subst (λ (l : List Piece). Ready limit outer l openers read c) (sym (is done held))
+        (ends_before limit outer done openers (plain m) held read c (class_of m) sound refl class (plain_class _ (class_of m) held (c ∷ []) (is_plain []) (fit []).0)
+        (λ more. plain_precede Fields (class_of m) held (c ∷ more) (is_plain more) (fit more).1) marked)
 
   -- so whatever it does
   pub plain_sound : HasRoom limit (length openers + levels_open outer) c (plain_move (move_of m c)) → FieldSoundIf limit (field_moved (field_state outer done openers (plain m) held) c (plain_move (move_of m c))) (read ++ c ∷ [])
   plain_sound room = go (move_of m c) (move_holds m held c sound.mode.0) (quoted_so m held c sound.mode.0 sound.mode.1 other) refl room where
-      no_start : (n : Mode) → Holds n [] (held ++ c ∷ []) → AtStart (plain n) outer done
-      no_start modes.Start (one, none) = absurd (not_nothing held c [] none)
-      no_start n holds = tt
+    no_start : (n : Mode) → Holds n [] (held ++ c ∷ []) → AtStart (plain n) outer done
+    no_start modes.Start (one, none) = absurd (not_nothing held c [] none)
+    no_start n holds = tt
 
-      go : (v : Move) → MoveHolds m held c v → QuotedSo held c v → move_of m c ≡ v → HasRoom limit (length openers + levels_open outer) c (plain_move v) → FieldSoundIf limit (field_moved (field_state outer done openers (plain m) held) c (plain_move v)) (read ++ c ∷ [])
-      go (moves.Grows n) holds quoted so room = grew limit outer done openers (plain m) (plain n) held read c sound refl (holds, quoted) (no_start n holds)
-      go moves.Closes holds quoted so room = let text = held ++ c ∷ [] in let class = closes_class m c so in
-          let is_plain : (rest : List ℕ) → IsPlainText (class_of m) text rest = λ rest. plain_text (class_of m) text rest (λ at. begins_plain-more held c (sound.mode.1 at)) (λ at. absurd (class.1 at)) in
-          closes_with limit outer done openers (plain m) held read c (class_of m) sound refl class.0 (plain_class _ (class_of m) text [] (is_plain []) holds.0)
-          (λ more. plain_precede Fields (class_of m) text more (is_plain more) (holds.1 more)) (unmarked m outer done sound.start)
-      go moves.Breaks holds quoted so room = start_sound limit outer (closed m done held) openers read c (ready holds) room
-      go moves.Refused holds quoted so room = tt
+    go : (v : Move) → MoveHolds m held c v → QuotedSo held c v → move_of m c ≡ v → HasRoom limit (length openers + levels_open outer) c (plain_move v) → FieldSoundIf limit (field_moved (field_state outer done openers (plain m) held) c (plain_move v)) (read ++ c ∷ [])
+    go (moves.Grows n) holds quoted so room = grew limit outer done openers (plain m) (plain n) held read c sound refl (holds, quoted) (no_start n holds)
+    go moves.Closes holds quoted so room = let text = held ++ c ∷ [] in let class = closes_class m c so in
+        let is_plain : (rest : List ℕ) → IsPlainText (class_of m) text rest = λ rest. plain_text (class_of m) text rest (λ at. begins_plain-more held c (sound.mode.1 at)) (λ at. absurd (class.1 at)) in
+        closes_with limit outer done openers (plain m) held read c (class_of m) sound refl class.0 (plain_class _ (class_of m) text [] (is_plain []) holds.0)
+        (λ more. plain_precede Fields (class_of m) text more (is_plain more) (holds.1 more)) (unmarked m outer done sound.start)
+    go moves.Breaks holds quoted so room = start_sound limit outer (closed m done held) openers read c (ready holds) room
+    go moves.Refused holds quoted so room = tt
 
 -- a word that is the prefix of a string with fields, before a quote
 pub begins_sound : (limit : Limit) (outer : List Level) (done : List Piece) (openers : List ℕ) (m : Mode) (held read : List ℕ) (c : ℕ) → IsFieldSound limit (field_state outer done openers (plain m) held) read → begins_host m held c ≡ true → IsFieldSound limit (field_state outer done openers (opened (host_of held c)) (held ++ c ∷ [])) (read ++ c ∷ [])

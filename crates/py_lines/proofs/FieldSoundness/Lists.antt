@@ -1,6 +1,5 @@
 -- One more piece in the innermost list.
-use Rattle.std.proofs.Common.{◌≡◌, ◌==◌, ℕ, ◌+◌, true, false, ◌&&◌, Option, None, Some, List, [], ◌∷◌, ◌++◌, length, refl, sym, ap, ◌∙◌, subst, ◌⊎◌, ⊎_elim, append_assoc, append-nil}
-use Rattle.std.proofs.lemmas.Bool.{and_left, both_ways}
+use Rattle.py_lines.proofs.Prelude.{◌≡◌, ◌==◌, ℕ, ◌+◌, true, false, ◌&&◌, Option, None, Some, List, [], ◌∷◌, ◌++◌, length, refl, sym, ap, ◌∙◌, subst, ◌⊎◌, ⊎_elim, append_assoc, append-nil, and_left, both_ways}
 use Rattle.py_lines.specs.Piece.{Class, string, operator, Piece, is_mark_class, begins_marked, spelled}
 use Rattle.py_lines.specs.PieceGrammar.{InClassIn, MayPrecedeIn, AreReadIn}
 use Rattle.py_lines.specs.Balance.{is_opener, is_closer, depth_after, depth_through}
@@ -46,10 +45,10 @@ pub levels_more : (limit : Limit) (place : Place) (outer : List Level) (text mor
 levels_more limit literal [] text more h = tt
 levels_more limit specification [] text more h = h
 levels_more limit place (l ∷ ls) text more h = (single place l.place h.0, h.1, h.2) where
-    single : (p q : Place) → IsSingle p q text → IsSingle p q (text ++ more)
-    single literal literal one = λ rest. subst (λ t. begins_open t ≡ false) (sym (append_assoc text more rest)) (one (more ++ rest))
-    single literal specification one = tt
-    single specification q one = tt
+  single : (p q : Place) → IsSingle p q text → IsSingle p q (text ++ more)
+  single literal literal one = λ rest. subst (λ t. begins_open t ≡ false) (sym (append_assoc text more rest)) (one (more ++ rest))
+  single literal specification one = tt
+  single specification q one = tt
 
 pub stands_more : (limit : Limit) (place : Place) (outer : List Level) (done : List Piece) (openers held read more : List ℕ) → Stands limit place outer done openers held read → Stands limit place outer done openers (held ++ more) (read ++ more)
 stands_more limit place outer done openers held read more h =

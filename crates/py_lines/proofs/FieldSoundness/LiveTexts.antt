@@ -1,8 +1,6 @@
 -- Some text that begins with these characters is read with fields exactly where the machine with fields goes through them, and
 -- each of them has room: from wherever it has come, the open piece, brackets and fields can be closed, and nothing more opens.
-use Rattle.std.proofs.Common.{◌≡◌, ◌==◌, ℕ, Bool, true, false, Some, List, [], ◌∷◌, ◌++◌, refl, sym, ap, ◌∙◌, subst, ◌&&◌, Option, None}
-use Rattle.std.specs.Str.{all_scalars}
-use Rattle.std.proofs.lemmas.Bool.{and_from, both_ways, eq-eqb, and_parts, and_right, false_from_ne_true}
+use Rattle.py_lines.proofs.Prelude.{◌≡◌, ◌==◌, ℕ, Bool, true, false, Some, List, [], ◌∷◌, ◌++◌, refl, sym, ap, ◌∙◌, subst, ◌&&◌, Option, None, all_scalars, and_from, both_ways, eq-eqb, and_parts, and_right, false_from_ne_true, and_assoc}
 use Rattle.py_lines.specs.Character.{is_quote, is_line_feed, is_return, is_break, is_backslash, is_brace}
 use Rattle.py_lines.specs.Piece.{operator, Piece, spelled, comment, line_end}
 use Rattle.py_lines.specs.Balance.{is_opening, is_closing, closing_of}
@@ -28,7 +26,6 @@ use Rattle.py_lines.proofs.FieldSoundness.HostSteps.{sound_at}
 use Rattle.py_lines.proofs.FieldSoundness.OpenEnds.{at_open}
 use Rattle.py_lines.proofs.FieldSoundness.WholeTexts.{two_hundred, rooms_at, final_is_reading}
 use Rattle.py_lines.proofs.FieldMachine.StringRuns.{second_quote}
-use Rattle.std.proofs.Math.Bool.{and_assoc}
 use Rattle.py_lines.specs.Faults.{IsLive}
 
 -- a mode in which the text may end, or a closing bracket follow
@@ -136,12 +133,12 @@ quote_one q quotes = and_from _ _ (quote-scalar q quotes) refl
 literal_readies : (Room : ℕ → Type 0) (outer : List Level) (done : List Piece) (openers : List ℕ) (host : Host) (named : Bool) (held : List ℕ) → is_quote host.quote ≡ true → Readies Room (field_state outer done openers (body host literal named between) held)
 unfolding field_move body_move between_move
 literal_readies Room outer done openers host named held quotes = go host.is_long refl where
-    go : (b : Bool) → host.is_long ≡ b → Readies Room (field_state outer done openers (body host literal named between) held)
-    go false short = closes_last Room _ host.quote (quote_one host.quote quotes) (rw (eq-eqb host.quote host.quote refl, short))
-    go true long =
-        grows_first Room _ (body host literal named after_one) host.quote (quote_one host.quote quotes) refl (rw (eq-eqb host.quote host.quote refl, long))
-        (grows_first Room _ (body host literal named after_two) host.quote (quote_one host.quote quotes) refl (rw (eq-eqb host.quote host.quote refl, long))
-        (closes_last Room _ host.quote (quote_one host.quote quotes) (rw (eq-eqb host.quote host.quote refl, long))))
+  go : (b : Bool) → host.is_long ≡ b → Readies Room (field_state outer done openers (body host literal named between) held)
+  go false short = closes_last Room _ host.quote (quote_one host.quote quotes) (rw (eq-eqb host.quote host.quote refl, short))
+  go true long =
+      grows_first Room _ (body host literal named after_one) host.quote (quote_one host.quote quotes) refl (rw (eq-eqb host.quote host.quote refl, long))
+      (grows_first Room _ (body host literal named after_two) host.quote (quote_one host.quote quotes) refl (rw (eq-eqb host.quote host.quote refl, long))
+      (closes_last Room _ host.quote (quote_one host.quote quotes) (rw (eq-eqb host.quote host.quote refl, long))))
 
 -- a letter, and `}`, in a string
 letter_moves : (host : Host) (place : Place) (named : Bool) (at : At) (held : List ℕ) → is_quote host.quote ≡ true → (at ≡ after_brace → ⊥) → field_move (body host place named at) held 97 ≡ grows (body host place named between)

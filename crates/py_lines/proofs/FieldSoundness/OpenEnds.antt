@@ -1,7 +1,5 @@
 -- What is open where the machine with fields stands, and where a text ends, by its mode: lists of pieces that are begun, and strings, one in another.
-use Rattle.std.proofs.Common.{◌≡◌, ℕ, ◌+◌, ◌<◌, Bool, false, List, [], ◌∷◌, ◌++◌, length, refl, sym, ap, ◌∙◌, subst, append_assoc, append-nil, arith, true, inl, inr, ◌⊎◌}
-use Rattle.std.specs.Str.{byte}
-use Rattle.std.proofs.lemmas.Bool.{eq-eqb, and_right}
+use Rattle.py_lines.proofs.Prelude.{◌≡◌, ℕ, ◌+◌, ◌<◌, Bool, false, List, [], ◌∷◌, ◌++◌, length, refl, sym, ap, ◌∙◌, subst, append_assoc, append-nil, arith, true, inl, inr, ◌⊎◌, byte, eq-eqb, and_right}
 use Rattle.py_lines.specs.Piece.{operator, Piece, begins_marked, spelled, string}
 use Rattle.py_lines.specs.PieceGrammar.{joined, AreReadIn}
 use Rattle.py_lines.specs.Balance.{closing_of, IsBalanced, depth_through}

@@ -1,7 +1,5 @@
 -- Brackets that are open in a list of pieces, and what they say of its depth and of its balance.
-use Rattle.std.proofs.Common.{◌≡◌, ℕ, suc, ◌+◌, true, false, ◌==◌, Option, None, Some, List, [], ◌∷◌, ◌++◌, length, refl, sym, ap, ◌∙◌, subst, append_assoc, append-nil, arith}
-use Rattle.std.proofs.lemmas.Bool.{cond_both, or_from}
-use Rattle.std.proofs.lemmas.List.{nil_from_length}
+use Rattle.py_lines.proofs.Prelude.{◌≡◌, ℕ, suc, ◌+◌, true, false, ◌==◌, Option, None, Some, List, [], ◌∷◌, ◌++◌, length, refl, sym, ap, ◌∙◌, subst, append_assoc, append-nil, arith, cond_both, or_from, nil_from_length}
 use Rattle.py_lines.specs.Piece.{Class, operator, Piece}
 use Rattle.py_lines.specs.Balance as balance
 use Rattle.py_lines.specs.Balance.{is_opening, is_closing, closing_of, is_opener, is_closer, ArePair, IsBalanced, depth_after, depth_through}
@@ -51,18 +49,18 @@ OpensIf (Some os) ps = Opens os ps
 pub opens-operator : (os : List ℕ) (ps : List Piece) (c : ℕ) (cs : List ℕ) → Opens os ps → OpensIf (openers_with os c) (ps ++ piece operator (c ∷ cs) ∷ [])
 unfolding openers_with
 opens-operator os ps c cs opens = go os opens where
-    p : Piece
-    p = piece operator (c ∷ cs)
+  p : Piece
+  p = piece operator (c ∷ cs)
 
-    pushed : (bs : List ℕ) → Opens bs ps → is_opening c ≡ true → Opens (c ∷ bs) (ps ++ p ∷ [])
-    pushed bs own h = inside (c ∷ bs) (ps ++ p ∷ []) c bs ps [] p refl refl own h refl (balance.none [] refl)
+  pushed : (bs : List ℕ) → Opens bs ps → is_opening c ≡ true → Opens (c ∷ bs) (ps ++ p ∷ [])
+  pushed bs own h = inside (c ∷ bs) (ps ++ p ∷ []) c bs ps [] p refl refl own h refl (balance.none [] refl)
 
-    go : (bs : List ℕ) → Opens bs ps → OpensIf (openers_with bs c) (ps ++ p ∷ [])
-    go [] own = cond_both (is_opening c) _ _ (λ o. OpensIf o (ps ++ p ∷ [])) (pushed [] own)
-        (λ h. cond_both (is_closing c) _ _ (λ o. OpensIf o (ps ++ p ∷ [])) (λ k. tt) (λ k. opens-other [] ps p own h k))
-    go (b ∷ bs) own = cond_both (is_opening c) _ _ (λ o. OpensIf o (ps ++ p ∷ [])) (pushed (b ∷ bs) own)
-        (λ h. cond_both (is_closing c) _ _ (λ o. OpensIf o (ps ++ p ∷ []))
-        (λ k. cond_both (c == closing_of b) (Some bs) None (λ o. OpensIf o (ps ++ p ∷ [])) (λ l. opens-closes b bs ps p own k l) (λ l. tt)) (λ k. opens-other (b ∷ bs) ps p own h k))
+  go : (bs : List ℕ) → Opens bs ps → OpensIf (openers_with bs c) (ps ++ p ∷ [])
+  go [] own = cond_both (is_opening c) _ _ (λ o. OpensIf o (ps ++ p ∷ [])) (pushed [] own)
+      (λ h. cond_both (is_closing c) _ _ (λ o. OpensIf o (ps ++ p ∷ [])) (λ k. tt) (λ k. opens-other [] ps p own h k))
+  go (b ∷ bs) own = cond_both (is_opening c) _ _ (λ o. OpensIf o (ps ++ p ∷ [])) (pushed (b ∷ bs) own)
+      (λ h. cond_both (is_closing c) _ _ (λ o. OpensIf o (ps ++ p ∷ []))
+      (λ k. cond_both (c == closing_of b) (Some bs) None (λ o. OpensIf o (ps ++ p ∷ [])) (λ l. opens-closes b bs ps p own k l) (λ l. tt)) (λ k. opens-other (b ∷ bs) ps p own h k))
 
 opens_by : (os : List ℕ) (ps : List Piece) (class : Class) (text : List ℕ) → Opens os ps → OpensIf (openers_by os class text) (ps ++ piece class text ∷ [])
 opens_by os ps operator [] opens = subst (λ o. OpensIf o (ps ++ piece operator [] ∷ [])) (sym (no_character os)) (opens-other os ps (piece operator []) opens refl refl)

@@ -1,6 +1,5 @@
 -- Where the machine with fields may end, its pieces read the text, those of the innermost list with the open one. They are shallow if each character had room.
-use Rattle.std.proofs.Common.{◌≡◌, ℕ, ◌+◌, true, false, List, [], ◌∷◌, ◌++◌, length, refl, sym, ap, ◌∙◌, subst, inr, append-nil, ◌<◌, Option, None, Some, nat_lt, arith}
-use Rattle.std.proofs.lemmas.Bool.{and_left, and_right, both_ways, and_parts, cond_both, ltb-true}
+use Rattle.py_lines.proofs.Prelude.{◌≡◌, ℕ, ◌+◌, true, false, List, [], ◌∷◌, ◌++◌, length, refl, sym, ap, ◌∙◌, subst, inr, append-nil, ◌<◌, Option, None, Some, nat_lt, arith, and_left, and_right, both_ways, and_parts, cond_both, ltb-true}
 use Rattle.py_lines.specs.Piece.{Class, string, operator, Piece, is_mark_class, begins_marked, spelled}
 use Rattle.py_lines.specs.PieceGrammar.{InClassIn, MayPrecedeIn, AreReadPlain, AreReadIn}
 use Rattle.py_lines.specs.Fields.{HasNoColon, Fields, fielded, IsShallow, AnyPieces, ShallowFields}
@@ -57,13 +56,13 @@ module _ (limit : Limit) (outer : List Level) (done : List Piece) (openers : Lis
 -- by its mode
 pub list_ends : (limit : Limit) (outer : List Level) (done : List Piece) (openers : List ℕ) (m : FieldMode) (held read : List ℕ) → IsFieldSound limit (field_state outer done openers m held) read → may_end m ≡ true → EndsList limit outer openers (field_closed m done held) (spelled done ++ held)
 list_ends limit outer done openers (plain m) held read sound may = go (ends_of m) where
-    go : Ends m → EndsList limit outer openers (closed m done held) (spelled done ++ held)
-    go (nothing is none) = subst (λ (l : List Piece). EndsList limit outer openers l (spelled done ++ held)) (sym (is done held)) (ends_none limit outer done openers (plain m) held read sound (none held sound.mode.0))
-    go (something is class marked) =
-        let fit : AreReadPlain (piece (class_of m) held ∷ []) [] = subst (λ (l : List Piece). AreReadPlain l []) (is [] held) (end_holds m held sound.mode.0 may) in
-        let own : IsPlainText (class_of m) held [] = plain_text (class_of m) held [] sound.mode.1 (λ at. and_right _ _ refl) in
-        subst (λ (l : List Piece). EndsList limit outer openers l (spelled done ++ held)) (sym (is done held))
-        (ends_piece limit outer done openers (plain m) held read sound (class_of m) class marked (plain_class _ (class_of m) held [] own fit.0) (plain_precede Fields (class_of m) held [] own fit.1))
+  go : Ends m → EndsList limit outer openers (closed m done held) (spelled done ++ held)
+  go (nothing is none) = subst (λ (l : List Piece). EndsList limit outer openers l (spelled done ++ held)) (sym (is done held)) (ends_none limit outer done openers (plain m) held read sound (none held sound.mode.0))
+  go (something is class marked) =
+      let fit : AreReadPlain (piece (class_of m) held ∷ []) [] = subst (λ (l : List Piece). AreReadPlain l []) (is [] held) (end_holds m held sound.mode.0 may) in
+      let own : IsPlainText (class_of m) held [] = plain_text (class_of m) held [] sound.mode.1 (λ at. and_right _ _ refl) in
+      subst (λ (l : List Piece). EndsList limit outer openers l (spelled done ++ held)) (sym (is done held))
+      (ends_piece limit outer done openers (plain m) held read sound (class_of m) class marked (plain_class _ (class_of m) held [] own fit.0) (plain_precede Fields (class_of m) held [] own fit.1))
 list_ends limit outer done openers (empty host) held read sound may =
     let own = sound.mode in
     ends_piece limit outer done openers (empty host) held read sound string (λ at. absurd (cc)) refl (inr (empty_string limit outer _ host held own.0 own.1 own.2)) (λ prefix r spell begun also. refl)

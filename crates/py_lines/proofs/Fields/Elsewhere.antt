@@ -1,7 +1,5 @@
 -- A text that has no string with fields reads the same with them and without.
-use Rattle.std.proofs.Common.{◌≡◌, ℕ, Bool, true, false, ◌||◌, ◌&&◌, List, [], ◌∷◌, ◌++◌, refl, sym, ap, ◌∙◌, subst, inl, inr, ⊎_elim, append_assoc, append-nil}
-use Rattle.std.proofs.Math.Bool.{and-true}
-use Rattle.std.proofs.lemmas.Bool.{cond_both, and_parts, and_right, or_parts, or_from, or_cases, both_ways, false_from_ne_true}
+use Rattle.py_lines.proofs.Prelude.{◌≡◌, ℕ, Bool, true, false, ◌||◌, ◌&&◌, List, [], ◌∷◌, ◌++◌, refl, sym, ap, ◌∙◌, subst, inl, inr, ⊎_elim, append_assoc, append-nil, and-true, cond_both, and_parts, and_right, or_parts, or_from, or_cases, both_ways, false_from_ne_true, list_any}
 use Rattle.py_lines.specs.Character.{is_quote, is_r, is_f, is_t}
 use Rattle.py_lines.specs.Piece.{Class, word, string, Piece, begins, spelled}
 use Rattle.py_lines.specs.PieceGrammar.{is_prefix, IsNoneOr, InPlainClass, InClassIn, MayPrecedePlain, MayPrecedeIn, AreReadPlain, AreReadIn, ReadsPlain, ReadsIn, joined}
@@ -10,7 +8,6 @@ use Rattle.py_lines.specs.Fields.{Fields, fielded, IsShallowWith, ShallowFields}
 use Rattle.py_lines.specs.Reading.{IsBalancedReading}
 use Rattle.py_lines.specs.WithoutFields.{IsPlainReading}
 use Rattle.py_lines.specs.FieldStrings.{is_field_prefix, Host, quotes_of, IsFieldString, with_fields, may_have_fields}
-use Rattle.std.specs.List.{list_any}
 pub use Rattle.std.proofs.Math.Bool.{and-false as none_false}
 use Rattle.py_lines.proofs.Fields.Prefixes.{plain_quotes, field_letters, first_quote}
 use Rattle.py_lines.proofs.FieldSoundness.Holds.{BeginsPlain}
@@ -79,10 +76,10 @@ neither false b c h k = k
 pub plain_precede : (F : Host → List ℕ → Type 0) (class : Class) (text rest : List ℕ) → IsPlainText class text rest → MayPrecedePlain class text rest → MayPrecedeIn (with_fields F) class text rest
 plain_precede F word text rest plain before = (before.0, neither (is_prefix text) (is_field_prefix text) (begins is_quote rest) before.1 plain)
 plain_precede F string text rest plain before = λ prefix q spell begun quotes. before prefix q spell (fewer prefix q spell quotes begun) quotes where
-    fewer : (prefix : List ℕ) (q : ℕ) → text ≡ prefix ++ q ∷ q ∷ [] → is_quote q ≡ true → IsNoneOr (λ p. is_prefix p || is_field_prefix p) prefix → IsNoneOr is_prefix prefix
-    fewer prefix q spell quotes (inl none) = inl none
-    fewer prefix q spell quotes (inr some) = inr (⊎_elim (λ is. is)
-        (λ is. absurd (both_ways _ (other_prefix text prefix (q ∷ []) q plain spell (field_letters prefix is).quotes quotes) is)) (or_cases (is_prefix prefix) (is_field_prefix prefix) some))
+  fewer : (prefix : List ℕ) (q : ℕ) → text ≡ prefix ++ q ∷ q ∷ [] → is_quote q ≡ true → IsNoneOr (λ p. is_prefix p || is_field_prefix p) prefix → IsNoneOr is_prefix prefix
+  fewer prefix q spell quotes (inl none) = inl none
+  fewer prefix q spell quotes (inr some) = inr (⊎_elim (λ is. is)
+      (λ is. absurd (both_ways _ (other_prefix text prefix (q ∷ []) q plain spell (field_letters prefix is).quotes quotes) is)) (or_cases (is_prefix prefix) (is_field_prefix prefix) some))
 plain_precede F class text rest plain before = before
 
 -- so are the pieces of a text that has no string with fields

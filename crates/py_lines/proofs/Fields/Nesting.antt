@@ -1,5 +1,5 @@
 -- A field whose own fields are fields is one: what holds of some number of them, one in another, holds of more.
-use Rattle.std.proofs.Common.{◌≡◌, ℕ, zero, suc, ◌+◌, ◌<◌, ◌≤◌, Bool, List, [], ◌∷◌, ◌++◌, refl, inl, inr, arith}
+use Rattle.py_lines.proofs.Prelude.{◌≡◌, ℕ, zero, suc, ◌+◌, ◌<◌, ◌≤◌, Bool, List, [], ◌∷◌, ◌++◌, refl, inl, inr, arith}
 use Rattle.py_lines.specs.Piece.{Class, string, Piece}
 use Rattle.py_lines.specs.PieceGrammar.{joined, InClassIn, AreReadIn}
 use Rattle.py_lines.specs.Balance.{depth_after}

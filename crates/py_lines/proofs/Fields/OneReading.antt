@@ -1,9 +1,5 @@
 -- A text has one reading with fields: the machine with fields goes over one piece, and then over no other.
-use Rattle.std.proofs.Common.{◌≡◌, ℕ, true, false, ◌&&◌, Option, None, Some, List, [], ◌∷◌, ◌++◌, refl, sym, ap, ◌∙◌, subst, inl, inr, append_assoc, append-nil, arith}
-use Rattle.std.proofs.lemmas.Bool.{and_right, both_ways, false_from_ne_true}
-use Rattle.std.proofs.lemmas.List.{append_cancel_left}
-use Rattle.std.specs.Str.{chars}
-use Rattle.std.proofs.lemmas.Str.{chars-encodes}
+use Rattle.py_lines.proofs.Prelude.{◌≡◌, ℕ, true, false, ◌&&◌, Option, None, Some, List, [], ◌∷◌, ◌++◌, refl, sym, ap, ◌∙◌, subst, inl, inr, append_assoc, append-nil, arith, and_right, both_ways, false_from_ne_true, append_cancel_left, chars, chars-encodes}
 use Rattle.py_lines.specs.Character.{is_mark, is_operator, is_quote, is_return, is_line_feed}
 use Rattle.py_lines.specs.Piece.{Class, mark, space, word, string, operator, comment, join, line_end, Piece, ends, spelled}
 use Rattle.py_lines.specs.PieceGrammar.{feed, return_feed, return, Grammar, InClassIn, MayPrecedeIn, AreReadIn, ReadsIn}
@@ -61,10 +57,10 @@ BeginIf first (Some s) = (ps : List Piece) × (outer_done s ≡ first ++ ps)
 
 started_begin : (first ps : List Piece) (c : ℕ) → BeginIf first (field_started [] (first ++ ps) [] c (start_of c))
 started_begin first ps c = go (field_started [] (first ++ ps) [] c (start_of c)) refl where
-    go : (o : Option FieldScanned) → field_started [] (first ++ ps) [] c (start_of c) ≡ o → BeginIf first o
-    go None is = tt
-    go (Some u) is = let (outside, (qs, more)) = started_outer (first ++ ps) [] c (start_of c) u is in
-        (ps ++ qs, (outer_alone u outside).0 ∙ more ∙ append_assoc first ps qs)
+  go : (o : Option FieldScanned) → field_started [] (first ++ ps) [] c (start_of c) ≡ o → BeginIf first o
+  go None is = tt
+  go (Some u) is = let (outside, (qs, more)) = started_outer (first ++ ps) [] c (start_of c) u is in
+      (ps ++ qs, (outer_alone u outside).0 ∙ more ∙ append_assoc first ps qs)
 
 -- the machine goes over a piece, and may stop there; or the piece is an operator
 data IsAlone (class : Class) (text rest : List ℕ) : Type 0 where
@@ -120,19 +116,19 @@ after_operator_piece c q (d ∷ t) r u is two at =
 -- two pieces that begin in one place are the same
 same_piece : (c d : Class) (s t r u : List ℕ) → InClassIn fielded c s → MayPrecedeIn fielded c s r → InClassIn fielded d t → MayPrecedeIn fielded d t u → s ++ r ≡ t ++ u → piece c s ≡ piece d t
 same_piece c d s t r u one before two after at = go (is_alone c s r one before) (is_alone d t u two after) where
-    rest : (x y a b k : List ℕ) → x ++ a ≡ y ++ b → y ≡ x ++ k → a ≡ k ++ b
-    rest x y a b k both is = append_cancel_left x _ _ (both ∙ ap (λ z. z ++ b) is ∙ append_assoc x k b)
+  rest : (x y a b k : List ℕ) → x ++ a ≡ y ++ b → y ≡ x ++ k → a ≡ k ++ b
+  rest x y a b k both is = append_cancel_left x _ _ (both ∙ ap (λ z. z ++ b) is ∙ append_assoc x k b)
 
-    go : IsAlone c s r → IsAlone d t u → piece c s ≡ piece d t
-    go (single x is passes) (single y also passing) =
-        let shown : x ∷ r ≡ y ∷ u = ap (λ (p : Piece). p.text ++ r) (sym is) ∙ at ∙ ap (λ (p : Piece). p.text ++ u) also in let here : x ≡ y = cc in
-        is ∙ ap (λ z. piece operator (z ∷ [])) here ∙ sym also
-    go (single x is passes) (over found) = is ∙ after_operator_piece x (piece d t) t r u passes found (ap (λ (p : Piece). p.text ++ r) (sym is) ∙ at)
-    go (over found) (single y also passing) = sym (also ∙ after_operator_piece y (piece c s) s u r passing found (ap (λ (p : Piece). p.text ++ u) (sym also) ∙ sym at))
-    go (over first) (over second) = by (either s r t u at) where
-        by : Either s t u → piece c s ≡ piece d t
-        by (Either.shorter k is) = after_piece (piece c s) (piece d t) t u second s r k first is (rest s t r u k at is)
-        by (Either.longer e k after is left) = sym (after_piece (piece d t) (piece c s) s r first t u (e ∷ k) second is (rest t s u r (e ∷ k) (sym at) is))
+  go : IsAlone c s r → IsAlone d t u → piece c s ≡ piece d t
+  go (single x is passes) (single y also passing) =
+      let shown : x ∷ r ≡ y ∷ u = ap (λ (p : Piece). p.text ++ r) (sym is) ∙ at ∙ ap (λ (p : Piece). p.text ++ u) also in let here : x ≡ y = cc in
+      is ∙ ap (λ z. piece operator (z ∷ [])) here ∙ sym also
+  go (single x is passes) (over found) = is ∙ after_operator_piece x (piece d t) t r u passes found (ap (λ (p : Piece). p.text ++ r) (sym is) ∙ at)
+  go (over found) (single y also passing) = sym (also ∙ after_operator_piece y (piece c s) s u r passing found (ap (λ (p : Piece). p.text ++ u) (sym also) ∙ sym at))
+  go (over first) (over second) = by (either s r t u at) where
+    by : Either s t u → piece c s ≡ piece d t
+    by (Either.shorter k is) = after_piece (piece c s) (piece d t) t u second s r k first is (rest s t r u k at is)
+    by (Either.longer e k after is left) = sym (after_piece (piece d t) (piece c s) s r first t u (e ∷ k) second is (rest t s u r (e ∷ k) (sym at) is))
 
 -- so of two lists of pieces that begin in one place, one begins with the other
 pub compare_pieces : (ps qs : List Piece) (r u : List ℕ) → AreReadIn fielded ps r → AreReadIn fielded qs u → spelled ps ++ r ≡ spelled qs ++ u → Compared Piece ps qs
@@ -168,13 +164,13 @@ ends_there ps qs zs y fit is at =
 -- two readings of a text are the same
 pub one_fielded_reading : (pieces others : List Piece) (characters : List ℕ) → ReadsIn fielded pieces characters → ReadsIn fielded others characters → pieces ≡ others
 one_fielded_reading pieces others characters one two = go (compare_pieces pieces others [] [] one.fit two.fit (ap (λ t. t ++ []) at)) where
-    at : spelled pieces ≡ spelled others
-    at = one.spell ∙ sym two.spell
+  at : spelled pieces ≡ spelled others
+  at = one.spell ∙ sym two.spell
 
-    go : Compared Piece pieces others → pieces ≡ others
-    go (same is) = is
-    go (longer y zs is) = absurd (ends_there pieces others zs y one.fit is at)
-    go (shorter y zs is) = absurd (ends_there others pieces zs y two.fit is (sym at))
+  go : Compared Piece pieces others → pieces ≡ others
+  go (same is) = is
+  go (longer y zs is) = absurd (ends_there pieces others zs y one.fit is at)
+  go (shorter y zs is) = absurd (ends_there others pieces zs y two.fit is (sym at))
 
 pub one_fielded_reading_of_text : (pieces others : List Piece) (text : List ℕ) → ReadsText pieces text → ReadsText others text → pieces ≡ others
 one_fielded_reading_of_text pieces others text first second =

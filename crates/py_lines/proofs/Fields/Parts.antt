@@ -1,7 +1,5 @@
 -- The parts of a string with fields, by their first characters: fields begin with `{` and hold more.
-use Rattle.std.proofs.Common.{◌≡◌, ◌==◌, ℕ, zero, suc, Bool, true, false, not, ◌&&◌, List, [], ◌∷◌, ◌++◌, refl, sym, ap, ◌∙◌, subst}
-use Rattle.std.specs.Prelude.{codes}
-use Rattle.std.proofs.lemmas.Bool.{and_parts, or_parts, both_ways, eqb-true, eq-eqb, not-true}
+use Rattle.py_lines.proofs.Prelude.{◌≡◌, ◌==◌, ℕ, zero, suc, Bool, true, false, not, ◌&&◌, List, [], ◌∷◌, ◌++◌, refl, sym, ap, ◌∙◌, subst, codes, and_parts, or_parts, both_ways, eqb-true, eq-eqb, not-true}
 use Rattle.py_lines.specs.Character.{is_quote, is_return, is_backslash, is_brace, is_barred}
 use Rattle.py_lines.specs.Piece.{Piece, begins, spelled}
 use Rattle.py_lines.specs.PieceGrammar.{joined, Grammar}
@@ -79,20 +77,20 @@ barred_quote q = rw (eq-eqb q q refl)
 -- a part of a short string doesn't begin with its quote
 pub short_part : (F : Host → List ℕ → Type 0) → BeginOpen F → (q : ℕ) (raw named : Bool) (part rest w v : List ℕ) → is_quote q ≡ true → IsPart F (record { quote = q; is_long = false; is_raw = raw }) literal named part rest → part ++ w ≡ q ∷ v → ⊥
 short_part F begin q raw named part rest w v quotes is at = go is where
-    first : (s : ℕ) (x : List ℕ) → part ≡ s ∷ x → s ≡ q
-    first s x shape = let shown : s ∷ (x ++ w) ≡ q ∷ v = ap (λ t. t ++ w) (sym shape) ∙ at in cc
+  first : (s : ℕ) (x : List ℕ) → part ≡ s ∷ x → s ≡ q
+  first s x shape = let shown : s ∷ (x ++ w) ≡ q ∷ v = ap (λ t. t ++ w) (sym shape) ∙ at in cc
 
-    no_slash : (s : ℕ) → s ≡ q → is_backslash s ≡ true → ⊥
-    no_slash s here slashes = both_ways _ (quote-not-slash q quotes) (ap is_backslash (sym here) ∙ slashes)
+  no_slash : (s : ℕ) → s ≡ q → is_backslash s ≡ true → ⊥
+  no_slash s here slashes = both_ways _ (quote-not-slash q quotes) (ap is_backslash (sym here) ∙ slashes)
 
-    no_brace : 123 ≡ q → ⊥
-    no_brace here = both_ways _ (quote-not-open q quotes) (ap (λ c. c == 123) (sym here))
+  no_brace : 123 ≡ q → ⊥
+  no_brace here = both_ways _ (quote-not-open q quotes) (ap (λ c. c == 123) (sym here))
 
-    go : IsPart F (record { quote = q; is_long = false; is_raw = raw }) literal named part rest → ⊥
-    go (bare c shape a b e) = both_ways _ (barred_quote q) (subst (λ x. not (is_barred q x) ≡ true) (first c [] shape) b)
-    go (slash s shape a b) = no_slash s (first s [] shape) a
-    go (escape s c shape a b e f g) = no_slash s (first s (c ∷ []) shape) a
-    go (escaped_end s c d shape a b f g) = no_slash s (first s (c ∷ d ∷ []) shape) a
-    go (name s c d shape a b f) = no_slash s (first s (c ∷ d ∷ []) shape) a
-    go (double b c shape one two e f) = no_brace (sym one ∙ first b (c ∷ []) shape)
-    go (field own a b) = let head = begin _ part own in no_brace (first 123 (head.0 ∷ head.1) head.2)
+  go : IsPart F (record { quote = q; is_long = false; is_raw = raw }) literal named part rest → ⊥
+  go (bare c shape a b e) = both_ways _ (barred_quote q) (subst (λ x. not (is_barred q x) ≡ true) (first c [] shape) b)
+  go (slash s shape a b) = no_slash s (first s [] shape) a
+  go (escape s c shape a b e f g) = no_slash s (first s (c ∷ []) shape) a
+  go (escaped_end s c d shape a b f g) = no_slash s (first s (c ∷ d ∷ []) shape) a
+  go (name s c d shape a b f) = no_slash s (first s (c ∷ d ∷ []) shape) a
+  go (double b c shape one two e f) = no_brace (sym one ∙ first b (c ∷ []) shape)
+  go (field own a b) = let head = begin _ part own in no_brace (first 123 (head.0 ∷ head.1) head.2)

@@ -1,9 +1,6 @@
 -- Strings with fields: rows worked out by hand, of which the machine with fields says what they are. Two hundred fields may be open
 -- one in another, and no more.
-use Rattle.std.proofs.Common.{◌≡◌, ℕ, Bool, true, false, ◌&&◌, Option, None, Some, List, [], ◌∷◌, ◌++◌, map, refl, sym, ap, ◌∙◌, inl, inr, append-nil, zero, suc}
-use Rattle.std.specs.Prelude.{codes}
-use Rattle.std.specs.List.{list_all}
-use Rattle.std.proofs.lemmas.Bool.{and_parts, both_ways}
+use Rattle.py_lines.proofs.Prelude.{◌≡◌, ℕ, Bool, true, false, ◌&&◌, Option, None, Some, List, [], ◌∷◌, ◌++◌, map, refl, sym, ap, ◌∙◌, inl, inr, append-nil, zero, suc, codes, list_all, and_parts, both_ways}
 use Rattle.py_lines.specs.Piece.{Class, space, string, Piece}
 use Rattle.py_lines.specs.PieceGrammar.{InClassIn, ReadsIn}
 use Rattle.py_lines.specs.Fields.{Fields, fielded, ShallowFields}

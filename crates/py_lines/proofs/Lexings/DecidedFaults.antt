@@ -1,7 +1,5 @@
 -- A fault that the known bytes of a text decide is that of every text that begins with them.
-use Rattle.std.proofs.Common.{◌≡◌, ℕ, ◌≤◌, Option, None, Some, List, [], ◌∷◌, ◌++◌, length, sym, ap, ◌∙◌, subst, ⊎_elim, inl, inr, append_assoc}
-use Rattle.std.specs.Prelude.{encode_utf8_all}
-use Rattle.std.specs.Str.{StartsWithNoChar}
+use Rattle.py_lines.proofs.Prelude.{◌≡◌, ℕ, ◌≤◌, Option, None, Some, List, [], ◌∷◌, ◌++◌, length, sym, ap, ◌∙◌, subst, ⊎_elim, inl, inr, append_assoc, encode_utf8_all, StartsWithNoChar}
 use Rattle.py_lines.specs.Piece.{Piece, spelled}
 use Rattle.py_lines.specs.LogicalLine.{LogicalLine}
 use Rattle.py_lines.specs.Reading.{Decodes, IsBalancedReading, EndsLine, IsReadPrefix}
@@ -29,15 +27,15 @@ prefix_on kind characters rest offset pieces fault prefix = record {
   ended = prefix.ended;
   longest = longest;
 } where
-    whole : (fault.before ++ fault.c ∷ []) ++ fault.dies.after ≡ characters
-    whole = append_assoc fault.before (fault.c ∷ []) fault.dies.after ∙ fault.dies.spell
+  whole : (fault.before ++ fault.c ∷ []) ++ fault.dies.after ≡ characters
+  whole = append_assoc fault.before (fault.c ∷ []) fault.dies.after ∙ fault.dies.spell
 
-    longest : (others : List Piece) (after : List ℕ) → spelled others ++ after ≡ characters ++ rest → IsBalancedReading others (spelled others) → EndsLine others → length (spelled others) ≤ length (spelled pieces)
-    longest others after spell reading ended = go (either (spelled others) after (fault.before ++ fault.c ∷ []) (fault.dies.after ++ rest) (spell ∙ ap (λ t. t ++ rest) (sym whole) ∙ append_assoc (fault.before ++ fault.c ∷ []) fault.dies.after rest))
-      where
-        go : Either (spelled others) (fault.before ++ fault.c ∷ []) (fault.dies.after ++ rest) → length (spelled others) ≤ length (spelled pieces)
-        go (Either.shorter k one) = prefix.longest others (k ++ fault.dies.after) (sym (append_assoc (spelled others) k fault.dies.after) ∙ ap (λ t. t ++ fault.dies.after) (sym one) ∙ whole) reading ended
-        go (Either.longer c k later one two) = absurd (fault.dies.dead (live_before (fault.before ++ fault.c ∷ []) (c ∷ k) (subst IsLive one (reading_live others (spelled others) reading))))
+  longest : (others : List Piece) (after : List ℕ) → spelled others ++ after ≡ characters ++ rest → IsBalancedReading others (spelled others) → EndsLine others → length (spelled others) ≤ length (spelled pieces)
+  longest others after spell reading ended = go (either (spelled others) after (fault.before ++ fault.c ∷ []) (fault.dies.after ++ rest) (spell ∙ ap (λ t. t ++ rest) (sym whole) ∙ append_assoc (fault.before ++ fault.c ∷ []) fault.dies.after rest))
+    where
+      go : Either (spelled others) (fault.before ++ fault.c ∷ []) (fault.dies.after ++ rest) → length (spelled others) ≤ length (spelled pieces)
+      go (Either.shorter k one) = prefix.longest others (k ++ fault.dies.after) (sym (append_assoc (spelled others) k fault.dies.after) ∙ ap (λ t. t ++ fault.dies.after) (sym one) ∙ whole) reading ended
+      go (Either.longer c k later one two) = absurd (fault.dies.dead (live_before (fault.before ++ fault.c ∷ []) (c ∷ k) (subst IsLive one (reading_live others (spelled others) reading))))
 
 -- the line of a fault stays
 line_on : (characters tail rest : List ℕ) (fault : Fault) → IsLexicalFault characters tail fault → IsLineOf fault (characters ++ rest)

@@ -1,6 +1,5 @@
 -- Every text is read, or has a lexical fault.
-use Rattle.std.proofs.Common.{◌≡◌, ℕ, ◌+◌, true, false, Option, None, Some, List, [], ◌∷◌, ◌++◌, ◌⊎◌, inl, inr, refl, sym, ap, ◌∙◌, subst, ⊎_elim, append_assoc, append-nil}
-use Rattle.std.proofs.lemmas.Bool.{cases_Bool, and_from}
+use Rattle.py_lines.proofs.Prelude.{◌≡◌, ℕ, ◌+◌, true, false, Option, None, Some, List, [], ◌∷◌, ◌++◌, ◌⊎◌, inl, inr, refl, sym, ap, ◌∙◌, subst, ⊎_elim, append_assoc, append-nil, cases_Bool, and_from}
 use Rattle.py_lines.specs.Piece.{Piece}
 use Rattle.py_lines.specs.Balance as brackets
 use Rattle.py_lines.specs.LogicalLine.{byte_len, line_ends}
@@ -73,11 +72,11 @@ with_line characters tail kind offset at =
 -- every text is read or has a fault
 pub read_or_faulty : (characters tail : List ℕ) → IsReadOrFaulty characters tail
 read_or_faulty characters tail = go tail (live_or_faulty characters [] field_text_start refl refl) where
-    go : (t : List ℕ) → IsLiveOrFaulty characters → IsReadOrFaulty characters t
-    go t (inr (kind, offset, at)) = inr (kind, offset, at_character at)
-    go (d ∷ ds) (inl live) = inr (faults.BadUtf8, byte_len characters, at_bytes (record { is = refl; bad = λ (h : d ∷ ds ≡ []). cc; live = live; place = refl }))
-    go [] (inl live) = let run = live_goes characters live in
-        ⊎_elim (λ reading. inl (refl, (field_pieces run.0, reading))) (λ fault. inr (fault.0, fault.1, at_end fault.2)) (read_or_open characters run.0 run.1 run.2)
+  go : (t : List ℕ) → IsLiveOrFaulty characters → IsReadOrFaulty characters t
+  go t (inr (kind, offset, at)) = inr (kind, offset, at_character at)
+  go (d ∷ ds) (inl live) = inr (faults.BadUtf8, byte_len characters, at_bytes (record { is = refl; bad = λ (h : d ∷ ds ≡ []). cc; live = live; place = refl }))
+  go [] (inl live) = let run = live_goes characters live in
+      ⊎_elim (λ reading. inl (refl, (field_pieces run.0, reading))) (λ fault. inr (fault.0, fault.1, at_end fault.2)) (read_or_open characters run.0 run.1 run.2)
 
 -- no line comes before the start of a text
 pub first_none : (text : List ℕ) → AreFirstLines text 0 1 []

@@ -1,11 +1,6 @@
 -- The first lines of a text, which a reader has given, and those that its known bytes settle: they begin the lexing of the whole text, and
 -- of every text that goes on. Of two lists of them, the one of no more bytes begins the other; settled lines are among first lines.
-use Rattle.std.proofs.Common.{◌≡◌, ℕ, ◌+◌, ◌≤◌, Bool, true, false, List, [], ◌∷◌, ◌++◌, ◌&&◌, inl, inr, length, refl, sym, ap, ◌∙◌, subst, ⊎_elim, append_assoc, append-nil, length-append, arith, Option, None, Some, ◌⊎◌, add-zero, ◌<◌, take, drop}
-use Rattle.std.specs.Prelude.{encode_utf8_all}
-use Rattle.std.specs.Str.{StartsWithNoChar, all_scalars}
-use Rattle.std.proofs.lemmas.Bool.{both_ways, false_from_ne_true}
-use Rattle.std.proofs.lemmas.List.{append_cancel_left, nil_from_length, take-append-drop, length-take}
-use Rattle.std.proofs.lemmas.Str.{encodes-append, length-le-encodes, encode_ascii}
+use Rattle.py_lines.proofs.Prelude.{◌≡◌, ℕ, ◌+◌, ◌≤◌, Bool, true, false, List, [], ◌∷◌, ◌++◌, ◌&&◌, inl, inr, length, refl, sym, ap, ◌∙◌, subst, ⊎_elim, append_assoc, append-nil, length-append, arith, Option, None, Some, ◌⊎◌, add-zero, ◌<◌, take, drop, encode_utf8_all, StartsWithNoChar, all_scalars, both_ways, false_from_ne_true, append_cancel_left, nil_from_length, take-append-drop, length-take, encodes-append, length-le-encodes, encode_ascii}
 use Rattle.py_lines.specs.Character.{is_return, is_line_feed}
 use Rattle.py_lines.specs.Piece.{begins, line_end, Piece, ends, spelled, Class}
 use Rattle.py_lines.specs.PieceGrammar.{IsLineEnd}
@@ -73,25 +68,25 @@ module _ (characters tail more : List ℕ) (pieces : List Piece) (settled : IsSe
 
       never_fed : ⊥
       never_fed = by settled.rest refl where
-          on : IsContinued settled.rest (tail ++ more) after t
-          on = goes_on settled.rest (tail ++ more) after t fine are none (sym (append_assoc (encode_utf8_all settled.rest) tail more) ∙ sym same)
+        on : IsContinued settled.rest (tail ++ more) after t
+        on = goes_on settled.rest (tail ++ more) after t fine are none (sym (append_assoc (encode_utf8_all settled.rest) tail more) ∙ sym same)
 
-          by : (left : List ℕ) → settled.rest ≡ left → ⊥
-          by [] left = not_next tail refl left
-          by (c ∷ cs) left = let first : 10 ∷ later ≡ c ∷ (cs ++ on.rest) = sym feeds ∙ on.split ∙ ap (λ x. x ++ on.rest) left in let ten : c ≡ 10 = cc in
-              not_known cs (left ∙ ap (λ (n : ℕ). n ∷ cs) ten)
+        by : (left : List ℕ) → settled.rest ≡ left → ⊥
+        by [] left = not_next tail refl left
+        by (c ∷ cs) left = let first : 10 ∷ later ≡ c ∷ (cs ++ on.rest) = sym feeds ∙ on.split ∙ ap (λ x. x ++ on.rest) left in let ten : c ≡ 10 = cc in
+            not_known cs (left ∙ ap (λ (n : ℕ). n ∷ cs) ten)
 
   settled_fits : AreReadBefore pieces after
   settled_fits = by_end settled.ended.0 where
-      by_end : EndsLine pieces → AreReadBefore pieces after
-      by_end (inl empty) = subst (λ l. AreReadBefore l after) (sym empty) tt
-      by_end (inr (body, last, is, class, deep)) =
-          subst (λ l. AreReadBefore l after) (sym is) (read_on fielded body last [] after class (own_reading body last is class).reads.fit (apart (ends is_return last.text) refl after refl))
-        where
-          apart : (cr : Bool) → ends is_return last.text ≡ cr → (all : List ℕ) → after ≡ all → cr && begins is_line_feed all ≡ false
-          apart false returned all begin = refl
-          apart true returned [] begin = refl
-          apart true returned (c ∷ cs) begin = false_from_ne_true _ (λ feeds. never_fed body last is class deep returned cs (begin ∙ ap (λ (n : ℕ). n ∷ cs) (feed_is c feeds)))
+    by_end : EndsLine pieces → AreReadBefore pieces after
+    by_end (inl empty) = subst (λ l. AreReadBefore l after) (sym empty) tt
+    by_end (inr (body, last, is, class, deep)) =
+        subst (λ l. AreReadBefore l after) (sym is) (read_on fielded body last [] after class (own_reading body last is class).reads.fit (apart (ends is_return last.text) refl after refl))
+      where
+        apart : (cr : Bool) → ends is_return last.text ≡ cr → (all : List ℕ) → after ≡ all → cr && begins is_line_feed all ≡ false
+        apart false returned all begin = refl
+        apart true returned [] begin = refl
+        apart true returned (c ∷ cs) begin = false_from_ne_true _ (λ feeds. never_fed body last is class deep returned cs (begin ∙ ap (λ (n : ℕ). n ∷ cs) (feed_is c feeds)))
 
 -- the bytes of the settled pieces, and those after them
 spelled_first : (text more : List ℕ) (pieces : List Piece) (rest characters tail : List ℕ) → spelled pieces ++ rest ≡ characters → encode_utf8_all characters ++ tail ≡ text → encode_utf8_all (spelled pieces) ++ ((encode_utf8_all rest ++ tail) ++ more) ≡ text ++ more
@@ -110,22 +105,22 @@ still_ends pieces rest tail more after t same ended = (
 -- pieces that are read before what follows begin those that read more
 begins_with : (pieces others : List Piece) (after rest : List ℕ) → AreReadBefore pieces after → IsBalancedReading pieces (spelled pieces) → IsBalancedReading others (spelled others) → spelled pieces ++ after ≡ spelled others ++ rest → length (spelled pieces) ≤ length (spelled others) → (more : List Piece) × (others ≡ pieces ++ more)
 begins_with pieces others after rest fit reading read spell few = go (either (spelled pieces) after (spelled others) rest spell) where
-    before_mid : (mid : List ℕ) → after ≡ mid ++ rest → AreReadBefore pieces mid
-    before_mid [] is = reading.reads.fit
-    before_mid (c ∷ cs) is = read_before fielded pieces c (cs ++ rest) cs (subst (AreReadBefore pieces) is fit)
+  before_mid : (mid : List ℕ) → after ≡ mid ++ rest → AreReadBefore pieces mid
+  before_mid [] is = reading.reads.fit
+  before_mid (c ∷ cs) is = read_before fielded pieces c (cs ++ rest) cs (subst (AreReadBefore pieces) is fit)
 
-    by : (mid : List ℕ) → spelled pieces ++ mid ≡ spelled others → Compared Piece pieces others → (more : List Piece) × (others ≡ pieces ++ more)
-    by mid at (Compared.same is) = ([], sym is ∙ sym (append-nil pieces))
-    by mid at (Compared.shorter x xs is) = (x ∷ xs, is)
-    by mid at (Compared.longer y ys is) =
-        let nothing : mid ≡ [] = nil_from_length mid (omega (arith, ap length at, length-append (spelled pieces) mid, ap length (ap spelled is ∙ spelled-append others (y ∷ ys)), length-append (spelled others) (spelled (y ∷ ys)))) in
-        absurd (ends_there pieces others ys y reading.reads.fit is (sym (append-nil (spelled pieces)) ∙ ap (λ t. spelled pieces ++ t) (sym nothing) ∙ at))
+  by : (mid : List ℕ) → spelled pieces ++ mid ≡ spelled others → Compared Piece pieces others → (more : List Piece) × (others ≡ pieces ++ more)
+  by mid at (Compared.same is) = ([], sym is ∙ sym (append-nil pieces))
+  by mid at (Compared.shorter x xs is) = (x ∷ xs, is)
+  by mid at (Compared.longer y ys is) =
+      let nothing : mid ≡ [] = nil_from_length mid (omega (arith, ap length at, length-append (spelled pieces) mid, ap length (ap spelled is ∙ spelled-append others (y ∷ ys)), length-append (spelled others) (spelled (y ∷ ys)))) in
+      absurd (ends_there pieces others ys y reading.reads.fit is (sym (append-nil (spelled pieces)) ∙ ap (λ t. spelled pieces ++ t) (sym nothing) ∙ at))
 
-    go : Either (spelled pieces) (spelled others) rest → (more : List Piece) × (others ≡ pieces ++ more)
-    go (Either.shorter mid at) =
-        let is = append_cancel_left (spelled pieces) after (mid ++ rest) (spell ∙ ap (λ t. t ++ rest) at ∙ append_assoc (spelled pieces) mid rest) in
-        by mid (sym at) (compare_pieces pieces others mid [] (before_mid mid is) read.reads.fit (sym at ∙ sym (append-nil (spelled others))))
-    go (Either.longer c k later at left) = absurd (omega (arith, few, ap length at, length-append (spelled others) (c ∷ k)))
+  go : Either (spelled pieces) (spelled others) rest → (more : List Piece) × (others ≡ pieces ++ more)
+  go (Either.shorter mid at) =
+      let is = append_cancel_left (spelled pieces) after (mid ++ rest) (spell ∙ ap (λ t. t ++ rest) at ∙ append_assoc (spelled pieces) mid rest) in
+      by mid (sym at) (compare_pieces pieces others mid [] (before_mid mid is) read.reads.fit (sym at ∙ sym (append-nil (spelled others))))
+  go (Either.longer c k later at left) = absurd (omega (arith, few, ap length at, length-append (spelled others) (c ∷ k)))
 
 -- settled lines are the first of every text that goes on
 pub settled_first : (text more : List ℕ) (lines : List LogicalLine) (s : IsSettled text lines) → (f : AreFirstLines (text ++ more) (byte_len (spelled s.pieces)) (1 + line_ends (spelled s.pieces)) lines) × EndsForGood f.pieces (f.rest ++ f.tail)
@@ -183,9 +178,9 @@ all_first text place line lines f ends = all_before text place line lines f (nil
 -- of two prefixes of a text, the one of no more bytes has no more characters
 fewer : (xs ys zs ws : List ℕ) → xs ++ ys ≡ zs ++ ws → byte_len xs ≤ byte_len zs → length xs ≤ length zs
 fewer xs ys zs ws same few = go (either xs ys zs ws same) where
-    go : Either xs zs ws → length xs ≤ length zs
-    go (Either.shorter k one) = omega (arith, ap length one, length-append xs k)
-    go (Either.longer c k after one two) = absurd (omega (arith, few, ap byte_len one, byte_len-append zs (c ∷ k), length-le-encodes (c ∷ k)))
+  go : Either xs zs ws → length xs ≤ length zs
+  go (Either.shorter k one) = omega (arith, ap length one, length-append xs k)
+  go (Either.longer c k after one two) = absurd (omega (arith, few, ap byte_len one, byte_len-append zs (c ∷ k), length-le-encodes (c ∷ k)))
 
 -- lines that end a line begin all lines of their text that go as far
 module _ (text : List ℕ) (place line : ℕ) (lines : List LogicalLine) (f : AreFirstLines text place line lines) (ended : EndsLine f.pieces) where

@@ -1,6 +1,5 @@
 -- Pieces that end a line: what they are read before, how deep they are, and how long.
-use Rattle.std.proofs.Common.{◌≡◌, ℕ, ◌+◌, List, [], ◌∷◌, ◌++◌, length, refl, sym, ap, ◌∙◌, subst, inl, inr, length-append, Bool, true, false, ◌&&◌, append-nil}
-use Rattle.std.proofs.lemmas.Bool.{both_ways, and_right, and_from, eq-eqb}
+use Rattle.py_lines.proofs.Prelude.{◌≡◌, ℕ, ◌+◌, List, [], ◌∷◌, ◌++◌, length, refl, sym, ap, ◌∙◌, subst, inl, inr, length-append, Bool, true, false, ◌&&◌, append-nil, both_ways, and_right, and_from, eq-eqb}
 use Rattle.py_lines.specs.Piece.{line_end, Piece, spelled, ends, begins, is_mark_class}
 use Rattle.py_lines.specs.Balance.{IsBalanced, depth_after, depth_through}
 use Rattle.py_lines.specs.Fields.{fielded, InClass, AreReadBefore, IsShallow}

@@ -1,8 +1,6 @@
 -- The prefix of a text that isn't read, with what a reader answers there, and what a text's known bytes settle: the pieces up to the last
 -- line end outside brackets that the machine has found.
-use Rattle.std.proofs.Common.{false, ◌≡◌, ℕ, ◌+◌, ◌≤◌, Some, List, [], ◌∷◌, ◌++◌, length, refl, sym, ap, ◌∙◌, subst, inl, inr, append_assoc, append-nil, length-append, arith, ◌⊎◌, true}
-use Rattle.std.proofs.lemmas.List.{same_from_push, append_cancel_left}
-use Rattle.std.proofs.lemmas.Bool.{both_ways, cond_both}
+use Rattle.py_lines.proofs.Prelude.{false, ◌≡◌, ℕ, ◌+◌, ◌≤◌, Some, List, [], ◌∷◌, ◌++◌, length, refl, sym, ap, ◌∙◌, subst, inl, inr, append_assoc, append-nil, length-append, arith, ◌⊎◌, true, same_from_push, append_cancel_left, both_ways, cond_both}
 use Rattle.py_lines.specs.Character.{is_line_feed, is_return}
 use Rattle.py_lines.specs.Piece.{string, line_end, Piece, spelled, ends}
 use Rattle.py_lines.specs.LogicalLine.{is_line_end_class, lines_of, byte_len}
@@ -99,17 +97,17 @@ second_is xs ys zs k ws same is = append_cancel_left xs ys (k ++ ws) (same ∙ a
 -- no line end stays after a prefix after which none ends a line
 pub within : (prefix others rivals body : List Piece) (last : Piece) (all : List Piece) → all ≡ prefix ++ others → EndsLine prefix → EndsNoLine 0 others → rivals ≡ body ++ last ∷ [] → depth_through 0 body ≡ 0 → Stays body last all → length (spelled rivals) ≤ length (spelled prefix)
 within prefix others rivals body last all pieces ended none is deep stays = go (either prefix others body (stays.line ∷ stays.others) same) where
-    same : prefix ++ others ≡ body ++ stays.line ∷ stays.others
-    same = sym pieces ∙ stays.is
+  same : prefix ++ others ≡ body ++ stays.line ∷ stays.others
+  same = sym pieces ∙ stays.is
 
-    go : Either prefix body (stays.line ∷ stays.others) → length (spelled rivals) ≤ length (spelled prefix)
-    go (Either.shorter k one) = let two = second_is prefix others body k (stays.line ∷ stays.others) same one in
-        let level : depth_through 0 k ≡ 0 = ap (λ (d : ℕ). depth_through d k) (sym (depth_prefix prefix ended)) ∙ sym (depth_through-append 0 prefix k) ∙ ap (depth_through 0) (sym one) ∙ deep in
-        absurd (no_end_in 0 k stays.line stays.others (subst (EndsNoLine 0) two none) level stays.class)
-    go (Either.longer p k after one two) = let line : p ≡ stays.line = cc in let whole = one ∙ ap (λ q. body ++ q ∷ k) line in
-        let mine : length (spelled prefix) ≡ length (spelled body) + (length stays.line.text + length (spelled k)) = ap (λ l. length (spelled l)) whole ∙ length_line body stays.line k in
-        let theirs : length (spelled rivals) ≡ length (spelled body) + (length last.text + 0) = ap (λ l. length (spelled l)) is ∙ length_line body last [] in
-        omega (arith, mine, theirs, stays.longer)
+  go : Either prefix body (stays.line ∷ stays.others) → length (spelled rivals) ≤ length (spelled prefix)
+  go (Either.shorter k one) = let two = second_is prefix others body k (stays.line ∷ stays.others) same one in
+      let level : depth_through 0 k ≡ 0 = ap (λ (d : ℕ). depth_through d k) (sym (depth_prefix prefix ended)) ∙ sym (depth_through-append 0 prefix k) ∙ ap (depth_through 0) (sym one) ∙ deep in
+      absurd (no_end_in 0 k stays.line stays.others (subst (EndsNoLine 0) two none) level stays.class)
+  go (Either.longer p k after one two) = let line : p ≡ stays.line = cc in let whole = one ∙ ap (λ q. body ++ q ∷ k) line in
+      let mine : length (spelled prefix) ≡ length (spelled body) + (length stays.line.text + length (spelled k)) = ap (λ l. length (spelled l)) whole ∙ length_line body stays.line k in
+      let theirs : length (spelled rivals) ≡ length (spelled body) + (length last.text + 0) = ap (λ l. length (spelled l)) is ∙ length_line body last [] in
+      omega (arith, mine, theirs, stays.longer)
 
 -- the prefix of a text that isn't read further
 pub prefix_is : (before later characters : List ℕ) (u : FieldScanned) (prefix others : List Piece) → RunsTo before u → before ++ later ≡ characters
@@ -122,15 +120,15 @@ prefix_is before later characters u prefix others steps spell dead pieces readin
   ended = ended;
   longest = longest;
 } where
-    -- no longer prefix ends a line
-    longest : (rivals : List Piece) (after : List ℕ) → spelled rivals ++ after ≡ characters → IsBalancedReading rivals (spelled rivals) → EndsLine rivals → length (spelled rivals) ≤ length (spelled prefix)
-    longest rivals after spells reads (inl empty) = omega (arith, ap (λ l. length (spelled l)) empty)
-    longest rivals after spells reads (inr (body, last, is, class, deep)) = go (either (spelled rivals) after before later (spells ∙ sym spell)) where
-        go : Either (spelled rivals) before later → length (spelled rivals) ≤ length (spelled prefix)
-        go (Either.longer c k rest one two) =
-            let live = subst IsLive (one ∙ sym (append_assoc before (c ∷ []) k)) (reading_live rivals (spelled rivals) reads) in
-            absurd (dead c rest two (live_before (before ++ c ∷ []) k live))
-        go (Either.shorter k one) = within prefix others rivals body last (outer_pieces u) pieces ended none is deep (reading_stays rivals k before u body last steps.0 (sym one) reads is class)
+  -- no longer prefix ends a line
+  longest : (rivals : List Piece) (after : List ℕ) → spelled rivals ++ after ≡ characters → IsBalancedReading rivals (spelled rivals) → EndsLine rivals → length (spelled rivals) ≤ length (spelled prefix)
+  longest rivals after spells reads (inl empty) = omega (arith, ap (λ l. length (spelled l)) empty)
+  longest rivals after spells reads (inr (body, last, is, class, deep)) = go (either (spelled rivals) after before later (spells ∙ sym spell)) where
+    go : Either (spelled rivals) before later → length (spelled rivals) ≤ length (spelled prefix)
+    go (Either.longer c k rest one two) =
+        let live = subst IsLive (one ∙ sym (append_assoc before (c ∷ []) k)) (reading_live rivals (spelled rivals) reads) in
+        absurd (dead c rest two (live_before (before ++ c ∷ []) k live))
+    go (Either.shorter k one) = within prefix others rivals body last (outer_pieces u) pieces ended none is deep (reading_stays rivals k before u body last steps.0 (sym one) reads is class)
 
 -- No line ends in the pieces after the lines given, or only by the CR with which the known bytes end.
 pub data EndsNoneYet (others : List Piece) (tail : List ℕ) : Type 0 where

@@ -1,5 +1,5 @@
 -- What the machine with fields has found of the outermost list of a text: these pieces spell what was read, and finished ones stay.
-use Rattle.std.proofs.Common.{◌≡◌, ℕ, Some, List, [], ◌∷◌, ◌++◌, sym, ap, ◌∙◌, append-nil, append_assoc, false}
+use Rattle.py_lines.proofs.Prelude.{◌≡◌, ℕ, Some, List, [], ◌∷◌, ◌++◌, sym, ap, ◌∙◌, append-nil, append_assoc, false}
 use Rattle.py_lines.specs.Piece.{string, Piece, spelled}
 use Rattle.py_lines.specs.FieldStrings.{Host, Place}
 use Rattle.py_lines.specs.Private.Mode as modes
@@ -32,10 +32,10 @@ string_spells (l ∷ ls) host place done held = string_spells ls l.host l.place 
 -- so all of them spell what was read
 pub outer_spells : (limit : Limit) (t : FieldScanned) (read : List ℕ) → IsFieldSound limit t read → spelled (outer_pieces t) ≡ read
 outer_spells limit t read sound = go t.outer t.done t.openers t.mode t.held sound where
-    go : (outer : List Level) (done : List Piece) (openers : List ℕ) (m : FieldMode) (held : List ℕ)
-        → IsFieldSound limit (field_state outer done openers m held) read → spelled (outer_pieces (field_state outer done openers m held)) ≡ read
-    go [] done openers m held own = closed_spells limit [] _ m done held own.mode ∙ outer_spell limit (field_state [] done openers m held) read own
-    go (l ∷ ls) done openers m held own = string_spells ls l.host l.place _ _ ∙ outer_spell limit (field_state (l ∷ ls) done openers m held) read own
+  go : (outer : List Level) (done : List Piece) (openers : List ℕ) (m : FieldMode) (held : List ℕ)
+      → IsFieldSound limit (field_state outer done openers m held) read → spelled (outer_pieces (field_state outer done openers m held)) ≡ read
+  go [] done openers m held own = closed_spells limit [] _ m done held own.mode ∙ outer_spell limit (field_state [] done openers m held) read own
+  go (l ∷ ls) done openers m held own = string_spells ls l.host l.place _ _ ∙ outer_spell limit (field_state (l ∷ ls) done openers m held) read own
 
 pub runs_spell : (cs : List ℕ) (t : FieldScanned) → RunsTo cs t → spelled (outer_pieces t) ≡ cs
 runs_spell cs t runs = outer_spells _ t cs (runs_sound cs t runs)

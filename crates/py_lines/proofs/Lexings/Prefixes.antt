@@ -1,9 +1,6 @@
 -- The longest prefix of a text that is read and ends a line: there is one, and no other. So every text has one list of logical lines, and
 -- then its end or one fault.
-use Rattle.std.proofs.Common.{◌≡◌, ℕ, ◌≤◌, ◌<◌, true, false, ◌==◌, Option, None, Some, List, [], ◌∷◌, ◌++◌, ◌⊎◌, inl, inr, length, take, drop, zero, suc, refl, sym, ap, ◌∙◌, subst, ⊎_elim, take-append-drop, length-append, arith}
-use Rattle.std.proofs.lemmas.List.{same_from_push, length-take}
-use Rattle.std.proofs.Math.Seq.{take-append_seam, drop-append_seam}
-use Rattle.std.proofs.lemmas.Bool.{both_ways, cases_Bool, cases_lt, eqb-true, eq-eqb}
+use Rattle.py_lines.proofs.Prelude.{◌≡◌, ℕ, ◌≤◌, ◌<◌, true, false, ◌==◌, Option, None, Some, List, [], ◌∷◌, ◌++◌, ◌⊎◌, inl, inr, length, take, drop, zero, suc, refl, sym, ap, ◌∙◌, subst, ⊎_elim, take-append-drop, length-append, arith, same_from_push, length-take, take-append_seam, drop-append_seam, both_ways, cases_Bool, cases_lt, eqb-true, eq-eqb}
 use Rattle.py_lines.specs.Character.{is_return}
 use Rattle.py_lines.specs.Piece.{Class, line_end, Piece, ends, spelled}
 use Rattle.py_lines.specs.Balance as balance
@@ -39,27 +36,27 @@ module _ (Good : List ℕ → List ℕ → Type 0) (decide : (xs ys : List ℕ) 
   pub longest_up_to : (n : ℕ) → LongestGood Good characters n
   longest_up_to zero = record { first = []; rest = characters; spell = refl; good = none; longest = λ others after same is few. few }
   longest_up_to (suc n) = go (decide (take (suc n) characters) (drop (suc n) characters)) (longest_up_to n) where
-      whole : take (suc n) characters ++ drop (suc n) characters ≡ characters
-      whole = take-append-drop (suc n) characters
+    whole : take (suc n) characters ++ drop (suc n) characters ≡ characters
+    whole = take-append-drop (suc n) characters
 
-      go : Good (take (suc n) characters) (drop (suc n) characters) ⊎ ¬ (Good (take (suc n) characters) (drop (suc n) characters)) → LongestGood Good characters n → LongestGood Good characters (suc n)
-      go (inl good) best = record {
-        first = take (suc n) characters;
-        rest = drop (suc n) characters;
-        spell = whole;
-        good = good;
-        longest = λ others after same is few. omega (arith, few, ap length (sym same), length-append others after, length-take (suc n) characters);
-      }
-      go (inr bad) best = record {
-        first = best.first;
-        rest = best.rest;
-        spell = best.spell;
-        good = best.good;
-        longest = λ others after same is few. ⊎_elim (λ (less : length others < suc n). best.longest others after same is (omega (arith, less)))
-            (λ (all : suc n ≤ length others).
-            let cut = same_prefix others (take (suc n) characters) after (drop (suc n) characters) (same ∙ sym whole) (omega (arith, few, all, ap length (sym same), length-append others after, length-take (suc n) characters)) in
-            absurd (bad (subst (Good (take (suc n) characters)) cut.1 (subst (λ t. Good t after) cut.0 is)))) (cases_lt (length others) (suc n));
-      }
+    go : Good (take (suc n) characters) (drop (suc n) characters) ⊎ ¬ (Good (take (suc n) characters) (drop (suc n) characters)) → LongestGood Good characters n → LongestGood Good characters (suc n)
+    go (inl good) best = record {
+      first = take (suc n) characters;
+      rest = drop (suc n) characters;
+      spell = whole;
+      good = good;
+      longest = λ others after same is few. omega (arith, few, ap length (sym same), length-append others after, length-take (suc n) characters);
+    }
+    go (inr bad) best = record {
+      first = best.first;
+      rest = best.rest;
+      spell = best.spell;
+      good = best.good;
+      longest = λ others after same is few. ⊎_elim (λ (less : length others < suc n). best.longest others after same is (omega (arith, less)))
+          (λ (all : suc n ≤ length others).
+          let cut = same_prefix others (take (suc n) characters) after (drop (suc n) characters) (same ∙ sym whole) (omega (arith, few, all, ap length (sym same), length-append others after, length-take (suc n) characters)) in
+          absurd (bad (subst (Good (take (suc n) characters)) cut.1 (subst (λ t. Good t after) cut.0 is)))) (cases_lt (length others) (suc n));
+    }
 
 -- whether pieces end a line
 last_of : (p : Piece) (ps : List Piece) → (body : List Piece) × (last : Piece) × (p ∷ ps ≡ body ++ last ∷ [])
@@ -73,33 +70,33 @@ line_end_class other = inr (λ h. cc)
 pub ends_line_or_not : (pieces : List Piece) → EndsLine pieces ⊎ ¬ (EndsLine pieces)
 ends_line_or_not [] = inl (inl refl)
 ends_line_or_not (p ∷ ps) = go (last_of p ps) where
-    go : (body : List Piece) × (last : Piece) × (p ∷ ps ≡ body ++ last ∷ []) → EndsLine (p ∷ ps) ⊎ ¬ (EndsLine (p ∷ ps))
-    go (body, last, is) = by (line_end_class last.class) (cases_Bool (depth_through 0 body == 0)) where
-        back : EndsLine (p ∷ ps) → (last.class ≡ line_end) × (depth_through 0 body ≡ 0)
-        back (inl none) = absurd (cc)
-        back (inr (front, end, so, class, deep)) = let same = same_from_push body front last end (sym is ∙ so) in
-            (ap (λ (x : Piece). x.class) same.1 ∙ class, ap (depth_through 0) same.0 ∙ deep)
+  go : (body : List Piece) × (last : Piece) × (p ∷ ps ≡ body ++ last ∷ []) → EndsLine (p ∷ ps) ⊎ ¬ (EndsLine (p ∷ ps))
+  go (body, last, is) = by (line_end_class last.class) (cases_Bool (depth_through 0 body == 0)) where
+    back : EndsLine (p ∷ ps) → (last.class ≡ line_end) × (depth_through 0 body ≡ 0)
+    back (inl none) = absurd (cc)
+    back (inr (front, end, so, class, deep)) = let same = same_from_push body front last end (sym is ∙ so) in
+        (ap (λ (x : Piece). x.class) same.1 ∙ class, ap (depth_through 0) same.0 ∙ deep)
 
-        by : (last.class ≡ line_end) ⊎ ¬ (last.class ≡ line_end) → (depth_through 0 body == 0 ≡ true) ⊎ (depth_through 0 body == 0 ≡ false) → EndsLine (p ∷ ps) ⊎ ¬ (EndsLine (p ∷ ps))
-        by (inl class) (inl level) = inl (inr (body, last, is, class, eqb-true (depth_through 0 body) 0 level))
-        by (inr other) level = inr (λ ended. other (back ended).0)
-        by (inl class) (inr deep) = inr (λ ended. both_ways _ deep (eq-eqb (depth_through 0 body) 0 (back ended).1))
+    by : (last.class ≡ line_end) ⊎ ¬ (last.class ≡ line_end) → (depth_through 0 body == 0 ≡ true) ⊎ (depth_through 0 body == 0 ≡ false) → EndsLine (p ∷ ps) ⊎ ¬ (EndsLine (p ∷ ps))
+    by (inl class) (inl level) = inl (inr (body, last, is, class, eqb-true (depth_through 0 body) 0 level))
+    by (inr other) level = inr (λ ended. other (back ended).0)
+    by (inl class) (inr deep) = inr (λ ended. both_ways _ deep (eq-eqb (depth_through 0 body) 0 (back ended).1))
 
 pub ends_for_good_or_not : (pieces : List Piece) (rest : List ℕ) → EndsForGood pieces rest ⊎ ¬ (EndsForGood pieces rest)
 ends_for_good_or_not pieces rest = go rest (ends_line_or_not pieces) (cases_Bool (ends is_return (spelled pieces))) where
-    go : (r : List ℕ) → EndsLine pieces ⊎ ¬ (EndsLine pieces) → (ends is_return (spelled pieces) ≡ true) ⊎ (ends is_return (spelled pieces) ≡ false) → EndsForGood pieces r ⊎ ¬ (EndsForGood pieces r)
-    go r (inr other) cr = inr (λ is. other is.0)
-    go r (inl is) (inr other) = inl (is, λ none. other)
-    go [] (inl is) (inl returns) = inr (λ good. both_ways _ (good.1 refl) returns)
-    go (c ∷ cs) (inl is) (inl returns) = inl (is, λ none. absurd (cc))
+  go : (r : List ℕ) → EndsLine pieces ⊎ ¬ (EndsLine pieces) → (ends is_return (spelled pieces) ≡ true) ⊎ (ends is_return (spelled pieces) ≡ false) → EndsForGood pieces r ⊎ ¬ (EndsForGood pieces r)
+  go r (inr other) cr = inr (λ is. other is.0)
+  go r (inl is) (inr other) = inl (is, λ none. other)
+  go [] (inl is) (inl returns) = inr (λ good. both_ways _ (good.1 refl) returns)
+  go (c ∷ cs) (inl is) (inl returns) = inl (is, λ none. absurd (cc))
 
 -- the longest prefix that is read and ends so
 good_or_not : (EndSo : List Piece → List ℕ → Type 0) → ((pieces : List Piece) (rest : List ℕ) → EndSo pieces rest ⊎ ¬ (EndSo pieces rest)) → (xs ys : List ℕ) → ((pieces : List Piece) × IsBalancedReading pieces xs × EndSo pieces ys) ⊎ ¬ ((pieces : List Piece) × IsBalancedReading pieces xs × EndSo pieces ys)
 good_or_not EndSo decide xs ys = go (read_or_faulty xs []) where
-    go : IsReadOrFaulty xs [] → ((pieces : List Piece) × IsBalancedReading pieces xs × EndSo pieces ys) ⊎ ¬ ((pieces : List Piece) × IsBalancedReading pieces xs × EndSo pieces ys)
-    go (inr (kind, offset, fault)) = inr (λ is. fault_unread kind xs [] offset fault refl is.0 is.1)
-    go (inl (whole, (pieces, reading))) = ⊎_elim (λ (ended : EndSo pieces ys). inl (pieces, reading, ended))
-        (λ (other : ¬ (EndSo pieces ys)). inr (λ is. other (subst (λ (l : List Piece). EndSo l ys) (one_fielded_reading is.0 pieces xs is.1.reads reading.reads) is.2))) (decide pieces ys)
+  go : IsReadOrFaulty xs [] → ((pieces : List Piece) × IsBalancedReading pieces xs × EndSo pieces ys) ⊎ ¬ ((pieces : List Piece) × IsBalancedReading pieces xs × EndSo pieces ys)
+  go (inr (kind, offset, fault)) = inr (λ is. fault_unread kind xs [] offset fault refl is.0 is.1)
+  go (inl (whole, (pieces, reading))) = ⊎_elim (λ (ended : EndSo pieces ys). inl (pieces, reading, ended))
+      (λ (other : ¬ (EndSo pieces ys)). inr (λ is. other (subst (λ (l : List Piece). EndSo l ys) (one_fielded_reading is.0 pieces xs is.1.reads reading.reads) is.2))) (decide pieces ys)
 
 longest_exists : (EndSo : List Piece → List ℕ → Type 0) → ((pieces : List Piece) (rest : List ℕ) → EndSo pieces rest ⊎ ¬ (EndSo pieces rest)) → (characters : List ℕ) → EndSo [] characters → (pieces : List Piece) × IsLongest EndSo pieces characters
 longest_exists EndSo decide characters none =
@@ -127,17 +124,17 @@ one_longest EndSo pieces others characters one two =
 -- so a text has logical lines, and then its end or its fault
 pub some_lexing_of : (text : List ℕ) → (lines : List LogicalLine) × (end : Option Fault) × IsLexed text lines end
 some_lexing_of text = go (read_or_faulty (decoding text).characters (decoding text).tail) where
-    characters : List ℕ
-    characters = (decoding text).characters
+  characters : List ℕ
+  characters = (decoding text).characters
 
-    tail : List ℕ
-    tail = (decoding text).tail
+  tail : List ℕ
+  tail = (decoding text).tail
 
-    go : IsReadOrFaulty characters tail → (lines : List LogicalLine) × (end : Option Fault) × IsLexed text lines end
-    go (inl (whole, (pieces, reading))) =
-        (lines_of pieces, None, record { characters = characters; pieces = pieces; decodes = subst (Decodes text characters) whole (decoding text).decodes; reading = reading; cut = refl })
-    go (inr (kind, offset, at)) = let (fault, is) = with_line characters tail kind offset at in let prefix : (pieces : List Piece) × IsReadPrefix pieces characters = longest_exists _ (λ pieces rest. ends_line_or_not pieces) characters (inl refl) in
-        (lines_of prefix.0, Some fault, record { characters = characters; tail = tail; pieces = prefix.0; decodes = (decoding text).decodes; prefix = prefix.1; refused = is; cut = refl })
+  go : IsReadOrFaulty characters tail → (lines : List LogicalLine) × (end : Option Fault) × IsLexed text lines end
+  go (inl (whole, (pieces, reading))) =
+      (lines_of pieces, None, record { characters = characters; pieces = pieces; decodes = subst (Decodes text characters) whole (decoding text).decodes; reading = reading; cut = refl })
+  go (inr (kind, offset, at)) = let (fault, is) = with_line characters tail kind offset at in let prefix : (pieces : List Piece) × IsReadPrefix pieces characters = longest_exists _ (λ pieces rest. ends_line_or_not pieces) characters (inl refl) in
+      (lines_of prefix.0, Some fault, record { characters = characters; tail = tail; pieces = prefix.0; decodes = (decoding text).decodes; prefix = prefix.1; refused = is; cut = refl })
 
 -- the known bytes of every text settle some lines
 pub some_settled : (text : List ℕ) → (lines : List LogicalLine) × IsSettled text lines

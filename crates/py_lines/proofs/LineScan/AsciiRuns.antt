@@ -1,17 +1,10 @@
 -- Runs of bytes of ASCII, and what they begin.
-use Rattle.std.proofs.Common.{◌≡◌, ℕ, zero, suc, ◌<◌, ◌≤◌, Bool, true, false, List, [], ◌∷◌, ◌++◌, length, take, slice_index, refl, leb, ap, ◌∙◌, arith, Fits, w8}
-use Rattle.std.specs.Prelude.{encode_utf8_all, codes, not, nat_lt}
-use Rattle.std.specs.Str.{all_scalars}
-use Rattle.std.specs.List.{list_all}
-use Rattle.std.proofs.lemmas.Bool.{and_parts, and_from, leb-false, lt-ltb, ltb-true}
-use Rattle.std.proofs.lemmas.Str.{encode_ascii}
-use Rattle.std.proofs.Math.Utf8.{low_scalar}
+use Rattle.py_lines.proofs.Prelude.{◌≡◌, ℕ, zero, suc, ◌<◌, ◌≤◌, Bool, true, false, List, [], ◌∷◌, ◌++◌, length, take, slice_index, refl, leb, ap, ◌∙◌, arith, Fits, w8, encode_utf8_all, codes, not, nat_lt, all_scalars, list_all, and_parts, and_from, leb-false, lt-ltb, ltb-true, encode_ascii, low_scalar, nat_tests}
 use Rattle.py_lines.specs.Character.{is_space, is_word_start, is_word_character, is_digit, is_quote, is_operator, is_break}
 use Rattle.py_lines.specs.Private.Machine.{IsFull}
 use Rattle.py_lines.specs.Private.Run.{is_ascii_word, is_line_byte}
 use Rattle.py_lines.proofs.Text.CharacterTests.{none_of, excluded}
 use Rattle.unicode_ident.proofs.IdentLemmas.{is_xid_continue-ascii, is_xid_start-ascii}
-use Rattle.std.proofs.lemmas.Bool.Decides.{nat_tests}
 
 -- space, line ends and quotes are ASCII
 pub space_low : (c : ℕ) → is_space c ≡ true → c < 128

@@ -1,10 +1,5 @@
 -- What a character begins, by the class of its first byte.
-use Rattle.std.proofs.Common.{◌≡◌, ◌⊎◌, ℕ, ◌<◌, ◌≤◌, true, false, List, [], ◌∷◌, ◌++◌, slice_index, refl, ap, sym, ◌∙◌, arith, if◌then◌else◌, ⊎_elim}
-use Rattle.std.specs.Prelude.{codes, nat_le, nat_lt}
-use Rattle.std.specs.List.{list_any}
-use Rattle.std.proofs.lemmas.Bool.{and_parts, cases_lt, le-leb, leb-true, ltb-true}
-use Rattle.std.proofs.lemmas.Bool.Decides.{nat_tests}
-use Rattle.std.proofs.lemmas.Str.{byte_from_char, char_from_byte, len_utf8_bounds}
+use Rattle.py_lines.proofs.Prelude.{◌≡◌, ◌⊎◌, ℕ, ◌<◌, ◌≤◌, true, false, List, [], ◌∷◌, ◌++◌, slice_index, refl, ap, sym, ◌∙◌, arith, if◌then◌else◌, ⊎_elim, codes, nat_le, nat_lt, list_any, and_parts, cases_lt, le-leb, leb-true, ltb-true, nat_tests, byte_from_char, char_from_byte, len_utf8_bounds}
 use Rattle.unicode_ident.specs.Ident.{is_xid_start}
 use Rattle.py_lines.specs.Character.{is_backslash, is_b, is_break, is_digit, is_f, is_hash, is_line_feed, is_one_of, is_operator, is_quote, is_r, is_return, is_space, is_t, is_u, is_word_start}
 use Rattle.py_lines.specs.declared.class.Class.{Class}

@@ -1,7 +1,5 @@
 -- The scan of a line's characters, one after another: where it has come, the machine has, and where the line ends with one.
-use Rattle.std.proofs.Common.{◌≡◌, ℕ, ◌<◌, true, false, ◌&&◌, ◌==◌, List, [], ◌∷◌, ◌++◌, length, refl, sym, ap, ◌∙◌, arith, lit<, ◌+◌, inl, inr, ◌⊎◌, Option, None, Some, subst, append-nil, append_assoc}
-use Rattle.std.proofs.lemmas.Bool.{both_ways, and_parts, and_right, eqb-true, false_from_ne_true}
-use Rattle.std.proofs.lemmas.Str.{encode_ascii, encodes_same}
+use Rattle.py_lines.proofs.Prelude.{◌≡◌, ℕ, ◌<◌, true, false, ◌&&◌, ◌==◌, List, [], ◌∷◌, ◌++◌, length, refl, sym, ap, ◌∙◌, arith, lit<, ◌+◌, inl, inr, ◌⊎◌, Option, None, Some, subst, append-nil, append_assoc, both_ways, and_parts, and_right, eqb-true, false_from_ne_true, encode_ascii, encodes_same, encode_utf8_all, and-true, nil_from_length, same_from_push}
 use Rattle.py_lines.specs.Character.{is_line_feed, is_mark, is_return}
 use Rattle.py_lines.specs.Piece.{Piece, Class, mark, line_end, operator, begins, begins_marked, ends, is_mark_class, spelled}
 use Rattle.py_lines.specs.Balance.{depth_through}
@@ -16,9 +14,6 @@ use Rattle.py_lines.proofs.Pieces.PieceLists.{piece, AreReadBefore-first, AreRea
 use Rattle.py_lines.proofs.Text.CharacterTests.{feed_is, return_is}
 use Rattle.py_lines.proofs.LogicalLines.Cuts.{byte_len-append, ends-last, uncut}
 use Rattle.py_lines.proofs.LineScan.LineCount.{EndsNoLine-push}
-use Rattle.std.specs.Prelude.{encode_utf8_all}
-use Rattle.std.proofs.Math.Bool.{and-true}
-use Rattle.std.proofs.lemmas.List.{nil_from_length, same_from_push}
 use Rattle.py_lines.specs.Fields.{AreReadBefore, InClass, fielded}
 use Rattle.py_lines.specs.PieceGrammar.{IsLineEnd, feed, return, return_feed}
 use Rattle.py_lines.specs.Private.FieldFaults.{here}
@@ -108,9 +103,9 @@ module _ (t : FieldScanned) (read : List ℕ) (c : ℕ) (sound : IsFieldSound tw
         → EndsNoLine 0 (field_pieces t) → (frames t == 0) && is_line_feed c ≡ false → EndsNoLine 0 (outer_done next)
     begun_one_line (starts.Open k) so next is one going = subst (λ x. EndsNoLine 0 (outer_done x)) (some_is _ next is) one
     begun_one_line starts.Operator so next is one going = by (openers_with t.openers c) is where
-        by : (o : Option (List ℕ)) → after_operator [] (field_pieces t) c o ≡ Some next → EndsNoLine 0 (outer_done next)
-        by None e = absurd (cc)
-        by (Some os) e = subst (λ x. EndsNoLine 0 (outer_done x)) (some_is _ next e) (EndsNoLine-push 0 (field_pieces t) (piece operator (c ∷ [])) one refl)
+      by : (o : Option (List ℕ)) → after_operator [] (field_pieces t) c o ≡ Some next → EndsNoLine 0 (outer_done next)
+      by None e = absurd (cc)
+      by (Some os) e = subst (λ x. EndsNoLine 0 (outer_done x)) (some_is _ next e) (EndsNoLine-push 0 (field_pieces t) (piece operator (c ∷ [])) one refl)
     begun_one_line starts.LineEnd so next is one going =
         subst (λ x. EndsNoLine 0 (outer_done x)) (some_is _ next is) (EndsNoLine-push 0 (field_pieces t) (piece line_end (c ∷ [])) one
         (ap (λ n. n == 0) (closed_depth t.mode t.done t.held ∙ depth_is) ∙ sym (and-true (frames t == 0)) ∙ ap (λ b. (frames t == 0) && b) (sym so) ∙ going))
@@ -123,14 +118,14 @@ module _ (t : FieldScanned) (read : List ℕ) (c : ℕ) (sound : IsFieldSound tw
   more_one_line : (next : FieldScanned) → field_step t c ≡ Some next → EndsNoLine 0 (outer_done t) → has_returned t ≡ false → ends_line t c ≡ false
       → EndsNoLine 0 (outer_done next)
   more_one_line next step one open_yet going = by (outer_steps t c next step) where
-      by : OuterStep t c next → EndsNoLine 0 (outer_done next)
-      by (OuterStep.outer_stays same) = subst (EndsNoLine 0) (sym same) one
-      by (OuterStep.outer_closes none move is) =
-          subst (λ x. EndsNoLine 0 (outer_done x)) (sym is) (EndsNoLine-push 0 t.done (piece (field_class_of t.mode) (t.held ++ c ∷ [])) (alone none one)
-          (ap (λ b. b && (depth_through 0 t.done == 0)) (line_class t.mode) ∙ ap (λ n. is_return_at t.mode && (n == 0)) (depth_is none) ∙ open_yet))
-      by (OuterStep.outer_breaks none move is) =
-          begun_one_line none (start_of c) (starts_so c) next is (closed_line none one open_yet)
-          (ap (λ b. (frames t == 0) && b) (sym (line_ending_breaks t.mode c) ∙ ap (λ v. is_line_ending t.mode v c) (sym move)) ∙ going)
+    by : OuterStep t c next → EndsNoLine 0 (outer_done next)
+    by (OuterStep.outer_stays same) = subst (EndsNoLine 0) (sym same) one
+    by (OuterStep.outer_closes none move is) =
+        subst (λ x. EndsNoLine 0 (outer_done x)) (sym is) (EndsNoLine-push 0 t.done (piece (field_class_of t.mode) (t.held ++ c ∷ [])) (alone none one)
+        (ap (λ b. b && (depth_through 0 t.done == 0)) (line_class t.mode) ∙ ap (λ n. is_return_at t.mode && (n == 0)) (depth_is none) ∙ open_yet))
+    by (OuterStep.outer_breaks none move is) =
+        begun_one_line none (start_of c) (starts_so c) next is (closed_line none one open_yet)
+        (ap (λ b. (frames t == 0) && b) (sym (line_ending_breaks t.mode c) ∙ ap (λ v. is_line_ending t.mode v c) (sym move)) ∙ going)
 
 -- so for more characters
 goes_one_line : (t u : FieldScanned) (read run : List ℕ) → IsFieldSound two_hundred t read → EndsNoLine 0 (outer_done t) → Goes t run u
@@ -149,13 +144,13 @@ pub unmarked : (pieces : List Piece) (rest : List ℕ) (t : FieldScanned) → Ar
     → field_steps_from (Some (line_begun modes.Free)) (spelled pieces) ≡ Some t → begins_marked pieces ≡ false
 unmarked [] rest t fit goes = refl
 unmarked (p ∷ ps) rest t fit goes = no_mark p.class p.text (spelled ps) fit.0 goes where
-    no_mark : (class : Class) (text others : List ℕ) → InClass class text
-        → field_steps_from (Some (line_begun modes.Free)) (text ++ others) ≡ Some t → is_mark_class class ≡ false
-    no_mark mark text others (c, same, marks) goes =
-        let none : field_steps_from (Some (line_begun modes.Free)) (text ++ others) ≡ None =
-        ap (λ x. field_steps_from (Some (line_begun modes.Free)) (x ++ others)) same ∙ ap (λ o. field_steps_from o others) (mark_stuck c marks) in
-        absurd (let clash = sym none ∙ goes in cc)
-    no_mark class text others holds goes = refl
+  no_mark : (class : Class) (text others : List ℕ) → InClass class text
+      → field_steps_from (Some (line_begun modes.Free)) (text ++ others) ≡ Some t → is_mark_class class ≡ false
+  no_mark mark text others (c, same, marks) goes =
+      let none : field_steps_from (Some (line_begun modes.Free)) (text ++ others) ≡ None =
+      ap (λ x. field_steps_from (Some (line_begun modes.Free)) (x ++ others)) same ∙ ap (λ o. field_steps_from o others) (mark_stuck c marks) in
+      absurd (let clash = sym none ∙ goes in cc)
+  no_mark class text others holds goes = refl
 
 -- how many bytes the line end has that ends there
 abbrev line_end_size : FieldMode → ℕ
@@ -360,27 +355,27 @@ no_cut (p ∷ []) more fit feeds =
     ap (ends is_return) (append-nil p.text) ∙ sym (and-true (ends is_return p.text))
     ∙ ap (λ b. ends is_return p.text && b) (sym feeds) ∙ uncut p.class p.text more fit.0 fit.1
 no_cut (p ∷ q ∷ ps) more fit feeds = by (no_cut (q ∷ ps) more fit.3 feeds) q.text (piece_some q.class q.text fit.3.0) refl where
-    by : ends is_return (q.text ++ spelled ps) ≡ false → (text : List ℕ) → 0 < length text → q.text ≡ text
-        → ends is_return (p.text ++ (q.text ++ spelled ps)) ≡ false
-    by others [] some is = absurd (omega (arith, some))
-    by others (c ∷ cs) some is =
-        ap (λ t. ends is_return (p.text ++ (t ++ spelled ps))) is ∙ ends-append is_return p.text c (cs ++ spelled ps)
-        ∙ ap (λ t. ends is_return (t ++ spelled ps)) (sym is) ∙ others
+  by : ends is_return (q.text ++ spelled ps) ≡ false → (text : List ℕ) → 0 < length text → q.text ≡ text
+      → ends is_return (p.text ++ (q.text ++ spelled ps)) ≡ false
+  by others [] some is = absurd (omega (arith, some))
+  by others (c ∷ cs) some is =
+      ap (λ t. ends is_return (p.text ++ (t ++ spelled ps))) is ∙ ends-append is_return p.text c (cs ++ spelled ps)
+      ∙ ap (λ t. ends is_return (t ++ spelled ps)) (sym is) ∙ others
 
 -- so the line end of pieces that spell CR LF at their end is both
 two_bytes : (body : List Piece) (last : Piece) (read : List ℕ) → AreReadBefore (body ++ last ∷ []) [] → last.class ≡ line_end
     → spelled (body ++ last ∷ []) ≡ read ++ 10 ∷ [] → ends is_return read ≡ true → byte_len last.text ≡ 2
 unfolding is_line_feed is_return
 two_bytes body last read fit class spell returns = by (line_end_of fielded body last [] class fit) where
-    whole : (c : ℕ) → last.text ≡ c ∷ [] → (spelled body ≡ read) × (c ≡ 10)
-    whole c is = same_from_push (spelled body) read c 10 (ap (λ t. spelled body ++ t) (sym is) ∙ sym (spelled-push body last.class last.text) ∙ spell)
+  whole : (c : ℕ) → last.text ≡ c ∷ [] → (spelled body ≡ read) × (c ≡ 10)
+  whole c is = same_from_push (spelled body) read c 10 (ap (λ t. spelled body ++ t) (sym is) ∙ sym (spelled-push body last.class last.text) ∙ spell)
 
-    by : IsLineEnd last.text → byte_len last.text ≡ 2
-    by (feed is) =
-        absurd (both_ways _ (ap (ends is_return) (sym (whole 10 is).0) ∙ no_cut body (spelled (last ∷ []) ++ []) (AreReadBefore-first body (last ∷ []) [] fit)
-        (ap (λ t. begins is_line_feed ((t ++ []) ++ [])) is)) returns)
-    by (return_feed is) = ap byte_len is ∙ sym (both_ends (13 ∷ []) 10 refl refl)
-    by (return is) = absurd (omega (arith, (whole 13 is).1))
+  by : IsLineEnd last.text → byte_len last.text ≡ 2
+  by (feed is) =
+      absurd (both_ways _ (ap (ends is_return) (sym (whole 10 is).0) ∙ no_cut body (spelled (last ∷ []) ++ []) (AreReadBefore-first body (last ∷ []) [] fit)
+      (ap (λ t. begins is_line_feed ((t ++ []) ++ [])) is)) returns)
+  by (return_feed is) = ap byte_len is ∙ sym (both_ends (13 ∷ []) 10 refl refl)
+  by (return is) = absurd (omega (arith, (whole 13 is).1))
 
 -- how the line ends with LF, before which perhaps CR stands
 fed : {m : Mode} {read : List ℕ} {new : Scan} (way : IsUnderWay m read) → begins_line m ≡ true → has_returned way.field ≡ false

@@ -1,8 +1,5 @@
 -- The scan of a line goes on in more text, and stops.
-use Rattle.std.proofs.Common.{◌≡◌, ℕ, ◌+◌, ◌-◌, ◌<◌, ◌≤◌, true, false, Bool, List, [], ◌∷◌, ◌++◌, length, take, drop, refl, sym, ap, ◌∙◌, subst, arith, length-append}
-use Rattle.std.specs.Prelude.{encode_utf8, encode_utf8_all}
-use Rattle.std.specs.Str.{all_scalars}
-use Rattle.std.proofs.lemmas.List.{drop_at, drop-drop, take_rest}
+use Rattle.py_lines.proofs.Prelude.{◌≡◌, ℕ, ◌+◌, ◌-◌, ◌<◌, ◌≤◌, true, false, Bool, List, [], ◌∷◌, ◌++◌, length, take, drop, refl, sym, ap, ◌∙◌, subst, arith, length-append, encode_utf8, encode_utf8_all, all_scalars, drop_at, drop-drop, take_rest}
 use Rattle.py_lines.specs.declared.mode.Mode.{Mode as OpenMode}
 use Rattle.py_lines.specs.declared.mode.Mode.TheVariants as opens
 use Rattle.py_lines.specs.declared.host.Region.TheVariants as regions
@@ -85,9 +82,9 @@ record GoesPast (m : Mode) (read run rest : List ℕ) (to : FieldScanned) : Type
 
 as_itself : (rest : List ℕ) (t : FieldScanned) → (has_returned t ≡ true → rest ≡ []) → StandsAs rest t t
 as_itself rest t alone = by (has_returned t) refl where
-    by : (b : Bool) → has_returned t ≡ b → StandsAs rest t t
-    by true is = subst (λ r. StandsAs r t t) (sym (alone is)) refl
-    by false is = stands_self rest t is
+  by : (b : Bool) → has_returned t ≡ b → StandsAs rest t t
+  by true is = subst (λ r. StandsAs r t t) (sym (alone is)) refl
+  by false is = stands_self rest t is
 
 goes_past : {m : Mode} {read : List ℕ} (way : IsUnderWay m read) (u : FieldScanned) (before run rest : List ℕ) (to : FieldScanned)
     → StandsAs before way.field u → all_scalars run ≡ true → encode_utf8_all run ++ rest ≡ before → Goes u run to

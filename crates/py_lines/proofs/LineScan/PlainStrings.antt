@@ -1,11 +1,5 @@
 -- Strings between single quotes that bytes hold whole, and their text: of ASCII.
-use Rattle.std.proofs.Common.{◌≡◌, ℕ, suc, ◌+◌, ◌-◌, ◌<◌, ◌≤◌, true, List, [], ◌∷◌, ◌++◌, length, take, drop, slice_index, refl, sym, ap, ◌∙◌, subst, arith, length-append, take_all}
-use Rattle.std.specs.List.{list_all}
-use Rattle.std.proofs.lemmas.Bool.{and_from, and_parts}
-use Rattle.std.proofs.lemmas.Bool.Decides.{nat_tests}
-use Rattle.std.proofs.lemmas.List.Folds.{list_all-append}
-use Rattle.std.proofs.lemmas.List.{length-take-le, take-append-drop}
-use Rattle.std.proofs.Math.Seq.{drop-cons}
+use Rattle.py_lines.proofs.Prelude.{◌≡◌, ℕ, suc, ◌+◌, ◌-◌, ◌<◌, ◌≤◌, true, List, [], ◌∷◌, ◌++◌, length, take, drop, slice_index, refl, sym, ap, ◌∙◌, subst, arith, length-append, take_all, list_all, and_from, and_parts, nat_tests, list_all-append, length-take-le, take-append-drop, drop-cons}
 use Rattle.py_lines.specs.Character.{is_backslash, is_barred, is_break, is_quote}
 use Rattle.py_lines.specs.Piece.{begins}
 use Rattle.py_lines.specs.PieceGrammar.{is_short_item}

@@ -1,8 +1,5 @@
 -- What is taken from a line's bytes, in one step or several: the scan of each line that stood before them has come beyond them.
-use Rattle.std.proofs.Common.{◌≡◌, ℕ, ◌+◌, ◌<◌, ◌≤◌, List, [], ◌∷◌, ◌++◌, length, drop, true, inl, inr, ◌⊎◌, ⊎_elim, refl, sym, ap, ◌∙◌, subst, arith, append_assoc, length-append}
-use Rattle.std.specs.Prelude.{encode_utf8_all}
-use Rattle.std.specs.Str.{all_scalars}
-use Rattle.std.proofs.lemmas.Str.{encodes-append}
+use Rattle.py_lines.proofs.Prelude.{◌≡◌, ℕ, ◌+◌, ◌<◌, ◌≤◌, List, [], ◌∷◌, ◌++◌, length, drop, true, inl, inr, ◌⊎◌, ⊎_elim, refl, sym, ap, ◌∙◌, subst, arith, append_assoc, length-append, encode_utf8_all, all_scalars, encodes-append}
 use Rattle.py_lines.specs.Character.{is_return}
 use Rattle.py_lines.specs.Piece.{ends}
 use Rattle.py_lines.specs.declared.scan.Progress.TheVariants as progress
@@ -90,31 +87,31 @@ pub record EndsThere (m : Mode) (whole before : List ℕ) (old new : Scan) (len 
 pub ends_there : {m : Mode} {whole before : List ℕ} {old : Scan} → begins_line m ≡ true → (o : Reached m whole old before) → (new : Scan) (len : ℕ)
     → ComesTo o.way.field before old (progress.LineEnded len) new → EndsThere m whole before old new len
 ends_there {m} {whole} {before} {old} start o new len comes = ⊎_elim with_feed with_return comes where
-    after_it : (run : List ℕ) → encode_utf8_all run ≡ run → length run ≡ len → IsLineBefore m new (o.read ++ run) len → new.stop ≡ old.stop + len
-    after_it run same size line =
-        (line [] (λ returns. refl)).stop ∙ byte_len-append o.read run ∙ omega (arith, rests_end o.way start o.rests, ap length same, size)
+  after_it : (run : List ℕ) → encode_utf8_all run ≡ run → length run ≡ len → IsLineBefore m new (o.read ++ run) len → new.stop ≡ old.stop + len
+  after_it run same size line =
+      (line [] (λ returns. refl)).stop ∙ byte_len-append o.read run ∙ omega (arith, rests_end o.way start o.rests, ap length same, size)
 
-    with_feed : EndsWithFeed o.way.field before len new → EndsThere m whole before old new len
-    with_feed e =
-        let all = e.run ++ 10 ∷ [] in let bytes = feed_bytes e.run e.first in
-        let no_return = ap (ends is_return) (sym (append_assoc o.read e.run (10 ∷ []))) ∙ ends-last is_return (o.read ++ e.run) 10 ∙ feed_unreturned in
-        let line = line_fed o.way start (stands_open before o.way.field o.rests.as_if (follows_open old o.rests.as_if o.rests.follows) o.rests.stands) e in
-        record {
-          scans = scans_over o new (stops.LineEnd len) all e.rest bytes.0
-              (ap (λ t. t ++ e.rest) bytes.1 ∙ append_assoc e.run (10 ∷ []) e.rest ∙ e.spell) (line, inl no_return);
-          within = omega (arith, e.size, ap length e.spell, length-append e.run (10 ∷ e.rest));
-          stop = after_it all bytes.1 (length-append e.run (10 ∷ []) ∙ omega (arith, e.size)) line;
-        }
+  with_feed : EndsWithFeed o.way.field before len new → EndsThere m whole before old new len
+  with_feed e =
+      let all = e.run ++ 10 ∷ [] in let bytes = feed_bytes e.run e.first in
+      let no_return = ap (ends is_return) (sym (append_assoc o.read e.run (10 ∷ []))) ∙ ends-last is_return (o.read ++ e.run) 10 ∙ feed_unreturned in
+      let line = line_fed o.way start (stands_open before o.way.field o.rests.as_if (follows_open old o.rests.as_if o.rests.follows) o.rests.stands) e in
+      record {
+        scans = scans_over o new (stops.LineEnd len) all e.rest bytes.0
+            (ap (λ t. t ++ e.rest) bytes.1 ∙ append_assoc e.run (10 ∷ []) e.rest ∙ e.spell) (line, inl no_return);
+        within = omega (arith, e.size, ap length e.spell, length-append e.run (10 ∷ e.rest));
+        stop = after_it all bytes.1 (length-append e.run (10 ∷ []) ∙ omega (arith, e.size)) line;
+      }
 
-    with_return : EndsWithReturn o.way.field before len new → EndsThere m whole before old new len
-    with_return e =
-        let line = line_returned o.way start e in
-        record {
-          scans = scans_over o new (stops.LineEnd len) (13 ∷ []) (e.b ∷ e.rest) refl (ap (λ t. t ++ e.b ∷ e.rest) return_bytes ∙ sym e.spell)
-              (line, inr (e.b, e.rest, refl, e.other));
-          within = omega (arith, e.size, ap length e.spell);
-          stop = after_it (13 ∷ []) return_bytes (omega (arith, e.size)) line;
-        }
+  with_return : EndsWithReturn o.way.field before len new → EndsThere m whole before old new len
+  with_return e =
+      let line = line_returned o.way start e in
+      record {
+        scans = scans_over o new (stops.LineEnd len) (13 ∷ []) (e.b ∷ e.rest) refl (ap (λ t. t ++ e.b ∷ e.rest) return_bytes ∙ sym e.spell)
+            (line, inr (e.b, e.rest, refl, e.other));
+        within = omega (arith, e.size, ap length e.spell);
+        stop = after_it (13 ∷ []) return_bytes (omega (arith, e.size)) line;
+      }
 
 -- or with some after others
 pub ends_over : {m : Mode} {text bytes : List ℕ} {old : Scan} → begins_line m ≡ true → (r : Reached m text old bytes) → (new : Scan)

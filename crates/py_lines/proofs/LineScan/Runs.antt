@@ -1,11 +1,5 @@
 -- Characters whose bytes leave the open piece as it is.
-use Rattle.std.proofs.Common.{take, ◌≡◌, ℕ, ◌+◌, ◌<◌, ◌≤◌, true, false, ◌==◌, List, [], ◌∷◌, ◌++◌, length, slice_index, refl, sym, ap, ◌∙◌, subst, arith, ⊎_elim, length-append}
-use Rattle.std.specs.Prelude.{encode_utf8_all, encode_utf8}
-use Rattle.std.specs.List.{list_all}
-use Rattle.std.proofs.lemmas.Bool.Decides.{nat_tests}
-use Rattle.std.proofs.lemmas.Bool.{and_from, cases_lt}
-use Rattle.std.proofs.lemmas.List.{get_or-append-add, get_or-take, length-take-le}
-use Rattle.std.proofs.lemmas.Str.{length-encode, len_utf8_bounds, char_from_byte, byte_from_char}
+use Rattle.py_lines.proofs.Prelude.{take, ◌≡◌, ℕ, ◌+◌, ◌<◌, ◌≤◌, true, false, ◌==◌, List, [], ◌∷◌, ◌++◌, length, slice_index, refl, sym, ap, ◌∙◌, subst, arith, ⊎_elim, length-append, encode_utf8_all, encode_utf8, list_all, nat_tests, and_from, cases_lt, get_or-append-add, get_or-take, length-take-le, length-encode, len_utf8_bounds, char_from_byte, byte_from_char}
 use Rattle.py_lines.specs.Character.{is_break, is_backslash, is_quote, is_space}
 use Rattle.py_lines.specs.declared.mode.Mode.{Mode as OpenMode}
 use Rattle.py_lines.specs.declared.mode.Mode.TheVariants as opens

@@ -1,10 +1,5 @@
 -- Whole characters that leave the open piece as it is.
-use Rattle.std.proofs.Common.{◌≡◌, ℕ, ◌<◌, ◌≤◌, Bool, true, List, length, take, slice_index, sym, ap, ◌∙◌, subst, arith, length-take}
-use Rattle.std.specs.Prelude.{IsUtf8}
-use Rattle.std.proofs.lemmas.List.{length-take-le, get_or-take, take-take}
-use Rattle.std.proofs.lemmas.List.Elements.{All-from_get_or}
-use Rattle.std.proofs.lemmas.Str.{IsUtf8-from_ascii}
-use Rattle.std.proofs.lemmas.Str.Ascii.{IsAscii-from_all}
+use Rattle.py_lines.proofs.Prelude.{◌≡◌, ℕ, ◌<◌, ◌≤◌, Bool, true, List, length, take, slice_index, sym, ap, ◌∙◌, subst, arith, length-take, IsUtf8, length-take-le, get_or-take, take-take, All-from_get_or, IsUtf8-from_ascii, IsAscii-from_all}
 use Rattle.py_lines.specs.Private.Run.{IsRunOf, Spans}
 
 -- a run of ASCII

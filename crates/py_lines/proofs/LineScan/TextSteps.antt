@@ -1,6 +1,5 @@
 -- The pieces before a line of a text, and what the line begins in.
-use Rattle.std.proofs.Common.{◌≡◌, ℕ, zero, suc, ◌+◌, ◌<◌, true, false, List, [], ◌∷◌, ◌++◌, length, refl, sym, ap, ◌∙◌, subst, inl, inr, append-nil, arith}
-use Rattle.std.proofs.lemmas.Str.{length-le-encodes}
+use Rattle.py_lines.proofs.Prelude.{◌≡◌, ℕ, zero, suc, ◌+◌, ◌<◌, true, false, List, [], ◌∷◌, ◌++◌, length, refl, sym, ap, ◌∙◌, subst, inl, inr, append-nil, arith, length-le-encodes}
 use Rattle.py_lines.specs.Piece.{line_end, Piece, begins_marked, spelled}
 use Rattle.py_lines.specs.Fields.{AreReadBefore}
 use Rattle.py_lines.specs.Reading.{EndsLine}
@@ -44,6 +43,6 @@ base_of n base rest fit (inr (body, last, is, class, level)) size =
 pub follows_base : (n : ℕ) (base u : List Piece) → Base n base → (first_mode n ≡ modes.Free → begins_marked u ≡ false) → MayFollow base u
 follows_base n base u (Base.bare none mode) unmarked = subst (λ l. MayFollow l u) (sym none) tt
 follows_base n base u (Base.lined body last is class any mode) unmarked = subst (λ l. MayFollow l u) (sym is) (any_follow body last) where
-    any_follow : (ps : List Piece) (p : Piece) → MayFollow (ps ++ p ∷ []) u
-    any_follow [] p = unmarked mode
-    any_follow (q ∷ qs) p = unmarked mode
+  any_follow : (ps : List Piece) (p : Piece) → MayFollow (ps ++ p ∷ []) u
+  any_follow [] p = unmarked mode
+  any_follow (q ∷ qs) p = unmarked mode

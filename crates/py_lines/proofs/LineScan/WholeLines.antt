@@ -1,11 +1,5 @@
 -- Logical lines follow one another.
-use Rattle.std.proofs.Common.{◌≡◌, ◌⊎◌, inl, inr, ℕ, ◌+◌, ◌-◌, ◌<◌, ◌≤◌, ◌&&◌, false, List, [], ◌∷◌, ◌++◌, length, take, drop, refl, sym, ap, ◌∙◌, subst, arith, append-nil, append_assoc, length-append, length-drop}
-use Rattle.std.specs.Prelude.{encode_utf8_all}
-use Rattle.std.proofs.Math.Path.{transport}
-use Rattle.std.proofs.Math.Seq.{take-add}
-use Rattle.std.proofs.lemmas.Bool.{and_parts, false_from_ne_true}
-use Rattle.std.proofs.lemmas.List.{drop_at, drop-drop, take-append-drop, take_at, take_rest}
-use Rattle.std.proofs.lemmas.Str.{encodes-append, length-le-encodes}
+use Rattle.py_lines.proofs.Prelude.{◌≡◌, ◌⊎◌, inl, inr, ℕ, ◌+◌, ◌-◌, ◌<◌, ◌≤◌, ◌&&◌, false, List, [], ◌∷◌, ◌++◌, length, take, drop, refl, sym, ap, ◌∙◌, subst, arith, append-nil, append_assoc, length-append, length-drop, encode_utf8_all, transport, take-add, and_parts, false_from_ne_true, drop_at, drop-drop, take-append-drop, take_at, take_rest, encodes-append, length-le-encodes}
 use Rattle.py_lines.specs.Character.{is_line_feed, is_return}
 use Rattle.py_lines.specs.LogicalLine.{line_ends}
 use Rattle.py_lines.specs.Piece.{begins, ends, spelled}
@@ -103,9 +97,9 @@ lines_whole t (u ∷ texts) read after are =
 
 pub bytes_whole : (bytes : List ℕ) (len : ℕ) → BeginWithLines bytes len → EndsWhole (take len bytes) (drop len bytes)
 bytes_whole bytes len found = by found.texts found.whole where
-    by : (texts : List (List ℕ)) → AreWholeLines texts found.read (drop len bytes) → EndsWhole (take len bytes) (drop len bytes)
-    by [] are = inl (ap (ends is_return) (sym found.spell ∙ ap encode_utf8_all are))
-    by (t ∷ texts) are = rw (sym (ends-encoded found.read) ∙ ap (ends is_return) found.spell) at (lines_whole t texts found.read (drop len bytes) are)
+  by : (texts : List (List ℕ)) → AreWholeLines texts found.read (drop len bytes) → EndsWhole (take len bytes) (drop len bytes)
+  by [] are = inl (ap (ends is_return) (sym found.spell ∙ ap encode_utf8_all are))
+  by (t ∷ texts) are = rw (sym (ends-encoded found.read) ∙ ap (ends is_return) found.spell) at (lines_whole t texts found.read (drop len bytes) are)
 
 -- so the line ends of both parts are those of all
 uncut : (read rest : List ℕ) → EndsWhole read rest → ends is_return read && begins is_line_feed rest ≡ false

@@ -1,11 +1,6 @@
 -- Pieces that are the same wherever after them a line ends, and how they are read one after another.
 use mir.Val.{bool_byte}
-use Rattle.std.proofs.Common.{◌≡◌, ℕ, Option, Some, ◌+◌, ◌-◌, ◌<◌, ◌≤◌, Bool, true, false, zero, suc, List, [], ◌∷◌, length, take, drop, slice_index, refl, sym, ap, ◌∙◌, subst, arith, length-drop, add-zero, zero-add}
-use Rattle.std.specs.Prelude.{MatchOption, ◌&&◌, if◌then◌else◌, nat_eq, nat_lt}
-use Rattle.std.specs.List.{starts_with}
-use Rattle.std.specs.Char.{is_ascii_digit}
-use Rattle.std.proofs.lemmas.Bool.{both_ways, lt-ltb, ne_eqb, or_left}
-use Rattle.std.proofs.lemmas.List.{drop-take, get_or-take, length-take-le}
+use Rattle.py_lines.proofs.Prelude.{◌≡◌, ℕ, Option, Some, ◌+◌, ◌-◌, ◌<◌, ◌≤◌, Bool, true, false, zero, suc, List, [], ◌∷◌, length, take, drop, slice_index, refl, sym, ap, ◌∙◌, subst, arith, length-drop, add-zero, zero-add, MatchOption, ◌&&◌, if◌then◌else◌, nat_eq, nat_lt, starts_with, is_ascii_digit, both_ways, lt-ltb, ne_eqb, or_left, drop-take, get_or-take, length-take-le}
 use Rattle.py_lines.specs.Character.{is_line_feed, is_quote, is_space}
 use Rattle.py_lines.specs.Piece.{Piece, begins, operator}
 use Rattle.py_lines.specs.LogicalLine.{end_len_of}
@@ -154,10 +149,10 @@ module _ {bytes : List ℕ} {first start line : ℕ} {t : LineTokens} (h : HaveR
   pub line_read : (len : ℕ) → 0 < len → start + len ≤ length bytes
       → HoldsTokens (take (start + len) bytes) len first t × IsLineAfter first (take (start + len) bytes) len (line + 1)
   line_read len some within = (λ ps is. (whole ps is).0, λ ps is. one ps is.1 ∙ (whole ps is).1) where
-      whole : (ps : List Piece) → AreLineOf (take (start + len) bytes) len ps → IsWholeRead (take (start + len) bytes) ps first line t
-      whole ps is =
-          let (left, g) = h (start + len) len within (omega arith) ps is in
-          whole_read left g (omega (arith, length-take-le (start + len) bytes within, g.ends, is.1))
+    whole : (ps : List Piece) → AreLineOf (take (start + len) bytes) len ps → IsWholeRead (take (start + len) bytes) ps first line t
+    whole ps is =
+        let (left, g) = h (start + len) len within (omega arith) ps is in
+        whole_read left g (omega (arith, length-take-le (start + len) bytes within, g.ends, is.1))
 
-      one : (ps : List Piece) → len ≡ end_len_of ps → line + 1 ≡ line + bool_byte (nat_lt 0 (end_len_of ps))
-      one ps is = ap (λ b. line + bool_byte b) (sym (lt-ltb 0 len some)) ∙ ap (λ k. line + bool_byte (nat_lt 0 k)) is
+    one : (ps : List Piece) → len ≡ end_len_of ps → line + 1 ≡ line + bool_byte (nat_lt 0 (end_len_of ps))
+    one ps is = ap (λ b. line + bool_byte b) (sym (lt-ltb 0 len some)) ∙ ap (λ k. line + bool_byte (nat_lt 0 k)) is

@@ -1,5 +1,5 @@
 -- What has room at some depth of brackets and fields has it at any smaller one.
-use Rattle.std.proofs.Common.{ℕ, zero, suc, ◌+◌, ◌≤◌, List, [], ◌∷◌, arith}
+use Rattle.py_lines.proofs.Prelude.{ℕ, zero, suc, ◌+◌, ◌≤◌, List, [], ◌∷◌, arith}
 use Rattle.py_lines.specs.Piece.{Piece}
 use Rattle.py_lines.specs.Balance.{depth_after}
 use Rattle.py_lines.specs.Fields.{Fields, IsShallowWith, ShallowFields, ShallowWithin}

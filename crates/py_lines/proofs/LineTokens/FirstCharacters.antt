@@ -1,11 +1,5 @@
 -- What each class of pieces begins with, and what the first byte tells of the piece that bytes begin with, and of what follows it.
-use Rattle.std.proofs.Common.{◌≡◌, ℕ, ◌<◌, ◌⊎◌, inl, inr, true, false, List, [], ◌∷◌, ◌++◌, refl, sym, ap, ◌∙◌, subst, arith, ⊎_elim, ◌≤◌, ◌||◌, ◌&&◌, length, slice_index}
-use Rattle.std.specs.List.{list_all}
-use Rattle.std.proofs.lemmas.Bool.{and_parts, both_ways, false_from_ne_true, or_cases, or_left, or_right, cases_lt}
-use Rattle.std.specs.Prelude.{encode_utf8, encode_utf8_all, nat_le, ◌==◌}
-use Rattle.std.proofs.lemmas.Bool.Decides.{nat_tests}
-use Rattle.std.proofs.lemmas.Str.{byte_from_char, char_from_byte, encodes-append, length-encode, len_utf8_bounds}
-use Rattle.std.proofs.lemmas.List.{length-append}
+use Rattle.py_lines.proofs.Prelude.{◌≡◌, ℕ, ◌<◌, ◌⊎◌, inl, inr, true, false, List, [], ◌∷◌, ◌++◌, refl, sym, ap, ◌∙◌, subst, arith, ⊎_elim, ◌≤◌, ◌||◌, ◌&&◌, length, slice_index, list_all, and_parts, both_ways, false_from_ne_true, or_cases, or_left, or_right, cases_lt, encode_utf8, encode_utf8_all, nat_le, ◌==◌, nat_tests, byte_from_char, char_from_byte, encodes-append, length-encode, len_utf8_bounds, length-append}
 use Rattle.unicode_ident.specs.Ident.{is_xid_start}
 use Rattle.unicode_ident.proofs.IdentLemmas.{is_xid_start-is_xid_continue}
 use Rattle.py_lines.specs.Character.{is_mark, is_space, is_word_character, is_word_start, is_quote, is_line_feed, is_return, is_hash, is_digit}
@@ -57,10 +51,10 @@ quoted text (inr is) =
 
 as_word : (a : ℕ) (bs : List ℕ) → fielded.is_prefix (a ∷ bs) ≡ true → (is_word_start a ≡ true) × (list_all is_word_character bs ≡ true)
 as_word a bs h = ⊎_elim (λ plain. prefix_word a bs plain) with_fields (or_cases (is_prefix (a ∷ bs)) (is_field_prefix (a ∷ bs)) h) where
-    with_fields : is_field_prefix (a ∷ bs) ≡ true → (is_word_start a ≡ true) × (list_all is_word_character bs ≡ true)
-    with_fields is =
-        let l = field_letters (a ∷ bs) is in let first : l.first ≡ a = cc in
-        (ap is_word_start (sym first) ∙ l.starts, (and_parts (is_word_character a) (list_all is_word_character bs) l.all).1)
+  with_fields : is_field_prefix (a ∷ bs) ≡ true → (is_word_start a ≡ true) × (list_all is_word_character bs ≡ true)
+  with_fields is =
+      let l = field_letters (a ∷ bs) is in let first : l.first ≡ a = cc in
+      (ap is_word_start (sym first) ∙ l.starts, (and_parts (is_word_character a) (list_all is_word_character bs) l.all).1)
 
 -- a prefix is a word
 pub prefix_is_word : (prefix : List ℕ) → fielded.is_prefix prefix ≡ true
@@ -110,12 +104,12 @@ begins_so space text unmarked (c, cs, is, run) =
     by_start space text c cs _ is (start-space c so) refl (inr (space_low c so))
 begins_so word text unmarked (c, cs, is, so, run) = by_start word text c cs _ is (start-word c so) (inl refl) (inl (refl, so))
 begins_so string text unmarked is = by_prefix (quoted text is) where
-    by_prefix : IsQuoted text → BeginsSo string text
-    by_prefix q = ⊎_elim (λ none. by_start string text q.quote q.body _ (q.spell ∙ ap (λ t. t ++ q.quote ∷ q.body) none) (start-quote q.quote q.opens)
-        refl (inr (quote_ascii q.quote q.opens))) (λ is.
-        let (first, others, shape, starts, low, run) = prefix_is_word q.prefix is in
-        by_start string text first (others ++ q.quote ∷ q.body) _ (q.spell ∙ ap (λ t. t ++ q.quote ∷ q.body) shape)
-        (start-word first starts) (inr refl) (inr low)) q.begun
+  by_prefix : IsQuoted text → BeginsSo string text
+  by_prefix q = ⊎_elim (λ none. by_start string text q.quote q.body _ (q.spell ∙ ap (λ t. t ++ q.quote ∷ q.body) none) (start-quote q.quote q.opens)
+      refl (inr (quote_ascii q.quote q.opens))) (λ is.
+      let (first, others, shape, starts, low, run) = prefix_is_word q.prefix is in
+      by_start string text first (others ++ q.quote ∷ q.body) _ (q.spell ∙ ap (λ t. t ++ q.quote ∷ q.body) shape)
+      (start-word first starts) (inr refl) (inr low)) q.begun
 begins_so operator text unmarked (c, is, so) = by_start operator text c [] _ is (start-operator c so) refl (inr (operator_ascii c so))
 begins_so comment text unmarked (c, cs, is, so, body) = by_start comment text c cs _ is (start-hash c so) refl (inr (omega (arith, hash_is c so)))
 begins_so join text unmarked (c, cs, is, so, end) = by_start join text c cs _ is (start-slash c so) refl (inr (omega (arith, slash_only c so)))
@@ -163,18 +157,18 @@ OfByte k p = OfStart (start_by k 0) p
 
 pub class_told : (bytes : List ℕ) (p : Piece) (k : ByteClass) → BeginWithPiece bytes p → is_of_class k (slice_index bytes 0) ≡ true → OfByte k p.class
 class_told bytes p k b so = go k so where
-    f : FirstOf bytes p
-    f = first_of bytes p b
+  f : FirstOf bytes p
+  f = first_of bytes p b
 
-    c : ℕ
-    c = slice_index bytes 0
+  c : ℕ
+  c = slice_index bytes 0
 
-    at : (j : ByteClass) → c < 128 → is_of_class j c ≡ true → OfStart (start_by j c) p.class
-    at j low h = subst (λ (t : Start). OfStart t p.class) (ap start_of (f.low low) ∙ starts_by j c low h) f.begun.so
+  at : (j : ByteClass) → c < 128 → is_of_class j c ≡ true → OfStart (start_by j c) p.class
+  at j low h = subst (λ (t : Start). OfStart t p.class) (ap start_of (f.low low) ∙ starts_by j c low h) f.begun.so
 
-    go : (j : ByteClass) → is_of_class j c ≡ true → OfByte j p.class
-    go class.Wide h = ⊎_elim (λ is. is.0) (λ low. absurd (omega (arith, low, f.high (grind (arith, nat_tests))))) f.begun.low
-    go j h = at j (in_range j c h) h
+  go : (j : ByteClass) → is_of_class j c ≡ true → OfByte j p.class
+  go class.Wide h = ⊎_elim (λ is. is.0) (λ low. absurd (omega (arith, low, f.high (grind (arith, nat_tests))))) f.begun.low
+  go j h = at j (in_range j c h) h
 
 pub class_is : {bytes : List ℕ} {p : Piece} {j k : ByteClass} → BeginWithPiece bytes p → is_of_class j (slice_index bytes 0) ≡ true → j ≡ k → OfByte k p.class
 class_is {bytes = bytes} {p = p} {j = j} b so is = subst (λ (i : ByteClass). OfByte i p.class) is (class_told bytes p j b so)
@@ -201,8 +195,8 @@ next_high (q ∷ qs) after c cs fit unmarked is high =
 pub word_ends : (others : List Piece) (after : List ℕ) → AreReadBefore others after → begins_marked others ≡ false
     → begins is_word_character (spelled others ++ after) ≡ false → begins is_wide_word (spelled others) ≡ false
 word_ends others after fit unmarked none = go (spelled others) refl none where
-    go : (text : List ℕ) → spelled others ≡ text → begins is_word_character (text ++ after) ≡ false → begins is_wide_word text ≡ false
-    go [] is none = refl
-    go (c ∷ cs) is none = ⊎_elim (λ (low : c < 128).
-        let ascii : is_ascii_word c ≡ false = sym (word_byte_continues c low) ∙ none in
-        rw ascii (grind (arith, nat_tests))) (λ (high : 128 ≤ c). absurd (both_ways _ none (next_high others after c cs fit unmarked is high))) (cases_lt c 128)
+  go : (text : List ℕ) → spelled others ≡ text → begins is_word_character (text ++ after) ≡ false → begins is_wide_word text ≡ false
+  go [] is none = refl
+  go (c ∷ cs) is none = ⊎_elim (λ (low : c < 128).
+      let ascii : is_ascii_word c ≡ false = sym (word_byte_continues c low) ∙ none in
+      rw ascii (grind (arith, nat_tests))) (λ (high : 128 ≤ c). absurd (both_ways _ none (next_high others after c cs fit unmarked is high))) (cases_lt c 128)

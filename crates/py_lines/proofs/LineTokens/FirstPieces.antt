@@ -1,14 +1,5 @@
 -- The piece that bytes begin with, where it is no string, as its line takes it: how long it is, and what tells a word from a prefix.
-use Rattle.std.proofs.Common.{◌≡◌, ℕ, zero, suc, ◌≤◌, Bool, true, false, List, [], ◌∷◌, ◌++◌, length, refl, ap, ◌∙◌, arith, min, zero-add, ⊎_elim, ◌+◌, ◌<◌, ◌⊎◌, inl, inr, ◌&&◌, drop, slice_index, sym, subst, take, append_assoc}
-use Rattle.std.specs.Prelude.{encode_utf8_all, not, codes, nat_le}
-use Rattle.std.specs.List.{list_all, list_any}
-use Rattle.std.specs.Char.{is_ascii_digit}
-use Rattle.std.proofs.lemmas.Bool.{and_from, and_parts, both_ways, cases_lt, or_parts, or_cases}
-use Rattle.std.proofs.lemmas.List.{get_or-take, length-take}
-use Rattle.std.proofs.Math.Utf8.{encode}
-use Rattle.std.proofs.lemmas.Bool.Decides.{nat_tests}
-use Rattle.std.proofs.lemmas.Str.{encodes-append}
-use Rattle.std.proofs.Math.Seq.{take-append_seam, drop-append_seam, drop-cons}
+use Rattle.py_lines.proofs.Prelude.{◌≡◌, ℕ, zero, suc, ◌≤◌, Bool, true, false, List, [], ◌∷◌, ◌++◌, length, refl, ap, ◌∙◌, arith, min, zero-add, ⊎_elim, ◌+◌, ◌<◌, ◌⊎◌, inl, inr, ◌&&◌, drop, slice_index, sym, subst, take, append_assoc, encode_utf8_all, not, codes, nat_le, list_all, list_any, is_ascii_digit, and_from, and_parts, both_ways, cases_lt, or_parts, or_cases, get_or-take, length-take, encode, nat_tests, encodes-append, take-append_seam, drop-append_seam, drop-cons}
 use Rattle.py_lines.specs.Piece.{begins, Class, space, operator, comment, join, line_end, Piece, ends, spelled, word, string}
 use Rattle.py_lines.specs.Character.{is_break, is_line_feed, is_return, is_space, is_digit, is_quote, is_word_character, is_word_start}
 use Rattle.py_lines.specs.PieceGrammar.{IsLineEnd, feed, return_feed, return}
@@ -211,8 +202,8 @@ run_within passes bytes ahead n k is run least = record {
       let whole : k ≡ n = omega (arith, less, least) in
       ap passes (same k less ∙ ap (slice_index ahead) whole) ∙ run.ends (omega (arith, less, whole, ap length is, length-take (length bytes) ahead));
 } where
-    same : (i : ℕ) → i < length bytes → slice_index bytes i ≡ slice_index ahead i
-    same i less = ap (λ l. slice_index l i) (sym is) ∙ get_or-take (length bytes) ahead i 0 less
+  same : (i : ℕ) → i < length bytes → slice_index bytes i ≡ slice_index ahead i
+  same i less = ap (λ l. slice_index l i) (sym is) ∙ get_or-take (length bytes) ahead i 0 less
 
 -- the first bytes, so many of them, are the prefix of a string, whose quote follows
 abbrev EndsPrefix : List ℕ → ℕ → Type 0
@@ -259,34 +250,34 @@ module _ {bytes : List ℕ} {p : Piece} (b : BeginWithPiece bytes p) where
   -- and a string's prefix is one
   string_prefix : (n : ℕ) → p.class ≡ string → begins is_wide_word bytes ≡ true → IsRunOf is_wide_word bytes n → EndsPrefix bytes n
   string_prefix n is wide run = ⊎_elim (λ none. absurd (no_prefix none)) some q.begun where
-      q : IsQuoted p.text
-      q = quoted p.text (in_class b string is)
+    q : IsQuoted p.text
+    q = quoted p.text (in_class b string is)
 
-      after : List ℕ
-      after = encode_utf8_all q.body ++ encode_utf8_all (spelled b.others)
+    after : List ℕ
+    after = encode_utf8_all q.body ++ encode_utf8_all (spelled b.others)
 
-      bytes_are : bytes ≡ encode_utf8_all q.prefix ++ q.quote ∷ after
-      bytes_are =
-          spelled_bytes bytes p b ∙ ap (λ t. encode_utf8_all t ++ encode_utf8_all (spelled b.others)) q.spell
-          ∙ ap (λ t. t ++ encode_utf8_all (spelled b.others)) (encodes-append q.prefix (q.quote ∷ q.body))
-          ∙ append_assoc (encode_utf8_all q.prefix) (encode_utf8_all (q.quote ∷ q.body)) _
-          ∙ ap (λ t. encode_utf8_all q.prefix ++ ((t ++ encode_utf8_all q.body) ++ encode_utf8_all (spelled b.others)))
-          (one q.quote (quote_ascii q.quote q.opens))
+    bytes_are : bytes ≡ encode_utf8_all q.prefix ++ q.quote ∷ after
+    bytes_are =
+        spelled_bytes bytes p b ∙ ap (λ t. encode_utf8_all t ++ encode_utf8_all (spelled b.others)) q.spell
+        ∙ ap (λ t. t ++ encode_utf8_all (spelled b.others)) (encodes-append q.prefix (q.quote ∷ q.body))
+        ∙ append_assoc (encode_utf8_all q.prefix) (encode_utf8_all (q.quote ∷ q.body)) _
+        ∙ ap (λ t. encode_utf8_all q.prefix ++ ((t ++ encode_utf8_all q.body) ++ encode_utf8_all (spelled b.others)))
+        (one q.quote (quote_ascii q.quote q.opens))
 
-      no_prefix : q.prefix ≡ [] → ⊥
-      no_prefix none =
-          both_ways _ (quote_not_wide q.quote q.opens) (ap (begins is_wide_word) (sym (bytes_are ∙ ap (λ t. encode_utf8_all t ++ q.quote ∷ after) none)) ∙ wide)
+    no_prefix : q.prefix ≡ [] → ⊥
+    no_prefix none =
+        both_ways _ (quote_not_wide q.quote q.opens) (ap (begins is_wide_word) (sym (bytes_are ∙ ap (λ t. encode_utf8_all t ++ q.quote ∷ after) none)) ∙ wide)
 
-      some : fielded.is_prefix q.prefix ≡ true → EndsPrefix bytes n
-      some begun =
-          let (first, others, shape, starts, low, word_run) = prefix_is_word q.prefix begun in
-          let all : list_all is_wide_word q.prefix ≡ true = ap (list_all is_wide_word) shape ∙ word_wide first others starts word_run in
-          let len : n ≡ byte_len q.prefix = run_length is_wide_word (encode_utf8_all q.prefix) (q.quote ∷ after) n
-          (subst (λ (t : List ℕ). IsRunOf is_wide_word t n) bytes_are run) (encoded_passes is_wide_word wide_even q.prefix all)
-          (quote_not_wide q.quote q.opens) in
-          let (front, later) = cut_at bytes (encode_utf8_all q.prefix) (q.quote ∷ after) n bytes_are len in
-          let (within, quote) = begins_at is_quote bytes n (ap (begins is_quote) later ∙ q.opens) in
-          (within, quote, ap (λ t. begins_string (word_spelling t)) front ∙ prefix_told q.prefix first others shape ∙ begun)
+    some : fielded.is_prefix q.prefix ≡ true → EndsPrefix bytes n
+    some begun =
+        let (first, others, shape, starts, low, word_run) = prefix_is_word q.prefix begun in
+        let all : list_all is_wide_word q.prefix ≡ true = ap (list_all is_wide_word) shape ∙ word_wide first others starts word_run in
+        let len : n ≡ byte_len q.prefix = run_length is_wide_word (encode_utf8_all q.prefix) (q.quote ∷ after) n
+        (subst (λ (t : List ℕ). IsRunOf is_wide_word t n) bytes_are run) (encoded_passes is_wide_word wide_even q.prefix all)
+        (quote_not_wide q.quote q.opens) in
+        let (front, later) = cut_at bytes (encode_utf8_all q.prefix) (q.quote ∷ after) n bytes_are len in
+        let (within, quote) = begins_at is_quote bytes n (ap (begins is_quote) later ∙ q.opens) in
+        (within, quote, ap (λ t. begins_string (word_spelling t)) front ∙ prefix_told q.prefix first others shape ∙ begun)
 
   -- so what follows the run tells which it is
   pub is_string : (n : ℕ) → begins is_wide_word bytes ≡ true → IsRunOf is_wide_word bytes n → EndsPrefix bytes n → p.class ≡ string

@@ -1,11 +1,5 @@
 -- The string that bytes begin with: the scan goes through it, item after item, and stops after it.
-use Rattle.std.proofs.Common.{◌≡◌, ℕ, ◌+◌, ◌<◌, ◌≤◌, ⊎_elim, not, true, false, None, Some, List, [], ◌∷◌, ◌++◌, length, drop, refl, sym, ap, ◌∙◌, subst, append_assoc, append-nil, arith, length-append}
-use Rattle.std.specs.Prelude.{encode_utf8, encode_utf8_all}
-use Rattle.std.specs.Char.{IsScalar}
-use Rattle.std.specs.Str.{all_scalars}
-use Rattle.std.proofs.lemmas.Bool.{and_from, and_left, and_parts, both_ways}
-use Rattle.std.proofs.lemmas.List.{append_cancel_left, nil_from_length}
-use Rattle.std.proofs.lemmas.Str.{encodes-append, len_utf8_bounds, length-encode, length-le-encodes}
+use Rattle.py_lines.proofs.Prelude.{◌≡◌, ℕ, ◌+◌, ◌<◌, ◌≤◌, ⊎_elim, not, true, false, None, Some, List, [], ◌∷◌, ◌++◌, length, drop, refl, sym, ap, ◌∙◌, subst, append_assoc, append-nil, arith, length-append, encode_utf8, encode_utf8_all, IsScalar, all_scalars, and_from, and_left, and_parts, both_ways, append_cancel_left, nil_from_length, encodes-append, len_utf8_bounds, length-encode, length-le-encodes}
 use Rattle.py_lines.specs.Character.{is_line_feed, is_return}
 use Rattle.py_lines.specs.Piece.{begins, ends, string, Piece, spelled}
 use Rattle.py_lines.specs.LogicalLine.{byte_len}
@@ -80,9 +74,9 @@ shut_settled scan u follows (shut, none) =
 -- so the scan has nothing open where such a state is the machine's
 settled_at : (t : FieldScanned) {scan : Scan} {rest : List ℕ} → IsShutAlone t → Rests scan t rest → is_in_code scan ≡ true
 settled_at t {scan} {rest} shut rests = shut_settled scan rests.as_if rests.follows (by rest rests.stands) where
-    by : (bytes : List ℕ) → StandsAs bytes t rests.as_if → IsShutAlone rests.as_if
-    by [] stands = subst IsShutAlone stands shut
-    by (c ∷ cs) stands = ⊎_elim (λ same. subst IsShutAlone (sym same) shut) (λ same. subst IsShutAlone (sym same) (refl, shut.1)) (stands.shut shut.0)
+  by : (bytes : List ℕ) → StandsAs bytes t rests.as_if → IsShutAlone rests.as_if
+  by [] stands = subst IsShutAlone stands shut
+  by (c ∷ cs) stands = ⊎_elim (λ same. subst IsShutAlone (sym same) shut) (λ same. subst IsShutAlone (sym same) (refl, shut.1)) (stands.shut shut.0)
 
 -- CR is open in none of them
 shut_unreturned : (m : FieldMode) → is_shut m ≡ true → is_return_at m ≡ false
@@ -93,15 +87,15 @@ shut_unreturned m shut = refl
 settled_ends : (t : FieldScanned) {scan : Scan} {rest : List ℕ} → Rests scan t rest → is_in_code scan ≡ true → (d : ℕ) (y : List ℕ) → IsScalar d
     → encode_utf8_all (d ∷ y) ≡ rest → (t.outer ≡ []) × (field_move t.mode t.held d ≡ breaks)
 settled_ends t {scan} {rest} rests settled d y scalar spell = by rest spell rests.stands where
-    u : FieldScanned
-    u = rests.as_if
+  u : FieldScanned
+  u = rests.as_if
 
-    by : (bytes : List ℕ) → encode_utf8_all (d ∷ y) ≡ bytes → StandsAs bytes t u → (t.outer ≡ []) × (field_move t.mode t.held d ≡ breaks)
-    by [] is stands = absurd (omega (arith, ap length is, length-append (encode_utf8 d) (encode_utf8_all y), length-encode d, len_utf8_bounds d))
-    by (b ∷ bytes) is stands =
-        let (free, none) = in_code scan settled in
-        let there = stands.free (sym rests.follows.mode ∙ ap mode_from free) (outside_fields u.outer u.done u.openers scan.frames rests.follows.frames none) in
-        (there.outside, there.ends d (first_byte d b (encode_utf8_all y) bytes scalar is))
+  by : (bytes : List ℕ) → encode_utf8_all (d ∷ y) ≡ bytes → StandsAs bytes t u → (t.outer ≡ []) × (field_move t.mode t.held d ≡ breaks)
+  by [] is stands = absurd (omega (arith, ap length is, length-append (encode_utf8 d) (encode_utf8_all y), length-encode d, len_utf8_bounds d))
+  by (b ∷ bytes) is stands =
+      let (free, none) = in_code scan settled in
+      let there = stands.free (sym rests.follows.mode ∙ ap mode_from free) (outside_fields u.outer u.done u.openers scan.frames rests.follows.frames none) in
+      (there.outside, there.ends d (first_byte d b (encode_utf8_all y) bytes scalar is))
 
 -- pieces that are found, of which the string is the first
 as_long : (text : List ℕ) (ps qs : List Piece) → piece string text ∷ [] ≡ ps ++ qs → 0 < length (spelled ps) → length text ≤ length (spelled ps)
@@ -200,11 +194,11 @@ module _ {bytes : List ℕ} {scan : Scan} {rest : List ℕ} (at : InFirst bytes 
     -- an item ends within the string
     item_within : (run after : List ℕ) → encode_utf8_all run ++ after ≡ rest → IsOneItem way.field run → (k : List ℕ) × (z ≡ run ++ k)
     item_within run after spell one = by (meets run after spell) where
-        by : Either run z b.more → (k : List ℕ) × (z ≡ run ++ k)
-        by (Either.shorter k before) = (k, before)
-        by (Either.longer d w y beyond follows) =
-            absurd (both_ways _ (item_at way.field to z d w some goes_there (subst (IsOneItem way.field) beyond one))
-            (ap is_break_move (breaks_there b d y follows)))
+      by : Either run z b.more → (k : List ℕ) × (z ≡ run ++ k)
+      by (Either.shorter k before) = (k, before)
+      by (Either.longer d w y beyond follows) =
+          absurd (both_ways _ (item_at way.field to z d w some goes_there (subst (IsOneItem way.field) beyond one))
+          (ap is_break_move (breaks_there b d y follows)))
 
     -- after which the machine goes on
     later : (run k : List ℕ) (mid : FieldScanned) → z ≡ run ++ k → Goes way.field run mid → Goes mid k to
@@ -216,13 +210,13 @@ module _ {bytes : List ℕ} {scan : Scan} {rest : List ℕ} (at : InFirst bytes 
     -- so does what is held
     held_within : (run after : List ℕ) → encode_utf8_all run ++ after ≡ rest → KeepsOpen way.field run → IsWithin (read ++ run) p.text
     held_within run after spell keeps_open = by (meets run after spell) where
-        beyond_it : (v : List ℕ) → run ≡ z ++ v → ⊥
-        beyond_it v beyond = both_ways _ (open_at way.field to z v some goes_there (subst (KeepsOpen way.field) beyond keeps_open) b.outside) (shut_there b).0
+      beyond_it : (v : List ℕ) → run ≡ z ++ v → ⊥
+      beyond_it v beyond = both_ways _ (open_at way.field to z v some goes_there (subst (KeepsOpen way.field) beyond keeps_open) b.outside) (shut_there b).0
 
-        by : Either run z b.more → IsWithin (read ++ run) p.text
-        by (Either.shorter [] before) = absurd (beyond_it [] (sym (before ∙ append-nil run) ∙ sym (append-nil z)))
-        by (Either.shorter (d ∷ ds) before) = (d ∷ ds, text_on run (d ∷ ds) before, omega arith)
-        by (Either.longer d w y beyond follows) = absurd (beyond_it (d ∷ w) beyond)
+      by : Either run z b.more → IsWithin (read ++ run) p.text
+      by (Either.shorter [] before) = absurd (beyond_it [] (sym (before ∙ append-nil run) ∙ sym (append-nil z)))
+      by (Either.shorter (d ∷ ds) before) = (d ∷ ds, text_on run (d ∷ ds) before, omega arith)
+      by (Either.longer d w y beyond follows) = absurd (beyond_it (d ∷ w) beyond)
 
     -- what else may come of a step is that nothing follows
     ends_there : (new : Scan) → b.more ≡ [] → new.stop ≡ scan.stop → new.stop + length rest ≡ byte_len p.text
@@ -273,13 +267,13 @@ module _ {bytes : List ℕ} {scan : Scan} {rest : List ℕ} (at : InFirst bytes 
 
     not_returned : (len : ℕ) (new : Scan) → EndsWithReturn way.field rest len new → ⊥
     not_returned len new e = by (meets (13 ∷ []) (e.b ∷ e.rest) (ap (λ t. t ++ e.b ∷ e.rest) return_bytes ∙ sym e.spell)) where
-        ends_not : (k : List ℕ) → Goes e.to k to → has_returned e.to ≡ false
-        ends_not [] same = and_left _ _ (ap (λ (t : FieldScanned). is_return_at t.mode) same ∙ shut_unreturned to.mode (shut_there b).0)
-        ends_not (d ∷ k) goes = goes.0
+      ends_not : (k : List ℕ) → Goes e.to k to → has_returned e.to ≡ false
+      ends_not [] same = and_left _ _ (ap (λ (t : FieldScanned). is_return_at t.mode) same ∙ shut_unreturned to.mode (shut_there b).0)
+      ends_not (d ∷ k) goes = goes.0
 
-        by : Either (13 ∷ []) z b.more → ⊥
-        by (Either.shorter k before) = both_ways _ (ends_not k (later (13 ∷ []) k e.to before e.goes)) e.returned
-        by (Either.longer d v y beyond follows) = omega (arith, some, ap length beyond, length-append z (d ∷ v))
+      by : Either (13 ∷ []) z b.more → ⊥
+      by (Either.shorter k before) = both_ways _ (ends_not k (later (13 ∷ []) k e.to before e.goes)) e.returned
+      by (Either.longer d v y beyond follows) = omega (arith, some, ap length beyond, length-append z (d ∷ v))
 
     pub stops_there : (q : Progress) (new : Scan) → Comes way.field rest scan q new → ((len : ℕ) → q ≡ progress.Going len → ⊥)
         → new.stop + length rest ≡ byte_len p.text
@@ -300,27 +294,27 @@ module _ {bytes : List ℕ} {scan : Scan} {rest : List ℕ} (at : InFirst bytes 
       -- where nothing is open after it, it ends the string
       pub passed_with : is_in_code new ≡ true → new.stop ≡ byte_len p.text
       passed_with settled = by left.0 left.1 where
-          by : (k : List ℕ) → z p is begin ≡ over.run ++ k → new.stop ≡ byte_len p.text
-          by [] before = rests_end on.way refl on.rests ∙ ap byte_len (sym (text_on p is begin over.run [] before ∙ append-nil (read ++ over.run)))
-          by (d ∷ ds) before =
-              let more = (b p is begin).more in
-              let (y, same, spells) = cut p is begin over.run (drop len rest) over.spell in
-              let follows : y ≡ (d ∷ ds) ++ more
-              = append_cancel_left over.run y ((d ∷ ds) ++ more) (sym same ∙ ap (λ t. t ++ more) before ∙ append_assoc over.run (d ∷ ds) more) in
-              let fine = all_scalars-parts over.run y (ap all_scalars (sym same) ∙ scalars p is begin) in
-              let ends_so = settled_ends on.way.field on.rests settled d (ds ++ more) (and_parts _ _ (ap all_scalars (sym follows) ∙ fine.1)).0
-              (ap encode_utf8_all (sym follows) ∙ spells) in
-              absurd (no_stop (b p is begin) on.way d ds (text_on p is begin over.run (d ∷ ds) before)
-              (omega (arith, some_run over.run len over.size over.some, length-append read over.run)) ends_so.0 ends_so.1)
+        by : (k : List ℕ) → z p is begin ≡ over.run ++ k → new.stop ≡ byte_len p.text
+        by [] before = rests_end on.way refl on.rests ∙ ap byte_len (sym (text_on p is begin over.run [] before ∙ append-nil (read ++ over.run)))
+        by (d ∷ ds) before =
+            let more = (b p is begin).more in
+            let (y, same, spells) = cut p is begin over.run (drop len rest) over.spell in
+            let follows : y ≡ (d ∷ ds) ++ more
+            = append_cancel_left over.run y ((d ∷ ds) ++ more) (sym same ∙ ap (λ t. t ++ more) before ∙ append_assoc over.run (d ∷ ds) more) in
+            let fine = all_scalars-parts over.run y (ap all_scalars (sym same) ∙ scalars p is begin) in
+            let ends_so = settled_ends on.way.field on.rests settled d (ds ++ more) (and_parts _ _ (ap all_scalars (sym follows) ∙ fine.1)).0
+            (ap encode_utf8_all (sym follows) ∙ spells) in
+            absurd (no_stop (b p is begin) on.way d ds (text_on p is begin over.run (d ∷ ds) before)
+            (omega (arith, some_run over.run len over.size over.some, length-append read over.run)) ends_so.0 ends_so.1)
 
       -- else the string goes on
       still_within : is_in_code new ≡ false → IsWithin (read ++ over.run) p.text
       still_within on_in = by left.0 left.1 where
-          by : (k : List ℕ) → z p is begin ≡ over.run ++ k → IsWithin (read ++ over.run) p.text
-          by [] before =
-              absurd (both_ways _ on_in (settled_at over.to
-              (subst IsShutAlone (sym (later p is begin over.run [] over.to before over.goes)) (shut_there (b p is begin))) over.rests))
-          by (d ∷ ds) before = (d ∷ ds, text_on p is begin over.run (d ∷ ds) before, omega arith)
+        by : (k : List ℕ) → z p is begin ≡ over.run ++ k → IsWithin (read ++ over.run) p.text
+        by [] before =
+            absurd (both_ways _ on_in (settled_at over.to
+            (subst IsShutAlone (sym (later p is begin over.run [] over.to before over.goes)) (shut_there (b p is begin))) over.rests))
+        by (d ∷ ds) before = (d ∷ ds, text_on p is begin over.run (d ∷ ds) before, omega arith)
 
     pub step_on : is_in_code new ≡ false → InFirst bytes new (drop len rest)
     step_on on_in = record { reached = on; within = λ p is begin. still_within p is begin on_in }

@@ -1,16 +1,6 @@
 -- How a line begins, with its mark and its indentation, and how its pieces are read one after another.
 use mir.Val.{bool_byte}
-use Rattle.std.proofs.Common.{◌≡◌, ℕ, ◌+◌, ◌<◌, ◌≤◌, Bool, true, false, cond, ◌||◌, List, [], ◌∷◌, ◌++◌, length, drop, refl, sym, ap, ◌∙◌, subst, append_assoc, append-nil, arith, length-drop, zero, suc, ◌⊎◌, inl, inr, ⊎_elim, zero-add, add-zero, slice_index}
-use Rattle.std.specs.Prelude.{encode_utf8_all, if◌then◌else◌, nat_eq, nat_lt}
-use Rattle.std.specs.List.{list_any, starts_with}
-use Rattle.std.proofs.Math.Bool.{or-false, or_assoc}
-use Rattle.std.proofs.Math.Seq.{drop-append_seam}
-use Rattle.std.proofs.lemmas.List.{drop-drop}
-use Rattle.std.proofs.lemmas.Str.{encodes-append, length-le-encodes}
-use Rattle.std.proofs.lemmas.Bool.{both_ways, false_from_ne_true}
-use Rattle.std.proofs.lemmas.Bool.Decides.{Decides-eqb}
-use Rattle.std.proofs.lemmas.Slice.Eq.{starts_is}
-use Rattle.std.proofs.Math.Utf8.{encode}
+use Rattle.py_lines.proofs.Prelude.{◌≡◌, ℕ, ◌+◌, ◌<◌, ◌≤◌, Bool, true, false, cond, ◌||◌, List, [], ◌∷◌, ◌++◌, length, drop, refl, sym, ap, ◌∙◌, subst, append_assoc, append-nil, arith, length-drop, zero, suc, ◌⊎◌, inl, inr, ⊎_elim, zero-add, add-zero, slice_index, encode_utf8_all, if◌then◌else◌, nat_eq, nat_lt, list_any, starts_with, or-false, or_assoc, drop-append_seam, drop-drop, encodes-append, length-le-encodes, both_ways, false_from_ne_true, Decides-eqb, starts_is, encode}
 use Rattle.py_lines.specs.Character.{is_digit, is_mark, is_space, is_line_feed, is_return}
 use Rattle.py_lines.specs.Piece.{Class, line_end, mark, word, Piece, begins, spelled, space, begins_marked, is_mark_class}
 use Rattle.py_lines.specs.Balance.{depth_after}
@@ -145,11 +135,11 @@ module _ {text : List ℕ} {pieces : List Piece} {first start line : ℕ} {t : L
   pub before_end : (left : List Piece) → HaveReadOf text pieces left first start line t → start + end_len_of left < length text → KeepsEnd left
   before_end [] h inside = _
   before_end (p ∷ []) h inside = by_class (is_line_end_class p.class) refl where
-      by_class : (is : Bool) → is_line_end_class p.class ≡ is → 0 ≡ end_len_of (p ∷ [])
-      by_class false inside = rw inside refl
-      by_class true ends =
-          let whole : end_len_of (p ∷ []) ≡ byte_len p.text = rw ends refl in
-          absurd (omega (arith, inside, whole, ap length h.are.spell, ap byte_len (append-nil p.text), length-drop start text))
+    by_class : (is : Bool) → is_line_end_class p.class ≡ is → 0 ≡ end_len_of (p ∷ [])
+    by_class false inside = rw inside refl
+    by_class true ends =
+        let whole : end_len_of (p ∷ []) ≡ byte_len p.text = rw ends refl in
+        absurd (omega (arith, inside, whole, ap length h.are.spell, ap byte_len (append-nil p.text), length-drop start text))
   before_end (p ∷ q ∷ qs) h inside = refl
 
   -- nor is space
@@ -233,9 +223,9 @@ byte_within text start true less some = omega (arith, some refl, ap length (rest
 pub end_within : (ps : List Piece) → end_len_of ps ≤ byte_len (spelled ps)
 end_within [] = omega arith
 end_within (p ∷ []) = by_class (is_line_end_class p.class) refl where
-    by_class : (is : Bool) → is_line_end_class p.class ≡ is → end_len_of (p ∷ []) ≤ byte_len (p.text ++ [])
-    by_class false inside = rw inside (omega arith)
-    by_class true ends = rw (ends, append-nil p.text) (omega arith)
+  by_class : (is : Bool) → is_line_end_class p.class ≡ is → end_len_of (p ∷ []) ≤ byte_len (p.text ++ [])
+  by_class false inside = rw inside (omega arith)
+  by_class true ends = rw (ends, append-nil p.text) (omega arith)
 end_within (p ∷ q ∷ qs) = omega (arith, end_within (q ∷ qs), byte_len-append p.text (spelled (q ∷ qs)))
 
 line_end_class : (class : Class) → is_line_end_class class ≡ true → class ≡ line_end
@@ -266,12 +256,12 @@ module _ {text : List ℕ} {pieces : List Piece} {first start line : ℕ} {t : L
     ap (λ n. line + bool_byte (nat_lt 0 n)) (sym h.ends) ∙ h.lines,
   )
   whole_read (p ∷ []) h end = by_class (is_line_end_class p.class) refl where
-      by_class : (is : Bool) → is_line_end_class p.class ≡ is → IsWholeRead text pieces first line t
-      by_class true ends = end_left p h (line_end_class p.class ends)
-      by_class false inside =
-          let none : end_len_of (p ∷ []) ≡ 0 = rw inside refl in
-          let left = ap length h.are.spell ∙ length-drop start text in
-          absurd (omega (arith, end, none, left, piece_some p.class p.text h.are.fit.0, byte_len-append p.text [], length-le-encodes p.text))
+    by_class : (is : Bool) → is_line_end_class p.class ≡ is → IsWholeRead text pieces first line t
+    by_class true ends = end_left p h (line_end_class p.class ends)
+    by_class false inside =
+        let none : end_len_of (p ∷ []) ≡ 0 = rw inside refl in
+        let left = ap length h.are.spell ∙ length-drop start text in
+        absurd (omega (arith, end, none, left, piece_some p.class p.text h.are.fit.0, byte_len-append p.text [], length-le-encodes p.text))
   whole_read (p ∷ q ∷ qs) h end =
       let size = byte_len-append p.text (spelled (q ∷ qs)) in
       let left = ap length h.are.spell ∙ length-drop start text in
@@ -286,14 +276,14 @@ no_mark : (text : List ℕ) (ps : List Piece) → AreLineText text ps → begins
 unfolding is_mark
 no_mark text [] is unmarked = ap mark_len (sym is.spell)
 no_mark text (p ∷ ps) is unmarked = ap (λ (b : Bool). if b then 3 else 0) (false_from_ne_true _ absent) where
-    absent : starts_with nat_eq text mark_bytes ≡ true → ⊥
-    absent h =
-        let cut = prefix_chars (0xFEFF ∷ []) (spelled (p ∷ ps)) (drop 3 text)
-        (is.spell ∙ (starts_is Decides-eqb text mark_bytes _ refl).0 h ∙ ap (λ t. t ++ drop 3 text) (sym mark_encoded)) in
-        let begun = begins_so p.class p.text unmarked is.fit.0 in
-        let same : begun.first ∷ (begun.others ++ spelled ps) ≡ 0xFEFF ∷ cut.0 = ap (λ t. t ++ spelled ps) (sym begun.is) ∙ cut.1 in
-        let first : begun.first ≡ 0xFEFF = cc in
-        both_ways _ (unmarked_first begun) (ap is_mark first)
+  absent : starts_with nat_eq text mark_bytes ≡ true → ⊥
+  absent h =
+      let cut = prefix_chars (0xFEFF ∷ []) (spelled (p ∷ ps)) (drop 3 text)
+      (is.spell ∙ (starts_is Decides-eqb text mark_bytes _ refl).0 h ∙ ap (λ t. t ++ drop 3 text) (sym mark_encoded)) in
+      let begun = begins_so p.class p.text unmarked is.fit.0 in
+      let same : begun.first ∷ (begun.others ++ spelled ps) ≡ 0xFEFF ∷ cut.0 = ap (λ t. t ++ spelled ps) (sym begun.is) ∙ cut.1 in
+      let first : begun.first ≡ 0xFEFF = cc in
+      both_ways _ (unmarked_first begun) (ap is_mark first)
 
 -- and with a mark, where it is the first piece
 has_mark : (text : List ℕ) (p : Piece) (ps : List Piece) → AreLineText text (p ∷ ps) → p.class ≡ mark
@@ -317,16 +307,16 @@ first_read : (bytes : List ℕ) (depth : ℕ) (ps : List Piece) (n : ℕ) → Ar
     → IsRunOf is_space bytes n → n ≡ first_space ps
 first_read bytes depth [] n is unmarked run = omega (arith, run.within, ap length is.spell)
 first_read bytes depth (p ∷ ps) n is unmarked run = go p.class refl where
-    b : BeginWithPiece bytes p
-    b = record { unmarked = unmarked; others = ps; depth = depth; text = is }
+  b : BeginWithPiece bytes p
+  b = record { unmarked = unmarked; others = ps; depth = depth; text = is }
 
-    none : (k : ℕ) → IsRunOf is_space bytes k → (p.class ≡ space → ⊥) → k ≡ 0
-    none zero r other = refl
-    none (suc k) r other = absurd (other (class_told bytes p class.Space b (r.each 0 (omega arith))))
+  none : (k : ℕ) → IsRunOf is_space bytes k → (p.class ≡ space → ⊥) → k ≡ 0
+  none zero r other = refl
+  none (suc k) r other = absurd (other (class_told bytes p class.Space b (r.each 0 (omega arith))))
 
-    go : (kind : Class) → p.class ≡ kind → n ≡ space_len kind p.text
-    go space is = spaces b n is run
-    go other is = none n run (λ spaces. absurd (cc))
+  go : (kind : Class) → p.class ≡ kind → n ≡ space_len kind p.text
+  go space is = spaces b n is run
+  go other is = none n run (λ spaces. absurd (cc))
 
 unmarked_indent : (ps : List Piece) → begins_marked ps ≡ false → indent_of ps ≡ first_space ps
 unmarked_indent [] unmarked = refl

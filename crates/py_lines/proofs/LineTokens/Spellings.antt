@@ -1,10 +1,5 @@
 -- The spelling of a word, also as its bytes have it, says whether the word is the prefix of a string.
-use Rattle.std.proofs.Common.{◌≡◌, ℕ, ◌≤◌, true, false, Bool, ◌||◌, List, [], ◌∷◌, refl, sym, ap, ◌∙◌, arith, ⊎_elim}
-use Rattle.std.specs.Prelude.{codes, encode_utf8_all, nat_le}
-use Rattle.std.specs.List.{list_all, list_any}
-use Rattle.std.proofs.Math.Bool.{and-false, or-false}
-use Rattle.std.proofs.lemmas.Bool.{and_from, or_right, both_ways, cases_lt, cases_Bool, leb-false, lt-ltb, false_from_ne_true}
-use Rattle.std.proofs.lemmas.Str.{encodes_same}
+use Rattle.py_lines.proofs.Prelude.{◌≡◌, ℕ, ◌≤◌, true, false, Bool, ◌||◌, List, [], ◌∷◌, refl, sym, ap, ◌∙◌, arith, ⊎_elim, codes, encode_utf8_all, nat_le, list_all, list_any, and-false, or-false, and_from, or_right, both_ways, cases_lt, cases_Bool, leb-false, lt-ltb, false_from_ne_true, encodes_same}
 use Rattle.py_lines.specs.Character.{is_one_of, is_r, is_b, is_f, is_t, is_u}
 use Rattle.py_lines.specs.PieceGrammar.{is_prefix}
 use Rattle.py_lines.specs.FieldStrings.{is_field_prefix}
@@ -31,8 +26,8 @@ IsNoLetter c = (is_r c ≡ false) × (is_b c ≡ false) × (is_f c ≡ false) ×
 no_letter : (c : ℕ) → 128 ≤ c → IsNoLetter c
 unfolding is_r is_b is_f is_t is_u
 no_letter c high = (none (codes "rR") refl, none (codes "bB") refl, none (codes "fF") refl, none (codes "tT") refl, none (codes "uU") refl) where
-    none : (letters : List ℕ) → list_any (nat_le 128) letters ≡ false → is_one_of letters c ≡ false
-    none letters low = false_from_ne_true _ (λ one. omega (arith, high, leb-false 128 c (none_of (nat_le 128) letters c low one)))
+  none : (letters : List ℕ) → list_any (nat_le 128) letters ≡ false → is_one_of letters c ≡ false
+  none letters low = false_from_ne_true _ (λ one. omega (arith, high, leb-false 128 c (none_of (nat_le 128) letters c low one)))
 
 low_unless : (c : ℕ) → (IsNoLetter c → ⊥) → is_low c ≡ true
 low_unless c letter = ⊎_elim (λ low. lt-ltb c 128 low) (λ high. absurd (letter (no_letter c high))) (cases_lt c 128)
@@ -41,12 +36,12 @@ low_unless c letter = ⊎_elim (λ low. lt-ltb c 128 low) (λ high. absurd (lett
 pub prefix_low : (word : List ℕ) → begins_string (word_spelling word) ≡ true → list_all is_low word ≡ true
 prefix_low [] begun = refl
 prefix_low (a ∷ cs) begun = by cs (fielded_spelling a cs ∙ begun) where
-    by : (others : List ℕ) → fielded.is_prefix (a ∷ others) ≡ true → list_all is_low (a ∷ others) ≡ true
-    by [] is = and_from (is_low a) true (low_unless a (λ no. both_ways _ (rw (no.0, no.1, no.2, no.3, no.4)) is)) refl
-    by (b ∷ []) is =
-        and_from (is_low a) _ (low_unless a (λ no. both_ways _ (rw (no.0, no.1, no.2, no.3)) is))
-        (and_from (is_low b) true (low_unless b (λ no. both_ways _ (simp (no.0, no.1, no.2, no.3, and-false)) is)) refl)
-    by (b ∷ c ∷ others) is = absurd (both_ways _ refl is)
+  by : (others : List ℕ) → fielded.is_prefix (a ∷ others) ≡ true → list_all is_low (a ∷ others) ≡ true
+  by [] is = and_from (is_low a) true (low_unless a (λ no. both_ways _ (rw (no.0, no.1, no.2, no.3, no.4)) is)) refl
+  by (b ∷ []) is =
+      and_from (is_low a) _ (low_unless a (λ no. both_ways _ (rw (no.0, no.1, no.2, no.3)) is))
+      (and_from (is_low b) true (low_unless b (λ no. both_ways _ (simp (no.0, no.1, no.2, no.3, and-false)) is)) refl)
+  by (b ∷ c ∷ others) is = absurd (both_ways _ refl is)
 
 -- bytes of ASCII are the characters that they spell
 low_encoded : (cs : List ℕ) → list_all is_low (encode_utf8_all cs) ≡ true → encode_utf8_all cs ≡ cs

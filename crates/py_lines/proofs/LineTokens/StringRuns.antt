@@ -1,8 +1,5 @@
 -- The string that bytes begin with: the machine goes through it, from a line's start, and finishes it alone.
-use Rattle.std.proofs.Common.{◌≡◌, ℕ, ◌<◌, inl, inr, ◌==◌, ◌&&◌, ⊎_elim, true, false, Some, List, [], ◌∷◌, ◌++◌, length, refl, sym, ap, ◌∙◌, subst, append-nil, arith}
-use Rattle.std.specs.Prelude.{encode_utf8_all}
-use Rattle.std.specs.Str.{all_scalars}
-use Rattle.std.proofs.lemmas.Bool.{and_parts, both_ways, cases_Bool, cond_both, eqb-true, false_from_ne_true}
+use Rattle.py_lines.proofs.Prelude.{◌≡◌, ℕ, ◌<◌, inl, inr, ◌==◌, ◌&&◌, ⊎_elim, true, false, Some, List, [], ◌∷◌, ◌++◌, length, refl, sym, ap, ◌∙◌, subst, append-nil, arith, encode_utf8_all, all_scalars, and_parts, both_ways, cases_Bool, cond_both, eqb-true, false_from_ne_true}
 use Rattle.py_lines.specs.Character.{is_line_feed, is_return}
 use Rattle.py_lines.specs.Piece.{Class, begins, ends, line_end, string, Piece, spelled}
 use Rattle.py_lines.specs.LogicalLine.{is_line_end_class}
@@ -103,15 +100,15 @@ stops_end m held (c ∷ cs) stops = break_end m held c stops
 string_shut : (text : List ℕ) (m : FieldMode) (outer : List Level) (done : List Piece) (held rest : List ℕ)
     → field_closed m done held ≡ piece string text ∷ [] → AtStart m outer done → StopsAt m held rest → is_shut m ≡ true
 string_shut text m outer done held rest same begun stops = by m same begun (stops_end m held rest stops) where
-    by : (m : FieldMode) → field_closed m done held ≡ piece string text ∷ [] → AtStart m outer done → may_end m ≡ true → is_shut m ≡ true
-    by (plain modes.Start) same begun may = absurd (let none : done ≡ [] = begun.1 in cc)
-    by (plain modes.Free) same begun may = refl
-    by (plain (modes.Empty q)) same begun may = refl
-    by (plain m) same begun may =
-        let class = ap (λ (p : Piece). p.class) (one_of (piece string text) (piece (class_of m) held) done [] (sym same)).0 in
-        absurd (first_of (grind arith, cc))
-    by (empty host) same begun may = refl
-    by m same begun may = absurd (both_ways _ refl may)
+  by : (m : FieldMode) → field_closed m done held ≡ piece string text ∷ [] → AtStart m outer done → may_end m ≡ true → is_shut m ≡ true
+  by (plain modes.Start) same begun may = absurd (let none : done ≡ [] = begun.1 in cc)
+  by (plain modes.Free) same begun may = refl
+  by (plain (modes.Empty q)) same begun may = refl
+  by (plain m) same begun may =
+      let class = ap (λ (p : Piece). p.class) (one_of (piece string text) (piece (class_of m) held) done [] (sym same)).0 in
+      absurd (first_of (grind arith, cc))
+  by (empty host) same begun may = refl
+  by m same begun may = absurd (both_ways _ refl may)
 
 -- no piece is open, no bracket and no field, or an empty string is
 abbrev pub IsShutAlone : FieldScanned → Type 0

@@ -1,13 +1,5 @@
 -- A string of ASCII without fields that stands on one line, and is passed at once, is the first piece of the bytes.
-use Rattle.std.proofs.Common.{◌≡◌, ℕ, ◌+◌, ◌-◌, ◌≤◌, inl, inr, true, false, List, [], ◌∷◌, ◌++◌, length, drop, refl, sym, ap, ◌∙◌, subst, append_assoc, append-nil, arith, length-append, take}
-use Rattle.std.specs.Prelude.{encode_utf8_all}
-use Rattle.std.specs.List.{list_all}
-use Rattle.std.proofs.lemmas.Bool.{and_parts}
-use Rattle.std.proofs.lemmas.Bool.Decides.{nat_tests}
-use Rattle.std.proofs.lemmas.List.Folds.{list_all-append}
-use Rattle.std.proofs.Math.Seq.{drop-append_seam, take-add, take-append_seam}
-use Rattle.std.proofs.lemmas.List.{length-take, same_from_push, take-append-drop}
-use Rattle.std.proofs.lemmas.Str.{encodes-append}
+use Rattle.py_lines.proofs.Prelude.{◌≡◌, ℕ, ◌+◌, ◌-◌, ◌≤◌, inl, inr, true, false, List, [], ◌∷◌, ◌++◌, length, drop, refl, sym, ap, ◌∙◌, subst, append_assoc, append-nil, arith, length-append, take, encode_utf8_all, list_all, and_parts, nat_tests, list_all-append, drop-append_seam, take-add, take-append_seam, length-take, same_from_push, take-append-drop, encodes-append}
 use Rattle.py_lines.specs.Character.{is_break, is_quote}
 use Rattle.py_lines.specs.Piece.{string, Piece, spelled, begins}
 use Rattle.py_lines.specs.PieceGrammar.{IsNoneOr, IsPrefix}

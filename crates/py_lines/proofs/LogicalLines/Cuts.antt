@@ -1,10 +1,5 @@
 -- Logical lines, one after another: where a line ends, the lines so far are done.
-use Rattle.std.specs.Prelude.{codes}
-use Rattle.std.proofs.Common.{◌≡◌, ℕ, ◌+◌, Bool, true, false, not, ◌&&◌, ◌==◌, List, [], ◌∷◌, ◌++◌, length, refl, sym, ap, ◌∙◌, ⊎_elim, inl, inr, append_assoc, append-nil, length-append, arith}
-use Rattle.std.specs.List.{list_any}
-use Rattle.std.proofs.lemmas.Str.{encodes-append, length-le-encodes}
-use Rattle.std.proofs.lemmas.List.{nil_from_length}
-use Rattle.std.proofs.lemmas.Bool.{cond_both, both_ways, and_parts, and_left, or_parts, false_from_ne_true, cases_Bool, or_from}
+use Rattle.py_lines.proofs.Prelude.{codes, ◌≡◌, ℕ, ◌+◌, Bool, true, false, not, ◌&&◌, ◌==◌, List, [], ◌∷◌, ◌++◌, length, refl, sym, ap, ◌∙◌, ⊎_elim, inl, inr, append_assoc, append-nil, length-append, arith, list_any, encodes-append, length-le-encodes, nil_from_length, cond_both, both_ways, and_parts, and_left, or_parts, false_from_ne_true, cases_Bool, or_from}
 use Rattle.py_lines.specs.Character.{is_mark, is_space, is_quote, is_operator, is_line_feed, is_return, is_break, is_hash}
 use Rattle.py_lines.specs.Piece.{Class, mark, space, word, string, operator, comment, join, line_end, Piece, begins, ends, spelled}
 use Rattle.py_lines.specs.PieceGrammar.{joined}
@@ -97,11 +92,11 @@ no_bytes k none = let bound = length-le-encodes k in nil_from_length k (omega ar
 
 pub same_place : (b a d e : List ℕ) → b ++ a ≡ d ++ e → byte_len b ≡ byte_len d → b ≡ d
 same_place b a d e same bytes = go (either b a d e same) where
-    go : Either b d e → b ≡ d
-    go (Either.shorter k one) = let sum : byte_len d ≡ byte_len b + byte_len k = ap byte_len one ∙ byte_len-append b k in
-        sym (append-nil b) ∙ ap (λ t. b ++ t) (sym (no_bytes k (omega arith))) ∙ sym one
-    go (Either.longer c k after one two) = let sum : byte_len b ≡ byte_len d + byte_len (c ∷ k) = ap byte_len one ∙ byte_len-append d (c ∷ k) in
-        let none : c ∷ k ≡ [] = no_bytes (c ∷ k) (omega arith) in absurd (cc)
+  go : Either b d e → b ≡ d
+  go (Either.shorter k one) = let sum : byte_len d ≡ byte_len b + byte_len k = ap byte_len one ∙ byte_len-append b k in
+      sym (append-nil b) ∙ ap (λ t. b ++ t) (sym (no_bytes k (omega arith))) ∙ sym one
+  go (Either.longer c k after one two) = let sum : byte_len b ≡ byte_len d + byte_len (c ∷ k) = ap byte_len one ∙ byte_len-append d (c ∷ k) in
+      let none : c ∷ k ≡ [] = no_bytes (c ∷ k) (omega arith) in absurd (cc)
 
 -- a piece before the parts that a list of some pieces is cut into, and others after them
 put_twice : (p q : Piece) (us vs : List (List Piece)) → put_first p (put_first q us ++ vs) ≡ put_first p (put_first q us) ++ vs
@@ -117,9 +112,9 @@ put_line p d (q ∷ body) last vs = put_cut p d q (body ++ last ∷ []) vs
 
 pub line_depth : (p : Piece) (d : ℕ) → is_line_end_class p.class ≡ true → depth_after d p ≡ d
 line_depth p d h = go p.class p.text h where
-    go : (class : Class) (text : List ℕ) → is_line_end_class class ≡ true → depth_after d (record { class = class; text = text }) ≡ d
-    go line_end text k = refl
-    go class text k = absurd (both_ways _ refl k)
+  go : (class : Class) (text : List ℕ) → is_line_end_class class ≡ true → depth_after d (record { class = class; text = text }) ≡ d
+  go line_end text k = refl
+  go class text k = absurd (both_ways _ refl k)
 
 -- the cut after a line end at depth 0
 cut-line : (body : List Piece) (last : Piece) (qs : List Piece) (d : ℕ) → last.class ≡ line_end → depth_through d body ≡ 0 → cut d (body ++ last ∷ qs) ≡ cut d (body ++ last ∷ []) ++ cut 0 qs

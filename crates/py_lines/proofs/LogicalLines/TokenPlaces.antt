@@ -1,9 +1,5 @@
 -- The tokens of pieces lie in the text that the pieces spell.
-use Rattle.std.proofs.Common.{◌≡◌, ℕ, ◌+◌, ◌<◌, zero, suc, true, List, [], ◌∷◌, ◌++◌, length, get_or, refl, subst, append_assoc, arith}
-use Rattle.std.specs.Prelude.{encode_utf8_all}
-use Rattle.std.specs.Str.{all_scalars, IsCharBoundary}
-use Rattle.std.proofs.lemmas.Option.{slice_get-get_or, same_Some}
-use Rattle.std.proofs.lemmas.Str.{encodes-append, IsCharBoundary-at_seam}
+use Rattle.py_lines.proofs.Prelude.{◌≡◌, ℕ, ◌+◌, ◌<◌, zero, suc, true, List, [], ◌∷◌, ◌++◌, length, get_or, refl, subst, append_assoc, arith, encode_utf8_all, all_scalars, IsCharBoundary, slice_get-get_or, same_Some, encodes-append, IsCharBoundary-at_seam}
 use Rattle.py_lines.specs.Piece.{Class, mark, space, join, line_end, Piece, spelled}
 use Rattle.py_lines.specs.LogicalLine.{byte_len, line_ends, tokens_of_piece, tokens_from}
 use Rattle.py_lines.specs.Token.{EachLiesIn, LiesIn}

@@ -1,9 +1,5 @@
 -- The tokens of a logical line say what its pieces say.
-use Rattle.std.proofs.Common.{◌≡◌, ℕ, ◌+◌, ◌-◌, List, [], ◌∷◌, ◌++◌, map, length, length-append, take, drop, refl, sym, ap, ◌∙◌, append_assoc, arith}
-use Rattle.std.specs.Prelude.{encode_utf8_all, slice_range, if◌then◌else◌}
-use Rattle.std.proofs.Math.Seq.{drop-append_seam, take-append_seam}
-use Rattle.std.proofs.lemmas.List.{map-append}
-use Rattle.std.proofs.lemmas.Str.{encodes-append}
+use Rattle.py_lines.proofs.Prelude.{◌≡◌, ℕ, ◌+◌, ◌-◌, List, [], ◌∷◌, ◌++◌, map, length, length-append, take, drop, refl, sym, ap, ◌∙◌, append_assoc, arith, encode_utf8_all, slice_range, if◌then◌else◌, drop-append_seam, take-append_seam, map-append, encodes-append}
 use Rattle.py_lines.specs.Character.{is_digit}
 use Rattle.py_lines.specs.Piece.{Class, word, string, operator, comment, Piece, begins, spelled}
 use Rattle.py_lines.specs.LogicalLine.{byte_len, line_ends, first_or_zero, tokens_of_piece, tokens_from}

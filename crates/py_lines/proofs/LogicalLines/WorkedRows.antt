@@ -1,6 +1,5 @@
 -- Texts by their pieces, and the logical lines that these are cut into: rows worked out by hand.
-use Rattle.std.proofs.Common.{◌≡◌, ℕ, List, [], ◌∷◌, map, refl}
-use Rattle.std.specs.Prelude.{codes}
+use Rattle.py_lines.proofs.Prelude.{◌≡◌, ℕ, List, [], ◌∷◌, map, refl, codes}
 use Rattle.py_lines.specs.Character.{is_digit, is_line_feed, is_return}
 use Rattle.py_lines.specs.Piece.{mark, space, word, string, operator, comment, join, line_end, Piece}
 use Rattle.py_lines.proofs.Pieces.PieceLists.{piece}

@@ -1,7 +1,5 @@
 -- A text is live exactly where the machine goes through it: what is open can be closed.
-use Rattle.std.proofs.Common.{◌≡◌, ℕ, true, false, ◌==◌, Some, List, [], ◌∷◌, ◌++◌, refl, ◌∙◌}
-use Rattle.std.specs.Char.{IsScalar}
-use Rattle.std.proofs.lemmas.Bool.{cond_both, and_right, eq-eqb}
+use Rattle.py_lines.proofs.Prelude.{◌≡◌, ℕ, true, false, ◌==◌, Some, List, [], ◌∷◌, ◌++◌, refl, ◌∙◌, IsScalar, cond_both, and_right, eq-eqb}
 use Rattle.unicode_ident.proofs.Computing.{unicode_ident}
 use Rattle.py_lines.specs.Character.{is_mark, is_space, is_word_character, is_quote, is_operator, is_line_feed, is_return, is_break}
 use Rattle.py_lines.specs.Piece.{Piece, spelled}

@@ -1,8 +1,5 @@
 -- What the open piece spells in each mode of the machine, and how it grows.
-use Rattle.std.proofs.Common.{◌≡◌, ℕ, Bool, true, false, ◌==◌, eqb, List, [], ◌∷◌, ◌++◌, refl, sym, ap, ◌∙◌, subst, append_assoc, append-nil}
-use Rattle.std.specs.List.{list_all, list_any}
-use Rattle.std.proofs.lemmas.List.Folds.{list_all-append, list_any-append}
-use Rattle.std.proofs.lemmas.Bool.{and_from, or_from, eqb-true, both_ways, false_from_ne_true, not_from_false}
+use Rattle.py_lines.proofs.Prelude.{◌≡◌, ℕ, Bool, true, false, ◌==◌, eqb, List, [], ◌∷◌, ◌++◌, refl, sym, ap, ◌∙◌, subst, append_assoc, append-nil, list_all, list_any, list_all-append, list_any-append, and_from, or_from, eqb-true, both_ways, false_from_ne_true, not_from_false}
 use Rattle.py_lines.specs.Character.{is_quote, is_backslash}
 use Rattle.py_lines.specs.Piece.{string}
 use Rattle.py_lines.specs.PieceGrammar.{IsPrefix, is_item, is_bare, is_short_item, joined, has_triple, IsShortString, IsLongString, MayPrecedePlain}

@@ -1,7 +1,5 @@
 -- The machine goes through the text of a space, a word, a comment, a join or a line end: how each begins, grows and ends.
-use Rattle.std.proofs.Common.{◌≡◌, ℕ, Bool, true, false, ◌&&◌, List, [], ◌∷◌, ◌++◌, refl, sym, ap, ◌∙◌, subst, inl, inr, append_assoc, ◌⊎◌}
-use Rattle.std.specs.List.{list_all, list_any}
-use Rattle.std.proofs.lemmas.Bool.{and_parts, or_parts}
+use Rattle.py_lines.proofs.Prelude.{◌≡◌, ℕ, Bool, true, false, ◌&&◌, List, [], ◌∷◌, ◌++◌, refl, sym, ap, ◌∙◌, subst, inl, inr, append_assoc, ◌⊎◌, list_all, list_any, and_parts, or_parts}
 pub use Rattle.std.proofs.lemmas.Option.{same_Some as some_is}
 use Rattle.py_lines.specs.Character.{is_space, is_word_character, is_quote, is_line_feed, is_return, is_break}
 use Rattle.py_lines.specs.Piece.{Class, space, word, comment, join, line_end, Piece, begins, ends}
@@ -115,12 +113,12 @@ is_read word text rest plain_class (c, cs, is, opens, run) before =
 is_read comment text rest plain_class (c, cs, is, opens, holds) before =
     opened c cs Mode.Comment is (start-hash c opens) (inl refl) (ends_before Mode.Comment (grown-comment cs holds) (refl, λ done held. refl) (stops-comment rest before))
 is_read join text rest plain_class (c, cs, is, slashes, line) before = opened c cs Mode.Backslash is (start-slash c slashes) (inl refl) (go line) where
-    go : IsLineEnd cs → EndsWith join Mode.Backslash cs rest
-    go (feed end) = ends_at Mode.Backslash [] 10 end refl refl refl
-    go (return_feed end) = ends_at Mode.JoinReturn (13 ∷ []) 10 end (Mode.JoinReturn, refl, refl) refl refl
-    go (return end) =
-        subst (λ t. EndsWith join Mode.Backslash t rest) (sym end) (ends_before Mode.JoinReturn (Mode.JoinReturn, refl, refl) (refl, λ done held. refl)
-        (stops_unless Mode.JoinReturn is_line_feed refl (λ d h. rw h) rest (subst (λ t. ends is_return t && begins is_line_feed rest ≡ false) (is ∙ ap (λ t. c ∷ t) end) before)))
+  go : IsLineEnd cs → EndsWith join Mode.Backslash cs rest
+  go (feed end) = ends_at Mode.Backslash [] 10 end refl refl refl
+  go (return_feed end) = ends_at Mode.JoinReturn (13 ∷ []) 10 end (Mode.JoinReturn, refl, refl) refl refl
+  go (return end) =
+      subst (λ t. EndsWith join Mode.Backslash t rest) (sym end) (ends_before Mode.JoinReturn (Mode.JoinReturn, refl, refl) (refl, λ done held. refl)
+      (stops_unless Mode.JoinReturn is_line_feed refl (λ d h. rw h) rest (subst (λ t. ends is_return t && begins is_line_feed rest ≡ false) (is ∙ ap (λ t. c ∷ t) end) before)))
 is_read line_end text rest plain_class (feed is) before = at_once refl is
 is_read line_end text rest plain_class (return_feed is) before = opened 13 (10 ∷ []) Mode.Return is (start-return 13 refl) (inl refl) (ends_at Mode.Return [] 10 refl refl refl refl)
 is_read line_end text rest plain_class (return is) before =

@@ -1,7 +1,5 @@
 -- What each character does to the open piece alone.
-use Rattle.std.proofs.Common.{◌≡◌, ℕ, true, false, ◌&&◌, eqb, List, [], ◌∷◌, ◌++◌, refl, sym, ap, ◌∙◌, subst, inl, inr, append_assoc, arith}
-use Rattle.std.proofs.lemmas.Bool.{cond_both, and_from, and_left, and_parts, and_right, eqb-true}
-use Rattle.std.proofs.lemmas.List.Sums.{fold-append}
+use Rattle.py_lines.proofs.Prelude.{◌≡◌, ℕ, true, false, ◌&&◌, eqb, List, [], ◌∷◌, ◌++◌, refl, sym, ap, ◌∙◌, subst, inl, inr, append_assoc, arith, cond_both, and_from, and_left, and_parts, and_right, eqb-true, fold-append}
 use Rattle.py_lines.specs.Character.{is_mark, is_space, is_word_character, is_quote, is_line_feed, is_return, is_break}
 use Rattle.py_lines.specs.Piece.{string, operator, line_end, Piece, ends}
 use Rattle.py_lines.specs.PieceGrammar.{feed, return_feed, return, InPlainClass, is_prefix, joined, MayPrecedePlain, AreReadPlain}

@@ -1,10 +1,8 @@
 -- A word's spelling, as the machine keeps it, says whether the word is the prefix of a string, with fields or without.
-use Rattle.std.proofs.Common.{◌≡◌, ℕ, List, [], ◌∷◌, refl, arith, true, false}
+use Rattle.py_lines.proofs.Prelude.{◌≡◌, ℕ, List, [], ◌∷◌, refl, arith, true, false, fold_stays, list_any}
 use Rattle.py_lines.specs.PieceGrammar.{is_prefix}
 use Rattle.py_lines.specs.Private.Machine.{Spelling, first_spelling, spelling_with, is_prefix_spelling, is_field_spelling, is_raw_spelling, begins_string, spelling_on, Mode, Holds}
 use Rattle.py_lines.proofs.Text.CharacterTests.{r-not-others, t-not-u, b-not-others}
-use Rattle.std.proofs.lemmas.List.Folds.{fold_stays}
-use Rattle.std.specs.List.{list_any}
 use Rattle.py_lines.specs.Character.{is_r}
 use Rattle.py_lines.specs.FieldStrings.{is_field_prefix}
 

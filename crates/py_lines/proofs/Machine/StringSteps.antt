@@ -1,9 +1,5 @@
 -- The machine goes through the text of a string, item by item: the open piece grows by each, and ends with the last quote.
-use Rattle.std.proofs.Common.{◌≡◌, ℕ, Bool, true, false, cond, ◌==◌, eqb, List, [], ◌∷◌, ◌++◌, refl, sym, ap, ◌∙◌, subst, inl, inr, append_assoc, ◌⊎◌, arith}
-use Rattle.std.specs.List.{list_all}
-use Rattle.std.proofs.lemmas.List.Folds.{list_all-append}
-use Rattle.std.proofs.lemmas.Bool.{and_parts, and_from, or_parts, eq-eqb, eqb-true, both_ways, not-true}
-use Rattle.std.specs.Prelude.{if◌then◌else◌}
+use Rattle.py_lines.proofs.Prelude.{◌≡◌, ℕ, Bool, true, false, cond, ◌==◌, eqb, List, [], ◌∷◌, ◌++◌, refl, sym, ap, ◌∙◌, subst, inl, inr, append_assoc, ◌⊎◌, arith, list_all, list_all-append, and_parts, and_from, or_parts, eq-eqb, eqb-true, both_ways, not-true, if◌then◌else◌}
 use Rattle.py_lines.specs.Character.{is_quote, is_line_feed, is_return, is_backslash}
 use Rattle.py_lines.specs.Piece.{string}
 use Rattle.py_lines.specs.PieceGrammar.{is_prefix, IsPrefix, is_item, is_bare, is_short_item, joined, begins_triple, has_triple, MayPrecedePlain}

@@ -1,7 +1,5 @@
 -- What is open where a text ends: rows worked out by hand.
-use Rattle.std.proofs.Common.{◌≡◌, ℕ, false, Some, List, [], ◌∷◌, ◌++◌, refl, sym, ap, ◌∙◌, subst, inl, inr, append_assoc}
-use Rattle.std.proofs.lemmas.List.{append_cancel_right}
-use Rattle.std.specs.Prelude.{codes}
+use Rattle.py_lines.proofs.Prelude.{◌≡◌, ℕ, false, Some, List, [], ◌∷◌, ◌++◌, refl, sym, ap, ◌∙◌, subst, inl, inr, append_assoc, append_cancel_right, codes}
 use Rattle.py_lines.specs.Private.Mode as modes
 use Rattle.py_lines.specs.declared.mode.Spelling.TheVariants as spellings
 use Rattle.py_lines.specs.FieldStrings.{literal, specification}

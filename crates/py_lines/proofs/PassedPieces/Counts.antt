@@ -1,9 +1,5 @@
 -- Line ends in bytes that are passed, by those of the bytes from there on.
-use Rattle.std.proofs.Common.{◌≡◌, ℕ, ◌+◌, ◌-◌, ◌<◌, ◌≤◌, Bool, true, false, List, [], ◌∷◌, ◌++◌, length, take, drop, slice_index, refl, sym, ap, ◌∙◌, subst, arith, inl, inr, length-drop, get_or-drop, take-append-drop}
-use Rattle.std.specs.Prelude.{codes}
-use Rattle.std.specs.List.{list_all, list_any}
-use Rattle.std.proofs.lemmas.Bool.{and_from, and_parts, ne_eqb}
-use Rattle.std.proofs.lemmas.List.{drop-drop}
+use Rattle.py_lines.proofs.Prelude.{◌≡◌, ℕ, ◌+◌, ◌-◌, ◌<◌, ◌≤◌, Bool, true, false, List, [], ◌∷◌, ◌++◌, length, take, drop, slice_index, refl, sym, ap, ◌∙◌, subst, arith, inl, inr, length-drop, get_or-drop, take-append-drop, codes, list_all, list_any, and_from, and_parts, ne_eqb, drop-drop}
 use Rattle.py_lines.specs.Character.{is_backslash, is_break, is_line_feed, is_quote, is_return, is_space, is_operator}
 use Rattle.py_lines.specs.Balance.{is_closing, is_opening}
 use Rattle.py_lines.specs.declared.passing.Passing.{Passing}

@@ -1,7 +1,5 @@
 -- A short string with fields whose text is simple, after plain bytes that end with its prefix, as the scan would take it.
-use Rattle.std.proofs.Common.{◌≡◌, ℕ, suc, ◌+◌, ◌<◌, ◌≤◌, Bool, true, false, Option, None, Some, List, ◌∷◌, length, drop, slice_index, refl, sym, ap, ◌∙◌, subst, drop-cons}
-use Rattle.std.proofs.lemmas.Bool.{both_ways}
-use Rattle.std.specs.Prelude.{codes}
+use Rattle.py_lines.proofs.Prelude.{◌≡◌, ℕ, suc, ◌+◌, ◌<◌, ◌≤◌, Bool, true, false, Option, None, Some, List, ◌∷◌, length, drop, slice_index, refl, sym, ap, ◌∙◌, subst, drop-cons, both_ways, codes}
 use Rattle.py_lines.specs.Character.{is_backslash, is_quote}
 use Rattle.py_lines.specs.declared.host.Region.TheVariants as regions
 use Rattle.py_lines.specs.declared.host.StringWithFields.{StringWithFields}

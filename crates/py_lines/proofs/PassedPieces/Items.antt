@@ -1,13 +1,6 @@
 -- What a byte that isn't plain begins, after plain bytes, as the scan would take it: a bracket, a line end, a join of two lines, a short string
 -- of ASCII, a long one without fields, or a comment.
-use Rattle.std.proofs.Common.{◌≡◌, ℕ, ◌+◌, ◌<◌, ◌==◌, not, nat_lt, Bool, true, false, Option, None, Some, List, [], ◌∷◌, ◌++◌, length, drop, refl, sym, ap, ◌∙◌, subst, arith, append_assoc, length-append}
-use Rattle.std.specs.Prelude.{codes, encode_utf8_all}
-use Rattle.std.specs.Char.{len_utf8}
-use Rattle.std.proofs.lemmas.Bool.{and_parts, both_ways, ltb-true, ne_eqb, not-true}
-use Rattle.std.proofs.lemmas.Str.{len_utf8_ascii}
-use Rattle.std.proofs.Math.Nat.{add_assoc}
-use Rattle.std.proofs.Math.Path.{transport}
-use Rattle.std.proofs.Math.Seq.{drop-append_seam}
+use Rattle.py_lines.proofs.Prelude.{◌≡◌, ℕ, ◌+◌, ◌<◌, ◌==◌, not, nat_lt, Bool, true, false, Option, None, Some, List, [], ◌∷◌, ◌++◌, length, drop, refl, sym, ap, ◌∙◌, subst, arith, append_assoc, length-append, codes, encode_utf8_all, len_utf8, and_parts, both_ways, ltb-true, ne_eqb, not-true, len_utf8_ascii, add_assoc, transport, drop-append_seam}
 use Rattle.py_lines.specs.Balance.{is_closing, is_opening}
 use Rattle.py_lines.specs.Character.{is_backslash, is_break, is_hash, is_operator, is_quote}
 use Rattle.py_lines.specs.declared.frames.Frame.{Frame}
@@ -261,11 +254,11 @@ module _ {scan : Scan} {run : List ℕ} (p : PlainTo scan run) (q : ℕ) (specia
 
   begins_plain : TellsFields (tail_of run) (Some false) → BeginsPlain
   begins_plain before = go (tail_of run) p.tail before where
-      go : (o : Option Spelling) → IsTail o before_it.mode → TellsFields o (Some false) → BeginsPlain
-      go (Some s) is (begins, simple) = (s, before_it.start, sym simple, with_prefix s is begins)
-      go None is none =
-          let no_word = other_word before_it (λ s same. subst (IsTail None) same is) in
-          (spellings.Name, before_it.stop, refl, λ t follow. after_piece before_it t q follow quote before_quote no_word)
+    go : (o : Option Spelling) → IsTail o before_it.mode → TellsFields o (Some false) → BeginsPlain
+    go (Some s) is (begins, simple) = (s, before_it.start, sym simple, with_prefix s is begins)
+    go None is none =
+        let no_word = other_word before_it (λ s same. subst (IsTail None) same is) in
+        (spellings.Name, before_it.stop, refl, λ t follow. after_piece before_it t q follow quote before_quote no_word)
 
   pub string_over : (text rest : List ℕ) → Some 1 ≡ quotes_in (q ∷ (text ++ q ∷ rest)) → Stays (opens.Short q) text → TellsFields (tail_of run) (Some false)
       → Over p q (text ++ q ∷ rest) special (1 + (length text + 1)) before_it.frames

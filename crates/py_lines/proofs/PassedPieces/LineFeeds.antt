@@ -1,6 +1,5 @@
 -- LF that are passed before the next other byte that isn't plain, in one block of 64 bytes after another.
-use Rattle.std.proofs.Common.{◌≡◌, ℕ, ◌+◌, ◌<◌, ◌≤◌, ◌||◌, true, List, [], ◌∷◌, drop, slice_index, refl, sym, ap, ◌∙◌, subst, arith, inl, inr}
-use Rattle.std.proofs.lemmas.Bool.{cases_lt}
+use Rattle.py_lines.proofs.Prelude.{◌≡◌, ℕ, ◌+◌, ◌<◌, ◌≤◌, ◌||◌, true, List, [], ◌∷◌, drop, slice_index, refl, sym, ap, ◌∙◌, subst, arith, inl, inr, cases_lt}
 use Rattle.py_lines.specs.Character.{is_line_feed}
 use Rattle.py_lines.specs.declared.frames.Frame.{Frame}
 use Rattle.py_lines.specs.declared.marks.Marks.{Marks}
@@ -86,9 +85,9 @@ module _ {bytes : List ℕ} {fs : List Frame} {old mid : Passing} (come : ComesT
 
   pub block_passed : (new : Passing) → ((from : ℕ) → HasMarks bytes from mid.marks → PassesBlock bytes from fs mid new) → ComesTo bytes fs old new
   block_passed new block = by (block come.from come.marked) where
-      by : PassesBlock bytes come.from fs mid new → ComesTo bytes fs old new
-      by (inl same) = subst (ComesTo bytes fs old) (sym same) come
-      by (inr (to, feeds, to_it, is)) = subst (ComesTo bytes fs old) (sym is) (feeds_passed to feeds new.marks to_it.ends to_it.counted to_it.marked)
+    by : PassesBlock bytes come.from fs mid new → ComesTo bytes fs old new
+    by (inl same) = subst (ComesTo bytes fs old) (sym same) come
+    by (inr (to, feeds, to_it, is)) = subst (ComesTo bytes fs old) (sym is) (feeds_passed to feeds new.marks to_it.ends to_it.counted to_it.marked)
 
   -- with other marks
   other_marks : (marks : Marks) → PassesLineFeeds bytes fs old (record mid { marks = marks })

@@ -1,9 +1,5 @@
 -- What stands at the next byte that isn't plain is passed, with the plain bytes before it.
-use Rattle.std.proofs.Common.{◌≡◌, ℕ, ◌+◌, ◌-◌, ◌<◌, ◌≤◌, ◌==◌, true, false, List, [], ◌∷◌, ◌++◌, length, take, drop, slice_index, refl, sym, ap, ◌∙◌, subst, arith, length-drop, get_or-drop, inl, take-append-drop}
-use Rattle.std.specs.List.{list_all}
-use Rattle.std.proofs.Math.Path.{transport}
-use Rattle.std.proofs.lemmas.Bool.{ne_eqb}
-use Rattle.std.proofs.lemmas.List.{drop-drop, length-take-le}
+use Rattle.py_lines.proofs.Prelude.{◌≡◌, ℕ, ◌+◌, ◌-◌, ◌<◌, ◌≤◌, ◌==◌, true, false, List, [], ◌∷◌, ◌++◌, length, take, drop, slice_index, refl, sym, ap, ◌∙◌, subst, arith, length-drop, get_or-drop, inl, take-append-drop, list_all, transport, ne_eqb, drop-drop, length-take-le}
 use Rattle.py_lines.specs.Balance.{is_closing, is_opening}
 use Rattle.py_lines.specs.Character.{is_break}
 use Rattle.py_lines.specs.declared.frames.Frame.{Frame}

@@ -1,9 +1,5 @@
 -- Pieces of a line that are passed one after another.
-use Rattle.std.proofs.Common.{◌≡◌, ℕ, ◌+◌, ◌-◌, ◌<◌, ◌≤◌, not, true, false, None, List, [], ◌∷◌, ◌++◌, length, take, drop, slice_index, refl, sym, ap, ◌∙◌, subst, arith, length-drop, get_or-drop, inl, inr}
-use Rattle.std.proofs.lemmas.Bool.{both_ways, cases_lt, eq-eqb, false_from_ne_true}
-use Rattle.std.proofs.lemmas.List.{drop-drop, get_or-take, length-take-le, take-append-drop, take-take}
-use Rattle.std.specs.List.{list_all}
-use Rattle.std.proofs.Math.Path.{transport}
+use Rattle.py_lines.proofs.Prelude.{◌≡◌, ℕ, ◌+◌, ◌-◌, ◌<◌, ◌≤◌, not, true, false, None, List, [], ◌∷◌, ◌++◌, length, take, drop, slice_index, refl, sym, ap, ◌∙◌, subst, arith, length-drop, get_or-drop, inl, inr, both_ways, cases_lt, eq-eqb, false_from_ne_true, drop-drop, get_or-take, length-take-le, take-append-drop, take-take, list_all, transport}
 use Rattle.py_lines.specs.Character.{is_space}
 use Rattle.py_lines.specs.declared.frames.Frame.{Frame}
 use Rattle.py_lines.specs.declared.marks.Marks.{Marks}

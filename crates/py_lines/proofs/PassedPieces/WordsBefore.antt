@@ -1,8 +1,5 @@
 -- The word that bytes end with.
-use Rattle.std.proofs.Common.{take-suc, ◌≡◌, ℕ, suc, ◌+◌, ◌-◌, ◌<◌, ◌≤◌, true, false, Option, None, Some, List, [], ◌∷◌, ◌++◌, length, take, drop, slice_index, refl, sym, ap, ◌∙◌, arith, take_all, take-append-drop, zero, inl, inr, length-drop, get_or-drop}
-use Rattle.std.specs.List.{list_all}
-use Rattle.std.proofs.lemmas.Bool.{and_parts}
-use Rattle.std.proofs.lemmas.List.{length-take-le}
+use Rattle.py_lines.proofs.Prelude.{take-suc, ◌≡◌, ℕ, suc, ◌+◌, ◌-◌, ◌<◌, ◌≤◌, true, false, Option, None, Some, List, [], ◌∷◌, ◌++◌, length, take, drop, slice_index, refl, sym, ap, ◌∙◌, arith, take_all, take-append-drop, zero, inl, inr, length-drop, get_or-drop, list_all, and_parts, length-take-le}
 use Rattle.py_lines.specs.declared.mode.Spelling.{Spelling}
 use Rattle.py_lines.specs.Private.Machine.{first_spelling, spelling_on, spelling_with}
 use Rattle.py_lines.specs.Private.Passing.{tail_of, tail_on, tail_with}

@@ -1,5 +1,5 @@
 -- Lists of pieces one after another.
-use Rattle.std.proofs.Common.{◌≡◌, ℕ, false, List, [], ◌∷◌, ◌++◌, refl, sym, ap, ◌∙◌, subst, append_assoc, append-nil, arith}
+use Rattle.py_lines.proofs.Prelude.{◌≡◌, ℕ, false, List, [], ◌∷◌, ◌++◌, refl, sym, ap, ◌∙◌, subst, append_assoc, append-nil, arith}
 use Rattle.py_lines.specs.Piece.{Class, Piece, is_mark_class, begins_marked, spelled}
 use Rattle.py_lines.specs.PieceGrammar.{Grammar, InClassIn, MayPrecedeIn, AreReadIn, joined}
 use Rattle.py_lines.specs.Fields.{fielded, AreReadBefore}
@@ -28,9 +28,9 @@ AreReadIn-append grammar (p ∷ ps) qs rest first second follows = (
   begins_marked-append ps qs first.2 follows,
   AreReadIn-append grammar ps qs rest first.3 second (later ps follows),
 ) where
-    later : (os : List Piece) → begins_marked qs ≡ false → MayFollow os qs
-    later [] h = tt
-    later (o ∷ os) h = h
+  later : (os : List Piece) → begins_marked qs ≡ false → MayFollow os qs
+  later [] h = tt
+  later (o ∷ os) h = h
 
 -- the second part of pieces that are read, by any grammar of strings
 pub AreReadIn-second : (grammar : Grammar) (ps qs : List Piece) (rest : List ℕ) → AreReadIn grammar (ps ++ qs) rest → AreReadIn grammar qs rest
@@ -65,9 +65,9 @@ AreReadIn-first grammar (p ∷ ps) qs rest fit = (
   marked-first ps qs fit.2,
   AreReadIn-first grammar ps qs rest fit.3,
 ) where
-    marked-first : (os rs : List Piece) → begins_marked (os ++ rs) ≡ false → begins_marked os ≡ false
-    marked-first [] rs h = refl
-    marked-first (o ∷ os) rs h = h
+  marked-first : (os rs : List Piece) → begins_marked (os ++ rs) ≡ false → begins_marked os ≡ false
+  marked-first [] rs h = refl
+  marked-first (o ∷ os) rs h = h
 
 pub AreReadBefore-first : (ps qs : List Piece) (rest : List ℕ) → AreReadBefore (ps ++ qs) rest → AreReadBefore ps (spelled qs ++ rest)
 AreReadBefore-first ps qs rest fit = AreReadIn-first fielded ps qs rest fit

@@ -1,5 +1,5 @@
 -- Pieces in which nothing opens too deep: of two lists one after another, and of brackets alone.
-use Rattle.std.proofs.Common.{ℕ, List, [], ◌∷◌, ◌++◌}
+use Rattle.py_lines.proofs.Prelude.{ℕ, List, [], ◌∷◌, ◌++◌}
 use Rattle.py_lines.specs.Piece.{Piece}
 use Rattle.py_lines.specs.Balance.{IsShallowPlain, depth_after, depth_through}
 use Rattle.py_lines.specs.Fields.{IsShallow}

@@ -1,6 +1,5 @@
 -- Three quotes in a row, in items one after another.
-use Rattle.std.proofs.Common.{◌≡◌, ℕ, Bool, false, ◌==◌, List, [], ◌∷◌, ◌++◌, refl, arith}
-use Rattle.std.proofs.lemmas.Bool.{or_parts, or_from}
+use Rattle.py_lines.proofs.Prelude.{◌≡◌, ℕ, Bool, false, ◌==◌, List, [], ◌∷◌, ◌++◌, refl, arith, or_parts, or_from}
 use Rattle.py_lines.specs.PieceGrammar.{is_bare, begins_triple, has_triple}
 
 abbrev bare : ℕ → List ℕ → Bool

@@ -1,9 +1,5 @@
 -- What the reader answers: its state after a line, and where a text ends, or is refused, its last line or the fault that stands there.
-use Rattle.std.proofs.Common.{◌≡◌, ℕ, ◌+◌, ◌<◌, ◌⊎◌, inl, inr, true, None, Some, List, [], ◌∷◌, ◌++◌, length, drop, refl, sym, ap, ◌∙◌, subst, append_assoc, append-nil, arith, length-append, Bool, false, ◌==◌, encode_utf8_all, if◌then◌else◌, encode_utf8, Result, Ok, Err}
-use Rattle.std.specs.Str.{all_scalars, StartsWithNoChar}
-use Rattle.std.proofs.lemmas.Str.{length-le-encodes, encode_ascii, encode_same}
-use Rattle.std.proofs.Math.Seq.{drop-append_seam}
-use Rattle.std.proofs.lemmas.Bool.{and_parts, both_ways, and_from, eq-eqb, false_from_ne_true, eqb-true}
+use Rattle.py_lines.proofs.Prelude.{◌≡◌, ℕ, ◌+◌, ◌<◌, ◌⊎◌, inl, inr, true, None, Some, List, [], ◌∷◌, ◌++◌, length, drop, refl, sym, ap, ◌∙◌, subst, append_assoc, append-nil, arith, length-append, Bool, false, ◌==◌, encode_utf8_all, if◌then◌else◌, encode_utf8, Result, Ok, Err, all_scalars, StartsWithNoChar, length-le-encodes, encode_ascii, encode_same, drop-append_seam, and_parts, both_ways, and_from, eq-eqb, false_from_ne_true, eqb-true}
 use Rattle.py_lines.specs.Character.{is_return}
 use Rattle.py_lines.specs.Piece.{Class, line_end, Piece, begins, begins_marked, ends, spelled}
 use Rattle.py_lines.specs.Fields.{AreReadBefore, IsShallow, fielded}
@@ -192,9 +188,9 @@ module _ {text : List ℕ} {place line : ℕ} {lines : List LogicalLine} {read r
     number = omega (arith, k.number, base_lines k.base read k.more k.fit, ap line_ends spelled_after);
     cut = of.lines_more text place line lines read rest k u k.more own.whole fits_after;
   } where
-      ends : IsEnded u (k.more ++ k.tail ≡ []) → EndsForGood (k.base ++ u) (k.more ++ k.tail) ⊎ (k.more ++ k.tail ≡ [])
-      ends (IsEnded.by_line body last is class deep) = ends_for_good (k.base ++ u) (k.more ++ k.tail) (ends_after body last is class deep)
-      ends (IsEnded.by_text none) = inr none
+    ends : IsEnded u (k.more ++ k.tail ≡ []) → EndsForGood (k.base ++ u) (k.more ++ k.tail) ⊎ (k.more ++ k.tail ≡ [])
+    ends (IsEnded.by_line body last is class deep) = ends_for_good (k.base ++ u) (k.more ++ k.tail) (ends_after body last is class deep)
+    ends (IsEnded.by_text none) = inr none
 
 -- the bytes of the line end after pieces
 pub end_len-push : (ps : List Piece) (p : Piece) → p.class ≡ line_end → end_len_of (ps ++ p ∷ []) ≡ byte_len p.text

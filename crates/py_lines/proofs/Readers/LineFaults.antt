@@ -1,7 +1,6 @@
 -- The machine goes through a whole text as it goes through the line that stands last in it, with the pieces of the lines before among those
 -- of its outermost list. So the fault that the scan of a line names is that of the whole text, and it stands in the line.
-use Rattle.std.proofs.Common.{◌≡◌, ℕ, ◌<◌, ◌==◌, ◌&&◌, true, false, None, Some, List, [], ◌∷◌, ◌++◌, refl, sym, ap, ◌∙◌, subst, append-nil, arith, zero, suc, ◌+◌, ◌-◌, ◌||◌, not, Bool, Option, inl, inr, length, append_assoc, length-append, if◌then◌else◌}
-use Rattle.std.proofs.lemmas.List.{same_from_push, append_cancel_left}
+use Rattle.py_lines.proofs.Prelude.{◌≡◌, ℕ, ◌<◌, ◌==◌, ◌&&◌, true, false, None, Some, List, [], ◌∷◌, ◌++◌, refl, sym, ap, ◌∙◌, subst, append-nil, arith, zero, suc, ◌+◌, ◌-◌, ◌||◌, not, Bool, Option, inl, inr, length, append_assoc, length-append, if◌then◌else◌, same_from_push, append_cancel_left, both_ways, cond_both, length-le-encodes}
 use Rattle.py_lines.specs.Character.{is_line_feed, is_break, is_return}
 use Rattle.py_lines.specs.Piece.{line_end, Piece, spelled}
 use Rattle.py_lines.specs.Balance.{IsBalanced, depth_through, is_opening, is_closing}
@@ -24,8 +23,6 @@ use Rattle.py_lines.proofs.FieldSoundness.OpenLists.{balanced_at, opens-depth}
 use Rattle.py_lines.proofs.FieldSoundness.WholeTexts.{code_at_end, list_ends, two_hundred}
 use Rattle.py_lines.proofs.LineScan.LineSteps.{way_one_line, way_sound, way_here, closed_one_line}
 use Rattle.py_lines.proofs.LineScan.TextSteps.{Base, begun_sound}
-use Rattle.std.proofs.lemmas.Bool.{both_ways, cond_both}
-use Rattle.std.proofs.lemmas.Str.{length-le-encodes}
 use Rattle.py_lines.specs.Balance as balance
 use Rattle.py_lines.specs.FieldStrings.{Place, literal, specification}
 use Rattle.py_lines.specs.PieceGrammar.{feed}
@@ -101,17 +98,17 @@ module _ (n : ℕ) (base : List Piece) (after : List ℕ) (balanced : IsBalanced
     next = λ d more follows. room_step_after base t d;
     stands = refl;
   } where
-      run : Base n base → RunsTo (spelled base ++ c ∷ cs) (state_after base t)
-      run (Base.bare none mode) = let own = goes_runs field_text_start (c ∷ cs) (state_after [] t)
-          (goes_after [] (line_begun modes.Start) (c ∷ cs) t (subst (λ m. Goes (line_begun m) (c ∷ cs) t) mode goes)) in
-          subst (λ l. RunsTo (spelled l ++ c ∷ cs) (state_after l t)) (sym none) own
-      run (Base.lined front last ends class any mode) = let reached = reach base ((c ∷ cs) ++ after) fit balanced shallow (any ((c ∷ cs) ++ after)) in
-          let (open_yet, next, step, going, others) = subst (λ m. Goes (line_begun m) (c ∷ cs) t) mode goes in
-          let first : room_step reached.to c ≡ Some (state_after base next)
-          = from_base base reached.to c reached.outside reached.openers_are reached.pieces_are reached.stops ∙ ap (state_after_if base) step in
-          runs_both field_text_start (spelled base) (c ∷ cs) reached.to (state_after base t) reached.runs
-          (runs_both reached.to (c ∷ []) cs (state_after base next) (state_after base t) (runs_one reached.to c (state_after base next) first)
-          (goes_runs (state_after base next) cs (state_after base t) (goes_after base next cs t others)))
+    run : Base n base → RunsTo (spelled base ++ c ∷ cs) (state_after base t)
+    run (Base.bare none mode) = let own = goes_runs field_text_start (c ∷ cs) (state_after [] t)
+        (goes_after [] (line_begun modes.Start) (c ∷ cs) t (subst (λ m. Goes (line_begun m) (c ∷ cs) t) mode goes)) in
+        subst (λ l. RunsTo (spelled l ++ c ∷ cs) (state_after l t)) (sym none) own
+    run (Base.lined front last ends class any mode) = let reached = reach base ((c ∷ cs) ++ after) fit balanced shallow (any ((c ∷ cs) ++ after)) in
+        let (open_yet, next, step, going, others) = subst (λ m. Goes (line_begun m) (c ∷ cs) t) mode goes in
+        let first : room_step reached.to c ≡ Some (state_after base next)
+        = from_base base reached.to c reached.outside reached.openers_are reached.pieces_are reached.stops ∙ ap (state_after_if base) step in
+        runs_both field_text_start (spelled base) (c ∷ cs) reached.to (state_after base t) reached.runs
+        (runs_both reached.to (c ∷ []) cs (state_after base next) (state_after base t) (runs_one reached.to c (state_after base next) first)
+        (goes_runs (state_after base next) cs (state_after base t) (goes_after base next cs t others)))
 
   -- nothing was read yet
   joined_none : (t : FieldScanned) → AreReadBefore base after → Base n base → line_begun (first_mode n) ≡ t → Joined base [] t after
@@ -239,26 +236,26 @@ module _ (base : List Piece) (read : List ℕ) (u : FieldScanned) (sound : IsFie
 
   alike_after : (c : ℕ) → StandsAlike k (state_after base u) u c
   alike_after c = record { cause = ap (λ n. cause_in n u.mode c) (frames_same base u); place = place } where
-      place : cause_place (state_after base u) (cause_in (frames u) u.mode c) ≡ k + cause_place u (cause_in (frames u) u.mode c)
-      place = let P : Cause → Type 0 = λ cause. cause_place (state_after base u) cause ≡ k + cause_place u cause in
-          cond_both (is_waiting u.mode && (frames u == 200)) _ _ P (λ h. omega (arith, here_after base u, some))
-          (λ h. cond_both (is_break c) _ _ P (λ i. start_after base u) (λ i. cond_both (after_open_backslash u.mode) _ _ P (λ l. start_after base u)
-          (λ l. cond_both (is_closing c) _ _ P (λ n. here_after base u) (λ n. cond_both (is_opening c) _ _ P (λ o. here_after base u)
-          (λ o. cond_both (quotes_specification u.mode c) _ _ P (λ quotes. within_after (quoted_inside two_hundred u.mode u.outer _ c sound.levels quotes)) (λ q. here_after base u))))))
+    place : cause_place (state_after base u) (cause_in (frames u) u.mode c) ≡ k + cause_place u (cause_in (frames u) u.mode c)
+    place = let P : Cause → Type 0 = λ cause. cause_place (state_after base u) cause ≡ k + cause_place u cause in
+        cond_both (is_waiting u.mode && (frames u == 200)) _ _ P (λ h. omega (arith, here_after base u, some))
+        (λ h. cond_both (is_break c) _ _ P (λ i. start_after base u) (λ i. cond_both (after_open_backslash u.mode) _ _ P (λ l. start_after base u)
+        (λ l. cond_both (is_closing c) _ _ P (λ n. here_after base u) (λ n. cond_both (is_opening c) _ _ P (λ o. here_after base u)
+        (λ o. cond_both (quotes_specification u.mode c) _ _ P (λ quotes. within_after (quoted_inside two_hundred u.mode u.outer _ c sound.levels quotes)) (λ q. here_after base u))))))
 
   -- what is open at the end stands so many bytes further
   there_after : brackets_of base ≡ Some [] → (what : Unfinished) (place : ℕ) → IsUnfinishedAt u what place → (n : ℕ) → StandsThere (state_after base u) what n → n ≡ k + place
   there_after level open_brace place at n stands = omega (arith, stands, here_after base u, some, at)
   there_after level open_inside place at n stands = by (is_waiting u.mode) stands at where
-      by : (waits : Bool) → n + 1 ≡ (if waits then here (state_after base u) else byte_len (before literal (levels_after base u.outer))) → place ≡ (if waits then here u - 1 else field_start u) → n ≡ k + place
-      by true first second = omega (arith, first, second, here_after base u, some)
-      by false first second = let within : u.outer ≡ [] → ⊥ = λ none. omega (arith, first, ap (λ l. byte_len (before literal (levels_after base l))) none) in
-          omega (arith, first, second, field_after base u.outer within, field_full two_hundred (text_place u.mode) u.outer _ sound.levels within)
+    by : (waits : Bool) → n + 1 ≡ (if waits then here (state_after base u) else byte_len (before literal (levels_after base u.outer))) → place ≡ (if waits then here u - 1 else field_start u) → n ≡ k + place
+    by true first second = omega (arith, first, second, here_after base u, some)
+    by false first second = let within : u.outer ≡ [] → ⊥ = λ none. omega (arith, first, ap (λ l. byte_len (before literal (levels_after base l))) none) in
+        omega (arith, first, second, field_after base u.outer within, field_full two_hundred (text_place u.mode) u.outer _ sound.levels within)
   there_after level open_bracket place (b, others, stack, at) n stands = by u.outer stack at stands where
-      by : (outer : List Level) → brackets_of u.done ≡ Some (b ∷ others) → place ≡ byte_len (before literal outer) + b.place
-          → ((a : Bracket) (bs : List Bracket) → brackets_of (list_after base outer u.done) ≡ Some (a ∷ bs) → n ≡ byte_len (before literal (levels_after base outer)) + a.place) → n ≡ k + place
-      by [] stack at stands = omega (arith, stands (record { opener = b.opener; place = k + b.place }) (shift k others) (stack-after base u.done level ∙ ap (shift_if k) stack), at)
-      by (l ∷ ls) stack at stands = omega (arith, stands b others stack, at, field_after base (l ∷ ls) (λ none. cc))
+    by : (outer : List Level) → brackets_of u.done ≡ Some (b ∷ others) → place ≡ byte_len (before literal outer) + b.place
+        → ((a : Bracket) (bs : List Bracket) → brackets_of (list_after base outer u.done) ≡ Some (a ∷ bs) → n ≡ byte_len (before literal (levels_after base outer)) + a.place) → n ≡ k + place
+    by [] stack at stands = omega (arith, stands (record { opener = b.opener; place = k + b.place }) (shift k others) (stack-after base u.done level ∙ ap (shift_if k) stack), at)
+    by (l ∷ ls) stack at stands = omega (arith, stands b others stack, at, field_after base (l ∷ ls) (λ none. cc))
   there_after level what place at n stands = stands ∙ start_after base u ∙ ap (λ m. k + m) (sym at)
 
 -- between lines a character is refused for these causes
@@ -296,9 +293,9 @@ first_between (suc n) = tt
 -- a character that isn't taken stops the machine
 stuck_by : (t : FieldScanned) (c : ℕ) → room_step t c ≡ None → IsStuck t c
 stuck_by t c none = by (has_room t c) (field_step t c) refl refl none where
-    by : (b : Bool) (o : Option FieldScanned) → has_room t c ≡ b → field_step t c ≡ o → roomy b o ≡ None → IsStuck t c
-    by false o room step refuses = inr room
-    by true o room step refuses = inl (step ∙ refuses)
+  by : (b : Bool) (o : Option FieldScanned) → has_room t c ≡ b → field_step t c ≡ o → roomy b o ≡ None → IsStuck t c
+  by false o room step refuses = inr room
+  by true o room step refuses = inl (step ∙ refuses)
 
 -- a place in what was scanned
 pub record Within (read : List ℕ) (offset : ℕ) : Type 0 where
@@ -368,9 +365,9 @@ code_ends outer (o ∷ os) none = absurd (cc)
 
 none_open_at : (outer : List Level) (os : List ℕ) (m : FieldMode) → unfinished_in outer os m ≡ None → (outer ≡ []) × (os ≡ []) × (may_end m ≡ true)
 none_open_at outer os (plain m) none = by (in_short m) (in_long m) (is_after_backslash m) (final_by m) none where
-    by : (short long slash : Bool) → is_final m ≡ not (short || (long || slash)) → (if short then Some open_short else (if long then Some open_long else (if slash then Some open_join else unfinished_code outer os))) ≡ None → (outer ≡ []) × (os ≡ []) × (is_final m ≡ true)
-    by false false false final none = let both = code_ends outer os none in (both.0, both.1, final)
-    by short long slash final none = absurd (cc)
+  by : (short long slash : Bool) → is_final m ≡ not (short || (long || slash)) → (if short then Some open_short else (if long then Some open_long else (if slash then Some open_join else unfinished_code outer os))) ≡ None → (outer ≡ []) × (os ≡ []) × (is_final m ≡ true)
+  by false false false final none = let both = code_ends outer os none in (both.0, both.1, final)
+  by short long slash final none = absurd (cc)
 none_open_at outer os (empty h) none = let both = code_ends outer os none in (both.0, both.1, refl)
 none_open_at outer os (body h literal named at) none = absurd (cc)
 none_open_at outer os m none = absurd (cc)
@@ -382,22 +379,22 @@ finished t none = let parts = none_open_at t.outer t.openers t.mode none in reco
 -- a fault at a character stands before it
 before_character : (read : List ℕ) (c : ℕ) (kind : FaultKind) (offset : ℕ) → IsCharacterFault kind (read ++ c ∷ []) offset → PrefixTo read offset
 before_character read c kind offset fault = go (either fault.before (fault.c ∷ fault.dies.after) read (c ∷ []) fault.dies.spell) where
-    go : Either fault.before read (c ∷ []) → PrefixTo read offset
-    go (Either.shorter k one) = explained fault.cause fault.before k read fault.c offset (sym one) fault.fits
-    go (Either.longer d k later one two) =
-        absurd (omega (arith, ap length fault.dies.spell, length-append fault.before (fault.c ∷ fault.dies.after), length-append read (c ∷ []), ap length one, length-append read (d ∷ k)))
+  go : Either fault.before read (c ∷ []) → PrefixTo read offset
+  go (Either.shorter k one) = explained fault.cause fault.before k read fault.c offset (sym one) fault.fits
+  go (Either.longer d k later one two) =
+      absurd (omega (arith, ap length fault.dies.spell, length-append fault.before (fault.c ∷ fault.dies.after), length-append read (c ∷ []), ap length one, length-append read (d ∷ k)))
 
 -- a place after the lines given is one in the line
 within_line : (first read : List ℕ) (place : ℕ) → PrefixTo (first ++ read) (byte_len first + place) → Within read place
 within_line first read place p = go (either p.prefix p.rest first read p.spell) where
-    go : Either p.prefix first read → Within read place
-    go (Either.shorter k one) = record { prefix = []; later = read; split = refl; size = omega (arith, p.place, ap byte_len one, byte_len-append p.prefix k) }
-    go (Either.longer d k later one two) = record {
-      prefix = d ∷ k;
-      later = p.rest;
-      split = append_cancel_left first ((d ∷ k) ++ p.rest) read (sym (append_assoc first (d ∷ k) p.rest) ∙ ap (λ t. t ++ p.rest) (sym one) ∙ p.spell);
-      size = omega (arith, p.place, ap byte_len one, byte_len-append first (d ∷ k));
-    }
+  go : Either p.prefix first read → Within read place
+  go (Either.shorter k one) = record { prefix = []; later = read; split = refl; size = omega (arith, p.place, ap byte_len one, byte_len-append p.prefix k) }
+  go (Either.longer d k later one two) = record {
+    prefix = d ∷ k;
+    later = p.rest;
+    split = append_cancel_left first ((d ∷ k) ++ p.rest) read (sym (append_assoc first (d ∷ k) p.rest) ∙ ap (λ t. t ++ p.rest) (sym one) ∙ p.spell);
+    size = omega (arith, p.place, ap byte_len one, byte_len-append first (d ∷ k));
+  }
 
 -- some lines that may stand before
 record Before (n : ℕ) : Type 0 where

@@ -1,8 +1,5 @@
 -- A line that the last bytes of a text begin with: what the scan of it comes to.
-use Rattle.std.proofs.Common.{◌≡◌, ℕ, ◌+◌, ◌-◌, ◌<◌, ◌≤◌, inl, inr, true, None, Some, Ok, Err, Result, List, [], ◌∷◌, ◌++◌, length, take, drop, refl, sym, ap, ◌∙◌, subst, append_assoc, append-nil, arith, length-append, length-drop, encode_utf8_all}
-use Rattle.std.specs.Str.{all_scalars}
-use Rattle.std.proofs.lemmas.List.{length-take-le, nil_from_length, take_all}
-use Rattle.std.proofs.lemmas.Str.{encodes-append, encodes_same, length-le-encodes}
+use Rattle.py_lines.proofs.Prelude.{◌≡◌, ℕ, ◌+◌, ◌-◌, ◌<◌, ◌≤◌, inl, inr, true, None, Some, Ok, Err, Result, List, [], ◌∷◌, ◌++◌, length, take, drop, refl, sym, ap, ◌∙◌, subst, append_assoc, append-nil, arith, length-append, length-drop, encode_utf8_all, all_scalars, length-take-le, nil_from_length, take_all, encodes-append, encodes_same, length-le-encodes}
 use Rattle.py_lines.specs.Character.{is_line_feed}
 use Rattle.py_lines.specs.Piece.{Piece, begins, spelled}
 use Rattle.py_lines.specs.Fields.{AreReadBefore}
@@ -137,34 +134,34 @@ module _ (s : LineState) {bytes : List ℕ} {scan : Scan} (l : ScansIn (first_mo
   -- so the text ends
   pub text_ended : 0 < length bytes → (result : Result ℕ LineFault) (new : Scan) → EndsTextSo scan (take (length bytes - scan.stop) (drop scan.stop bytes)) result new → ScansLine s bytes result new.stop
   text_ended some result new ends = by result (left_ends l.stops start l.spell result new (subst (λ b. EndsTextSo scan b result new) bytes_left ends)) where
-      some_read : l.rest ≡ [] → 0 < byte_len l.read
-      some_read none = omega (arith, some, bytes_size (read_in l), ap length none)
+    some_read : l.rest ≡ [] → 0 < byte_len l.read
+    some_read none = omega (arith, some, bytes_size (read_in l), ap length none)
 
-      by : (result : Result ℕ LineFault) → ComesToEnd way.field l.rest result new → ScansLine s bytes result new.stop
-      -- with the line end CR
-      by (Ok len) (stop, inl (one, is)) = let none = left_none l.stops is in
-          let at = returned way start stop is (λ after same. ap (begins is_line_feed) (encodes_same after [] same)) in
-          subst (λ n. ScansLine s bytes (Ok n) new.stop) (sym one) (line_read (read_in l) s.place s.line (line_at_end (first_mode s.place) new l.read [] 1 at [] refl) (λ more tail follow. (
-            subst (AreReadBefore (at.body ++ at.last ∷ [])) (sym (both_none more tail (follow ∙ none)).0) (at.fit [] refl),
-            IsEnded.by_line at.body at.last refl at.are.class at.are.level,
-          )))
-      -- with none
-      by (Ok len) (stop, inr (zero, none, open_yet, unfinished)) = let final = finished way.field unfinished in
-          subst (λ n. ScansLine s bytes (Ok n) new.stop) (sym zero)
-          (line_read (read_in l) s.place s.line (line_at_text_end (first_mode s.place) new l.read way start final open_yet (some_read none) (stop ∙ way_here way start)) (λ more tail follow.
-          let (no_more, no_tail) = both_none more tail (follow ∙ none) in (
-            subst (AreReadBefore (field_pieces way.field)) (sym no_more) (ends_as_read way.field l.read (way_sound way start) final).fit,
-            IsEnded.by_text (ap (λ t. t ++ tail) no_more ∙ no_tail),
-          )))
-      -- with bytes that begin no character
-      by (Err f) (open_yet, inl (more, kind, place)) = let size = place ∙ way_here way start in
-          faulty (read_in l) s (all_within l.read f.place size) (λ fault at text lines first is.
-          ended_bytes text s lines l.read l.rest (known (read_in l) text lines first is some) (whole (read_in l) text lines first is some) way open_yet more fault
-          (subst (λ (k : FaultKind). IsFaultAfter s k (byte_len l.read) (encode_utf8_all l.read) fault) kind (subst (λ (n : ℕ). IsFaultAfter s f.kind n (encode_utf8_all l.read) fault) size at)) l.stops.none)
-      -- or where it may not end
-      by (Err f) (open_yet, inr (none, unfinished)) = let w = unfinished_within s.place l.read way (some_read none) f unfinished in
-          faulty (read_in l) s w (λ fault at text lines first is.
-          ended_unfinished text s lines l.read l.rest (known (read_in l) text lines first is some) (whole (read_in l) text lines first is some) way open_yet none (some_read none) f unfinished fault w at)
+    by : (result : Result ℕ LineFault) → ComesToEnd way.field l.rest result new → ScansLine s bytes result new.stop
+    -- with the line end CR
+    by (Ok len) (stop, inl (one, is)) = let none = left_none l.stops is in
+        let at = returned way start stop is (λ after same. ap (begins is_line_feed) (encodes_same after [] same)) in
+        subst (λ n. ScansLine s bytes (Ok n) new.stop) (sym one) (line_read (read_in l) s.place s.line (line_at_end (first_mode s.place) new l.read [] 1 at [] refl) (λ more tail follow. (
+          subst (AreReadBefore (at.body ++ at.last ∷ [])) (sym (both_none more tail (follow ∙ none)).0) (at.fit [] refl),
+          IsEnded.by_line at.body at.last refl at.are.class at.are.level,
+        )))
+    -- with none
+    by (Ok len) (stop, inr (zero, none, open_yet, unfinished)) = let final = finished way.field unfinished in
+        subst (λ n. ScansLine s bytes (Ok n) new.stop) (sym zero)
+        (line_read (read_in l) s.place s.line (line_at_text_end (first_mode s.place) new l.read way start final open_yet (some_read none) (stop ∙ way_here way start)) (λ more tail follow.
+        let (no_more, no_tail) = both_none more tail (follow ∙ none) in (
+          subst (AreReadBefore (field_pieces way.field)) (sym no_more) (ends_as_read way.field l.read (way_sound way start) final).fit,
+          IsEnded.by_text (ap (λ t. t ++ tail) no_more ∙ no_tail),
+        )))
+    -- with bytes that begin no character
+    by (Err f) (open_yet, inl (more, kind, place)) = let size = place ∙ way_here way start in
+        faulty (read_in l) s (all_within l.read f.place size) (λ fault at text lines first is.
+        ended_bytes text s lines l.read l.rest (known (read_in l) text lines first is some) (whole (read_in l) text lines first is some) way open_yet more fault
+        (subst (λ (k : FaultKind). IsFaultAfter s k (byte_len l.read) (encode_utf8_all l.read) fault) kind (subst (λ (n : ℕ). IsFaultAfter s f.kind n (encode_utf8_all l.read) fault) size at)) l.stops.none)
+    -- or where it may not end
+    by (Err f) (open_yet, inr (none, unfinished)) = let w = unfinished_within s.place l.read way (some_read none) f unfinished in
+        faulty (read_in l) s w (λ fault at text lines first is.
+        ended_unfinished text s lines l.read l.rest (known (read_in l) text lines first is some) (whole (read_in l) text lines first is some) way open_yet none (some_read none) f unfinished fault w at)
 
 -- the reader after so many bytes and line ends
 abbrev pub further : Reader → ℕ → ℕ → Reader

@@ -1,9 +1,5 @@
 -- Lines that were passed over are the text's next.
-use Rattle.std.proofs.Common.{◌≡◌, ℕ, ◌+◌, ◌-◌, ◌<◌, ◌≤◌, ◌&&◌, inl, inr, false, None, List, [], ◌∷◌, ◌++◌, length, take, drop, refl, sym, ap, ◌∙◌, subst, append_assoc, append-nil, arith, length-append, ⊎_elim, encode_utf8_all, flat_map}
-use Rattle.std.proofs.lemmas.List.{drop-drop, length-append, length-take-le, length-drop, take-append-drop, take-append-le}
-use Rattle.std.proofs.lemmas.Str.{encodes-append}
-use Rattle.std.proofs.Math.Seq.{drop-append_seam}
-use Rattle.std.proofs.lemmas.Bool.{and_parts, both_ways, cases_Bool, false_from_ne_true}
+use Rattle.py_lines.proofs.Prelude.{◌≡◌, ℕ, ◌+◌, ◌-◌, ◌<◌, ◌≤◌, ◌&&◌, inl, inr, false, None, List, [], ◌∷◌, ◌++◌, length, take, drop, refl, sym, ap, ◌∙◌, subst, append_assoc, append-nil, arith, length-append, ⊎_elim, encode_utf8_all, flat_map, drop-drop, length-take-le, length-drop, take-append-drop, take-append-le, encodes-append, drop-append_seam, and_parts, both_ways, cases_Bool, false_from_ne_true}
 use Rattle.py_lines.specs.Character.{is_line_feed, is_return}
 use Rattle.py_lines.specs.Piece.{Piece, begins, ends}
 use Rattle.py_lines.specs.LogicalLine.{LogicalLine, byte_len, line_ends, line_of}

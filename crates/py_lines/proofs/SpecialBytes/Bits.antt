@@ -1,11 +1,5 @@
 -- The bits of a word of 64 after the lowest of them are cleared, or the lowest that is set, or LF below the lowest of the others.
-use Rattle.std.proofs.Common.{◌≡◌, ℕ, zero, suc, ◌+◌, ◌-◌, ◌*◌, ◌/◌, ◌%◌, ◌^◌, ◌<◌, ◌≤◌, min, true, false, eqb, bit_and, bit_xor, inl, inr, sym, ap, ◌∙◌, arith, w64, eqb-true}
-use Rattle.std.specs.Int.{bit_at, trailing_zeros}
-use Rattle.std.specs.Int.Count.{count_leading_zeros}
-use Rattle.std.proofs.Math.Nat.{pow-suc}
-use Rattle.std.proofs.lemmas.Bool.{cases_order}
-use Rattle.std.proofs.lemmas.Nat.{and_le_l, leading_top}
-use Rattle.std.proofs.lemmas.Nat.Bits.{bit_at_above, bit_at_and, bit_at_cat_high, bit_at-lt, bit_at_lowest, bit_at_mask_below, bit_at_mask_inside, bit_at_not, bit_at_ones, bit_at-suc, bit_at-trailing_zeros, bit_at_xor, bit_at-zero, ones_shl}
+use Rattle.py_lines.proofs.Prelude.{◌≡◌, ℕ, zero, suc, ◌+◌, ◌-◌, ◌*◌, ◌/◌, ◌%◌, ◌^◌, ◌<◌, ◌≤◌, min, true, false, eqb, bit_and, bit_xor, inl, inr, sym, ap, ◌∙◌, arith, w64, eqb-true, bit_at, trailing_zeros, count_leading_zeros, pow-suc, cases_order, and_le_l, leading_top, bit_at_above, bit_at_and, bit_at_cat_high, bit_at-lt, bit_at_lowest, bit_at_mask_below, bit_at_mask_inside, bit_at_not, bit_at_ones, bit_at-suc, bit_at-trailing_zeros, bit_at_xor, bit_at-zero, ones_shl}
 use Rattle.py_lines.specs.Private.Marks.{is_set}
 
 -- whether a bit is set whose value is known

@@ -1,13 +1,5 @@
 -- Bytes in whole sixteens of lanes, looked up in two tables by halves of them, and what the two look-ups say together.
-use Rattle.std.proofs.Common.{◌≡◌, ℕ, ◌+◌, ◌*◌, ◌/◌, ◌%◌, ◌^◌, ◌<◌, ◌≤◌, Bool, true, false, cond, eqb, List, [], ◌∷◌, drop, length, map, slice_index, slice_index_or, bit_and, replicate, refl, sym, ap, ◌∙◌, arith, w8, Fits, eqb-true}
-use Rattle.std.specs.Int.Count.{ones}
-use Rattle.std.specs.List.{count_by}
-use Rattle.std.specs.Simd.Lanes.{Each1, chunk, mask_l, top, zip2}
-use Rattle.std.proofs.lemmas.Bool.{agree_below, agree_below_at}
-use Rattle.std.proofs.lemmas.List.{ext_get_or, get_or-map, length-map}
-use Rattle.std.proofs.lemmas.List.Sums.{sum_by-take-drop}
-use Rattle.std.proofs.lemmas.Nat.{and_le_r}
-use Rattle.std.proofs.lemmas.Simd.{Each1-from_get_or, Each1-get_or, SwzOk, SwzOk-from_below, bit_mask_l, chunk-fits, mask_l-mod, ones-mask_l, get_or-chunk, get_or-swz_l_below, length-chunk, length-swz_l, splat_is_map, swz_l, zip2_of_maps, zip2_splat}
+use Rattle.py_lines.proofs.Prelude.{◌≡◌, ℕ, ◌+◌, ◌*◌, ◌/◌, ◌%◌, ◌^◌, ◌<◌, ◌≤◌, Bool, true, false, cond, eqb, List, [], ◌∷◌, drop, length, map, slice_index, slice_index_or, bit_and, replicate, refl, sym, ap, ◌∙◌, arith, w8, Fits, eqb-true, ones, count_by, Each1, chunk, mask_l, top, zip2, agree_below, agree_below_at, ext_get_or, get_or-map, length-map, sum_by-take-drop, and_le_r, Each1-from_get_or, Each1-get_or, SwzOk, SwzOk-from_below, bit_mask_l, chunk-fits, mask_l-mod, ones-mask_l, get_or-chunk, get_or-swz_l_below, length-chunk, length-swz_l, splat_is_map, swz_l, zip2_of_maps, zip2_splat}
 use Rattle.py_lines.specs.Private.Marks.{is_set}
 use Rattle.py_lines.proofs.Text.Lanes.{Shows, tops}
 

@@ -1,16 +1,5 @@
 -- The marks of a text after some of it is passed.
-use Rattle.std.proofs.lemmas.Bool.Decides.{nat_tests}
-use Rattle.std.proofs.Common.{◌≡◌, ℕ, ◌+◌, ◌-◌, ◌*◌, ◌%◌, ◌^◌, ◌<◌, ◌≤◌, Bool, true, false, ◌&&◌, ◌||◌, not, eqb, Some, List, length, slice_index, zero, suc, cond, max, ◌/◌, bit_and, bit_or, bit_xor, refl, sym, ap, ◌∙◌, inl, inr, arith, w64, ◌++◌, drop, replicate, le_of_eq, length-append, length-drop, get_or-drop}
-use Rattle.std.specs.Int.{bit_at, trailing_zeros}
-use Rattle.std.specs.Int.Count.{count_leading_zeros, ones, ones-le, ones_step}
-use Rattle.std.proofs.Math.Nat.{pow-suc}
-use Rattle.std.specs.List.{count_by}
-use Rattle.std.specs.Prelude.{nat_lt}
-use Rattle.std.proofs.lemmas.Bool.{cases_Bool, cases_eq, cases_lt, le-leb, le-ltb, lt-ltb}
-use Rattle.std.proofs.lemmas.List.{at_drop_more, drop_all, get_or_append_left}
-use Rattle.std.proofs.lemmas.List.Folds.{sum_by-replicate}
-use Rattle.std.proofs.lemmas.List.Sums.{sum_by-append, sum_by-take-drop}
-use Rattle.std.proofs.lemmas.Nat.Bits.{bit_at_lowest, bit_at-suc, bit_at_set_other, bit_at_set_same}
+use Rattle.py_lines.proofs.Prelude.{nat_tests, ◌≡◌, ℕ, ◌+◌, ◌-◌, ◌*◌, ◌%◌, ◌^◌, ◌<◌, ◌≤◌, Bool, true, false, ◌&&◌, ◌||◌, not, eqb, Some, List, length, slice_index, zero, suc, cond, max, ◌/◌, bit_and, bit_or, bit_xor, refl, sym, ap, ◌∙◌, inl, inr, arith, w64, ◌++◌, drop, replicate, le_of_eq, length-append, length-drop, get_or-drop, bit_at, trailing_zeros, count_leading_zeros, ones, ones-le, ones_step, pow-suc, count_by, nat_lt, cases_Bool, cases_eq, cases_lt, le-leb, le-ltb, lt-ltb, at_drop_more, drop_all, get_or_append_left, sum_by-replicate, sum_by-append, sum_by-take-drop, bit_at_lowest, bit_at-suc, bit_at_set_other, bit_at_set_same}
 use Rattle.memchr.specs.Find.{is_byte}
 use Rattle.py_lines.specs.declared.marks.Marks.{Marks}
 use Rattle.py_lines.specs.Balance.{is_closing, is_opening}
@@ -311,14 +300,14 @@ module _ (text : List ℕ) (from : ℕ) (m : Marks) (there : from ≤ length tex
     bits = λ k less. bits k less ∙ mark k;
     feeds = λ k less. feeds k less ∙ feed k;
   } where
-      inside : (k : ℕ) → nat_lt k (length rest) ≡ nat_lt (m.base + k) (length text)
-      inside k = elim (cases_lt k (length rest)) [
-        | inl low ↦ lt-ltb _ _ low ∙ sym (lt-ltb _ _ (omega (arith, low, size, base)))
-        | inr high ↦ le-ltb _ _ high ∙ sym (le-ltb _ _ (omega (arith, high, size, base, there)))
-      ]
+    inside : (k : ℕ) → nat_lt k (length rest) ≡ nat_lt (m.base + k) (length text)
+    inside k = elim (cases_lt k (length rest)) [
+      | inl low ↦ lt-ltb _ _ low ∙ sym (lt-ltb _ _ (omega (arith, low, size, base)))
+      | inr high ↦ le-ltb _ _ high ∙ sym (le-ltb _ _ (omega (arith, high, size, base, there)))
+    ]
 
-      mark : (k : ℕ) → is_mark rest 0 k ≡ is_mark text from (m.base + k)
-      mark k = rw (inside k, here k, le-leb 0 k (omega arith), le-leb from (m.base + k) (omega (arith, base))) refl
+    mark : (k : ℕ) → is_mark rest 0 k ≡ is_mark text from (m.base + k)
+    mark k = rw (inside k, here k, le-leb 0 k (omega arith), le-leb from (m.base + k) (omega (arith, base))) refl
 
-      feed : (k : ℕ) → is_feed rest k ≡ is_feed text (m.base + k)
-      feed k = rw (inside k, here k) refl
+    feed : (k : ℕ) → is_feed rest k ≡ is_feed text (m.base + k)
+    feed k = rw (inside k, here k) refl

@@ -1,9 +1,5 @@
 -- The byte that a character begins with tells the character where it is ASCII.
-use Rattle.std.proofs.Common.{◌≡◌, ℕ, ◌<◌, ◌==◌, false, slice_index, sym, ap, ◌∙◌, arith, ⊎_elim}
-use Rattle.std.specs.Prelude.{encode_utf8}
-use Rattle.std.proofs.lemmas.Bool.{cases_lt, eqb-true, false_from_ne_true}
-use Rattle.std.proofs.lemmas.Str.{encode_ascii}
-use Rattle.std.proofs.Math.Utf8.{low_scalar}
+use Rattle.py_lines.proofs.Prelude.{◌≡◌, ℕ, ◌<◌, ◌==◌, false, slice_index, sym, ap, ◌∙◌, arith, ⊎_elim, encode_utf8, cases_lt, eqb-true, false_from_ne_true, encode_ascii, low_scalar}
 use Rattle.py_lines.specs.Private.Scan.{IsFirstByte}
 use Rattle.py_lines.proofs.Text.HighBytes.{high_bytes}
 

@@ -1,14 +1,5 @@
 -- The character that bytes begin with.
-use Rattle.std.proofs.lemmas.Bool.Decides.{nat_tests}
-use Rattle.std.proofs.Common.{◌≡◌, ◌==◌, Bool, true, false, ℕ, ◌+◌, ◌-◌, ◌<◌, ◌≤◌, Option, List, [], ◌∷◌, ◌++◌, length, take, drop, slice_get, sym, ap, ◌∙◌, subst, append_assoc, arith, length-append, length-take, take-append-drop}
-use Rattle.std.specs.Prelude.{min, encode_utf8, encode_utf8_all, IsUtf8, MatchOption}
-use Rattle.std.specs.Str.{StartsWithNoChar, all_scalars, chars}
-use Rattle.std.specs.Char.{IsScalar, len_utf8}
-use Rattle.std.proofs.Math.Nat.{le-min}
-use Rattle.std.proofs.lemmas.Bool.{and_parts}
-use Rattle.std.proofs.lemmas.List.{take-take}
-use Rattle.std.proofs.lemmas.Str.{chars_from_encodes, length-encode, len_utf8_bounds}
-use Rattle.std.proofs.Math.Seq.{take-add, take-append_seam, drop-append_seam}
+use Rattle.py_lines.proofs.Prelude.{nat_tests, ◌≡◌, ◌==◌, Bool, true, false, ℕ, ◌+◌, ◌-◌, ◌<◌, ◌≤◌, Option, List, [], ◌∷◌, ◌++◌, length, take, drop, slice_get, sym, ap, ◌∙◌, subst, append_assoc, arith, length-append, length-take, take-append-drop, min, encode_utf8, encode_utf8_all, IsUtf8, MatchOption, StartsWithNoChar, all_scalars, chars, IsScalar, len_utf8, le-min, and_parts, take-take, chars_from_encodes, length-encode, len_utf8_bounds, take-add, take-append_seam, drop-append_seam}
 use Rattle.py_lines.specs.Piece.{begins}
 use Rattle.py_lines.specs.Private.Run.{BeginsWith}
 

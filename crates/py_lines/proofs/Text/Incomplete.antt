@@ -1,15 +1,7 @@
 -- Which bytes that begin no character more bytes may complete, by what `error_len` says, and after how many bytes of characters they stand.
-use Rattle.std.proofs.lemmas.Bool.Decides.{nat_tests}
-use Rattle.std.proofs.Common.{◌≡◌, ℕ, ◌+◌, ◌-◌, ◌*◌, ◌/◌, ◌<◌, ◌≤◌, ◌⊎◌, Bool, true, false, cond, Option, None, Some, List, [], ◌∷◌, ◌++◌, length, take, drop, refl, sym, ap, ◌∙◌, subst, ⊎_elim, inl, inr, arith}
-use Rattle.std.specs.Prelude.{nat_lt, encode_utf8_all, is_some}
-use Rattle.std.specs.Str.{StartsWithNoChar, IsUtf8, IsValidUpTo}
+use Rattle.py_lines.proofs.Prelude.{nat_tests, ◌≡◌, ℕ, ◌+◌, ◌-◌, ◌*◌, ◌/◌, ◌<◌, ◌≤◌, ◌⊎◌, Bool, true, false, cond, Option, None, Some, List, [], ◌∷◌, ◌++◌, length, take, drop, refl, sym, ap, ◌∙◌, subst, ⊎_elim, inl, inr, arith, nat_lt, encode_utf8_all, is_some, StartsWithNoChar, IsUtf8, IsValidUpTo, utf8_error_len, error_len_of_some, error_len_after_one, error_len_after_two, second_byte_min, second_byte_max, is_in_range, IsInRange, IsOutOfRange, cases_lt, and_parts, le-ltb, ne_eqb, cases_Bool, next, low_scalar, drop_all, take_all}
 use Rattle.py_lines.proofs.Text.Utf8Prefixes.{nothing_bad, opening_text}
-use Rattle.std.specs.Str.Lossy.{utf8_error_len, error_len_of_some, error_len_after_one, error_len_after_two, second_byte_min, second_byte_max}
-use Rattle.std.specs.Int.{is_in_range, IsInRange, IsOutOfRange}
-use Rattle.std.proofs.lemmas.Bool.{cases_lt, and_parts, le-ltb, ne_eqb, cases_Bool}
-use Rattle.std.proofs.Math.Utf8.{next, low_scalar}
 use Rattle.py_lines.proofs.Text.Utf8Shapes.{Follows, no_longer, one, two, three, four, high_scalar}
-use Rattle.std.proofs.lemmas.List.{drop_all, take_all}
 use Rattle.py_lines.specs.Settled.{IsHopeless}
 
 -- the second byte lies where the first one allows it

@@ -1,17 +1,6 @@
 -- Lanes that pass a test, marked by masks.
-use Rattle.std.proofs.Common.{◌≡◌, ℕ, zero, suc, ◌%◌, ◌^◌, ◌≤◌, ◌<◌, ◌&&◌, ◌||◌, not, List, [], ◌∷◌, Bool, true, false, cond, ◌+◌, ◌-◌, ◌*◌, ◌/◌, drop, slice_index, length, map, ◌++◌, replicate, refl, ap, ◌∙◌, arith, w8, w64, bit_and, bit_or, to_z, of_z}
-use Rattle.std.specs.List.{prefix_len}
-use Rattle.std.specs.Int.{bit_not, trailing_ones}
-use Rattle.std.specs.Int.Count.{count_trailing_zeros}
-use Rattle.std.proofs.Math.Nat.{one-le-pow, pow-le-pow_right, pow-suc}
-use Rattle.std.specs.Simd.Lanes.{chunk, zip2, mask_l, top}
-use Rattle.std.proofs.lemmas.Simd.{chunk-drop, length-chunk, map-map, mask_l-lt, mask_l-mod, zip2_of_maps, zip2_splat}
+use Rattle.py_lines.proofs.Prelude.{◌≡◌, ℕ, zero, suc, ◌%◌, ◌^◌, ◌≤◌, ◌<◌, ◌&&◌, ◌||◌, not, List, [], ◌∷◌, Bool, true, false, cond, ◌+◌, ◌-◌, ◌*◌, ◌/◌, drop, slice_index, length, map, ◌++◌, replicate, refl, ap, ◌∙◌, arith, w8, w64, bit_and, bit_or, to_z, of_z, prefix_len, bit_not, trailing_ones, count_trailing_zeros, one-le-pow, pow-le-pow_right, pow-suc, chunk, zip2, mask_l, top, chunk-drop, length-chunk, map-map, mask_l-lt, mask_l-mod, zip2_of_maps, zip2_splat, length-map, get_or-drop, get_or-append_right, get_or-replicate, prefix_len-append, prefix_len-le-length, prefix_len_passes, prefix_len_stops, nat_tests, min}
 use lib.Count.{under}
-use Rattle.std.proofs.lemmas.List.{length-map, get_or-drop, get_or-append_right, get_or-replicate}
-use Rattle.std.proofs.lemmas.List.Folds.{prefix_len-append}
-use Rattle.std.proofs.lemmas.List.Sums.{prefix_len-le-length, prefix_len_passes, prefix_len_stops}
-use Rattle.std.proofs.lemmas.Bool.Decides.{nat_tests}
-use Rattle.std.specs.Prelude.{min}
 use Rattle.py_lines.specs.Private.Run.{IsRunOf, Marks}
 
 -- the same of a mask as a function has it

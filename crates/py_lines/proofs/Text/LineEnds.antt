@@ -1,11 +1,7 @@
 -- Line ends, counted in the bytes of a text: the bytes of other characters are neither LF nor CR.
-use Rattle.std.proofs.Common.{◌≡◌, ℕ, zero, suc, ◌+◌, ◌-◌, ◌<◌, ◌≤◌, true, false, cond, not, ◌&&◌, eqb, List, [], ◌∷◌, ◌++◌, length, take, drop, refl, ⊎_elim, arith}
-use Rattle.std.specs.Prelude.{encode_utf8_all}
-use Rattle.std.specs.List.{count_by, ends_with, list_all, starts_with}
+use Rattle.py_lines.proofs.Prelude.{◌≡◌, ℕ, zero, suc, ◌+◌, ◌-◌, ◌<◌, ◌≤◌, true, false, cond, not, ◌&&◌, eqb, List, [], ◌∷◌, ◌++◌, length, take, drop, refl, ⊎_elim, arith, encode_utf8_all, count_by, ends_with, list_all, starts_with, sum_by-cons, cases_lt, false_from_ne_true}
 use mir.Val.{bool_byte}
 use native.Mathlib.Numerals.{unary_clauses}
-use Rattle.std.proofs.lemmas.List.Sums.{sum_by-cons}
-use Rattle.std.proofs.lemmas.Bool.{cases_lt, false_from_ne_true}
 use Rattle.memchr.specs.Find.{Nowhere, Passes, is_byte}
 use Rattle.py_lines.specs.Character.{is_break, is_line_feed, is_return}
 use Rattle.py_lines.specs.LogicalLine.{line_ends}

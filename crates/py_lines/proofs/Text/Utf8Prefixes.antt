@@ -1,12 +1,5 @@
 -- Characters that a text begins with.
-use Rattle.std.proofs.Common.{◌≡◌, ℕ, ◌+◌, ◌<◌, ◌≤◌, length, take, drop, arith, length-append, length-take-le, true, List, [], ◌∷◌, ◌++◌, refl, sym, ap, ◌∙◌, subst, append_assoc, append-nil}
-use Rattle.std.specs.Prelude.{encode_utf8_all, encode_utf8}
-use Rattle.std.specs.Str.{all_scalars, StartsWithNoChar, IsValidUpTo, IsUtf8}
-use Rattle.std.specs.Char.{IsScalar}
-use Rattle.std.proofs.lemmas.Str.{cons_from_encodes, encode_same, length-encode, len_utf8_bounds, IsUtf8-append, IsUtf8-encode, encodes-append}
-use Rattle.std.proofs.lemmas.List.{drop_all, length-drop}
-use Rattle.std.proofs.Math.Seq.{take-add, take-append_seam}
-use Rattle.std.proofs.lemmas.Bool.{and_parts, and_from}
+use Rattle.py_lines.proofs.Prelude.{◌≡◌, ℕ, ◌+◌, ◌<◌, ◌≤◌, length, take, drop, arith, length-append, length-take-le, true, List, [], ◌∷◌, ◌++◌, refl, sym, ap, ◌∙◌, subst, append_assoc, append-nil, encode_utf8_all, encode_utf8, all_scalars, StartsWithNoChar, IsValidUpTo, IsUtf8, IsScalar, cons_from_encodes, encode_same, length-encode, len_utf8_bounds, IsUtf8-append, IsUtf8-encode, encodes-append, drop_all, length-drop, take-add, take-append_seam, and_parts, and_from}
 
 -- characters whose bytes begin with those of others begin with these
 pub prefix_chars : (prefix all : List ℕ) (rest : List ℕ) → encode_utf8_all all ≡ encode_utf8_all prefix ++ rest

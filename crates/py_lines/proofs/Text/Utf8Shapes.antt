@@ -1,11 +1,5 @@
 -- The bytes of a character, by how many there are.
-use Rattle.std.proofs.Common.{◌≡◌, ℕ, ◌+◌, ◌-◌, ◌*◌, ◌/◌, ◌<◌, ◌≤◌, true, List, [], ◌∷◌, ◌++◌, length, take, drop, sym, ap, ◌∙◌, subst, ⊎_elim, arith, length-append}
-use Rattle.std.proofs.Math.ListN.{get_or}
-use Rattle.std.proofs.Math.Utf8.{scalar, next, encode, scalar_cases}
-use Rattle.std.specs.Str.{StartsWithNoChar}
-use Rattle.std.proofs.Math.Seq.{take-append_seam}
-use Rattle.std.proofs.lemmas.List.{take-append-drop, take-append-le}
-use Rattle.std.proofs.lemmas.Bool.{cases_lt, lt-ltb, le-ltb, le-leb}
+use Rattle.py_lines.proofs.Prelude.{◌≡◌, ℕ, ◌+◌, ◌-◌, ◌*◌, ◌/◌, ◌<◌, ◌≤◌, true, List, [], ◌∷◌, ◌++◌, length, take, drop, sym, ap, ◌∙◌, subst, ⊎_elim, arith, length-append, get_or, scalar, next, encode, scalar_cases, StartsWithNoChar, take-append_seam, take-append-drop, take-append-le, cases_lt, lt-ltb, le-ltb, le-leb}
 
 -- the bytes that follow a first one
 abbrev pub Follows : ℕ → Type 0

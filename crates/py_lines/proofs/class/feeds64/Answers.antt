@@ -1,5 +1,4 @@
-use Rattle.std.proofs.Common.{eqb, arith}
-use Rattle.std.proofs.lemmas.Simd.{length-chunk}
+use Rattle.py_lines.proofs.Prelude.{eqb, arith, length-chunk}
 use Rattle.memchr.specs.Find.{is_byte}
 use Rattle.py_lines.specs.Character.{is_line_feed}
 use Rattle.py_lines.proofs.SpecialBytes.LookUps.{bit_shown, ones_shown}

@@ -1,4 +1,4 @@
-use Rattle.std.proofs.Common.{ℕ, Bool, not, eqb, refl}
+use Rattle.py_lines.proofs.Prelude.{ℕ, Bool, not, eqb, refl}
 use Rattle.py_lines.specs.declared.class.TheConstants.{PLAIN, UPPER}
 use Rattle.py_lines.specs.Character.{is_operator, is_space}
 use Rattle.py_lines.specs.Balance.{is_closing, is_opening}

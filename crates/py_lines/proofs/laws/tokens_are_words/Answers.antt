@@ -1,4 +1,4 @@
-use Rattle.std.proofs.Common.{[]}
+use Rattle.py_lines.proofs.Prelude.{[]}
 use Rattle.py_lines.proofs.LogicalLines.Words.{words_after, same_extents}
 use Rattle.py_lines.proofs.laws.tokens_are_words.Goals as goal
 

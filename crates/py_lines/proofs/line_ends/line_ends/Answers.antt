@@ -1,5 +1,4 @@
-use Rattle.std.proofs.Common.{◌+◌, ap, arith, le_refl, length-drop}
-use Rattle.std.proofs.lemmas.List.{take_rest}
+use Rattle.py_lines.proofs.Prelude.{◌+◌, ap, arith, le_refl, length-drop, take_rest}
 use Rattle.py_lines.specs.LogicalLine.{line_ends}
 use Rattle.py_lines.proofs.LineScan.LineCount.{line_ends-le}
 use Rattle.py_lines.proofs.Text.LineEnds.{ends_counted, line_ends-encoded, lone_more, none_lone}

@@ -1,4 +1,4 @@
-use Rattle.std.proofs.lemmas.List.{take_rest}
+use Rattle.py_lines.proofs.Prelude.{take_rest}
 use Rattle.py_lines.proofs.Text.LineEnds.{cut_ends}
 use Rattle.py_lines.proofs.line_ends.line_ends_up_to.Goals as goal
 

@@ -1,5 +1,4 @@
-use Rattle.std.proofs.Common.{◌≡◌, ◌+◌, ◌≤◌, length}
-use Rattle.std.specs.List.{count_by}
+use Rattle.py_lines.proofs.Prelude.{◌≡◌, ◌+◌, ◌≤◌, length, count_by}
 use Rattle.memchr.specs.Find.{is_byte}
 use Rattle.py_lines.proofs.line_ends.line_feeds.Given as goal
 

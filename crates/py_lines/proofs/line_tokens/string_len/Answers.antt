@@ -1,4 +1,4 @@
-use Rattle.std.proofs.Common.{sym, ◌∙◌, subst, arith, refl, encode_utf8_all, length-take-le}
+use Rattle.py_lines.proofs.Prelude.{sym, ◌∙◌, subst, arith, refl, encode_utf8_all, length-take-le}
 use Rattle.py_lines.specs.Piece.{spelled, string}
 use Rattle.py_lines.specs.Private.Run.{HasWholePlainString}
 use Rattle.py_lines.proofs.FieldScans.TextLengths.{rest_of}

@@ -1,4 +1,4 @@
-use Rattle.std.proofs.Common.{arith}
+use Rattle.py_lines.proofs.Prelude.{arith}
 use Rattle.py_lines.proofs.LineTokens.FirstPieces.{is_string, word_taken}
 use Rattle.py_lines.proofs.line_tokens.word_or_string.Goals as goal
 

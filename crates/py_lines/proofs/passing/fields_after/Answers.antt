@@ -1,4 +1,4 @@
-use Rattle.std.proofs.Common.{◌∙◌, Some, arith, false, refl, subst, sym}
+use Rattle.py_lines.proofs.Prelude.{◌∙◌, Some, arith, false, refl, subst, sym}
 use Rattle.py_lines.specs.Private.Passing.{TellsFields}
 use Rattle.py_lines.proofs.PassedPieces.WordsBefore.{no_word_there, word_there}
 use Rattle.py_lines.proofs.passing.fields_after.Goals as goal

@@ -1,5 +1,4 @@
-use Rattle.std.proofs.Common.{leb, cond}
-use Rattle.std.proofs.lemmas.Simd.{zip2_splat_left}
+use Rattle.py_lines.proofs.Prelude.{leb, cond, zip2_splat_left}
 use Rattle.py_lines.proofs.Text.Lanes.{both, compared, gives}
 use Rattle.py_lines.proofs.run.between.Goals as goal
 

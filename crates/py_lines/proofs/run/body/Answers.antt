@@ -1,4 +1,4 @@
-use Rattle.std.proofs.Common.{arith}
+use Rattle.py_lines.proofs.Prelude.{arith}
 use Rattle.py_lines.specs.Private.Run.{is_body_byte}
 use Rattle.py_lines.proofs.Text.Lanes.{either, gives, none, same}
 use Rattle.py_lines.proofs.run.body.Goals as goal

@@ -1,6 +1,4 @@
-use Rattle.std.proofs.Common.{◌≡◌, ◌<◌, ℕ, Bool, List, true, rules, sym}
-use Rattle.std.proofs.lemmas.Bool.{and_parts, ltb-true}
-use Rattle.std.proofs.lemmas.List.{length-take-le}
+use Rattle.py_lines.proofs.Prelude.{◌≡◌, ◌<◌, ℕ, Bool, List, true, rules, sym, and_parts, ltb-true, length-take-le}
 use Rattle.py_lines.specs.Character.{is_space}
 use Rattle.py_lines.specs.Private.Run.{IsRunOf, Spans, is_ascii_word, is_long_byte, is_long_text_byte, stays}
 use Rattle.py_lines.specs.declared.mode.Mode.{Mode as OpenMode}
@@ -47,6 +45,15 @@ none passes bytes = search rules
 
 pub returns-in_default : goal.returns-in_default
 returns-in_default c = none (stays c.args.mode) c.args.bytes.now
+
+pub returns-in_default-2 : goal.returns-in_default-2
+returns-in_default-2 c = none (stays c.args.mode) c.args.bytes.now
+
+pub returns-in_default-3 : goal.returns-in_default-3
+returns-in_default-3 c = none (stays c.args.mode) c.args.bytes.now
+
+pub returns-in_default-4 : goal.returns-in_default-4
+returns-in_default-4 c = none (stays c.args.mode) c.args.bytes.now
 
 -- the run whose whole characters are taken
 run : (c : Joined-mode) → IsRunOf (stays c.args.mode) c.args.bytes.now c.match-mode.run

@@ -1,4 +1,4 @@
-use Rattle.std.proofs.Common.{eqb}
+use Rattle.py_lines.proofs.Prelude.{eqb}
 use Rattle.py_lines.proofs.Text.Lanes.{compared, gives}
 use Rattle.py_lines.proofs.run.equal.Goals as goal
 

@@ -1,4 +1,4 @@
-use Rattle.std.proofs.Common.{not, eqb, refl}
+use Rattle.py_lines.proofs.Prelude.{not, eqb, refl}
 use Rattle.py_lines.specs.declared.run.TheConstants.{UPPER, WORD}
 use Rattle.py_lines.specs.Private.Run.{is_ascii_word, is_wide_word}
 use Rattle.py_lines.proofs.SpecialBytes.LookUps.{highs_fit, looked_up_shows, lows_fit}

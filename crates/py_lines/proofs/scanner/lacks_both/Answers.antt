@@ -1,5 +1,4 @@
-use Rattle.std.proofs.Common.{not, ap, ◌∙◌, ◌≡◌, ℕ, ◌<◌, true, false, Option, None, Some, List, length, ⊎_elim, arith, is_some}
-use Rattle.std.proofs.lemmas.Bool.{cases_lt}
+use Rattle.py_lines.proofs.Prelude.{not, ap, ◌∙◌, ◌≡◌, ℕ, ◌<◌, true, false, Option, None, Some, List, length, ⊎_elim, arith, is_some, cases_lt}
 use Rattle.memchr.specs.Find.{FindsNeedle}
 use Rattle.py_lines.specs.ScannerState.{LacksWord}
 use Rattle.py_lines.proofs.scanner.lacks_both.Goals as goal

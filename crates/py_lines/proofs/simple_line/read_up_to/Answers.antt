@@ -1,5 +1,5 @@
 use mir.Val.{bool_byte}
-use Rattle.std.proofs.Common.{◌≤◌, ℕ, Bool, true, false, arith, drop, length-drop, subst}
+use Rattle.py_lines.proofs.Prelude.{◌≤◌, ℕ, Bool, true, false, arith, drop, length-drop, subst}
 use Rattle.py_lines.specs.Private.LineTokens.{HaveReadAnyway, ReadsAnyway}
 use Rattle.py_lines.proofs.LineTokens.Anyway.{piece_read, reads_on, space_on}
 use Rattle.py_lines.proofs.simple_line.read_up_to.Goals as goal

@@ -1,4 +1,4 @@
-use Rattle.std.proofs.Common.{◌-◌, ◌+◌, ◌≤◌, ℕ}
+use Rattle.py_lines.proofs.Prelude.{◌-◌, ◌+◌, ◌≤◌, ℕ}
 use Rattle.py_lines.specs.Private.LineTokens.{HaveReadAnyway}
 use Rattle.py_lines.proofs.simple_line.read_up_to.Given as goal
 

@@ -1,8 +1,4 @@
-use Rattle.std.proofs.Common.{◌≡◌, ◌<◌, ◌≤◌, ℕ, true, length, drop, slice_index, Option, None, Some, arith}
-use Rattle.std.proofs.Math.Seq.{drop-cons}
-use Rattle.std.proofs.lemmas.Bool.{ne_eqb}
-use Rattle.std.proofs.lemmas.Bool.Decides.{nat_tests}
-use Rattle.std.proofs.lemmas.List.{get_or_past}
+use Rattle.py_lines.proofs.Prelude.{◌≡◌, ◌<◌, ◌≤◌, ℕ, true, length, drop, slice_index, Option, None, Some, arith, drop-cons, ne_eqb, nat_tests, get_or_past}
 use Rattle.py_lines.specs.Character.{is_brace, is_break, is_quote}
 use Rattle.py_lines.specs.declared.mode.Mode.TheVariants as opens
 use Rattle.py_lines.specs.Private.Scan.{host_in, escape_in}

@@ -1,8 +1,4 @@
-use Rattle.std.proofs.Common.{◌≡◌, ◌∙◌, ◌==◌, ℕ, true, false, List, ◌∷◌, drop, slice_index, ap, inl, inr, arith, refl, subst}
-use Rattle.std.proofs.lemmas.Bool.{ne_eqb}
-use Rattle.std.proofs.lemmas.Bool.Decides.{nat_tests}
-use Rattle.std.proofs.lemmas.List.{take_rest}
-use Rattle.std.specs.Str.{byte}
+use Rattle.py_lines.proofs.Prelude.{◌≡◌, ◌∙◌, ◌==◌, ℕ, true, false, List, ◌∷◌, drop, slice_index, ap, inl, inr, arith, refl, subst, ne_eqb, nat_tests, take_rest, byte}
 use Rattle.py_lines.specs.Character.{is_backslash, is_break, is_quote}
 use Rattle.py_lines.specs.Piece.{begins}
 use Rattle.py_lines.specs.declared.host.Region.{Region}

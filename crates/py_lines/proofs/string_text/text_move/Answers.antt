@@ -1,6 +1,4 @@
-use Rattle.std.proofs.Common.{◌≡◌, ◌∙◌, ℕ, Option, Some, None, List, drop, slice_index, sym, ap, subst, arith}
-use Rattle.std.proofs.lemmas.Bool.{ne_eqb}
-use Rattle.std.proofs.lemmas.Bool.Decides.{nat_tests}
+use Rattle.py_lines.proofs.Prelude.{◌≡◌, ◌∙◌, ℕ, Option, Some, None, List, drop, slice_index, sym, ap, subst, arith, ne_eqb, nat_tests}
 use Rattle.py_lines.specs.Character.{is_backslash, is_break}
 use Rattle.py_lines.specs.Private.Run.{BeginsWith}
 use Rattle.py_lines.specs.Private.Scan.{IsTextAt, mode_from, quotes_in}
@@ -36,12 +34,12 @@ come_here c at o told = rw (← told) (elim c.if-c-quote-2.branch [
       rw size (grows_other c.args.mode _ _ _ bytes c.requires.quote c.in-Some.ensures (ne_eqb _ c.args.quote w.if-c-quote-2.false)
       (grind (arith, nat_tests)) (grind (arith, nat_tests)) at)
 ]) where
-    bytes : List ℕ
-    bytes = c.args.bytes.now
+  bytes : List ℕ
+  bytes = c.args.bytes.now
 
-    quotes : c.in-Some.c ≡ c.args.quote → c.if-c-quote-2.len ≡ quotes_in bytes → (c.if-c-quote-2.len ≡ Some 3 → ⊥) → Comes c.args.mode bytes c.if-c-quote-2.len
-    quotes same is other = subst (Comes c.args.mode bytes) (sym is)
-        ((quotes_come c.args.mode _ _ _ bytes c.requires.quote c.in-Some.ensures same (grind arith) at).1 (λ three. other (is ∙ three)))
+  quotes : c.in-Some.c ≡ c.args.quote → c.if-c-quote-2.len ≡ quotes_in bytes → (c.if-c-quote-2.len ≡ Some 3 → ⊥) → Comes c.args.mode bytes c.if-c-quote-2.len
+  quotes same is other = subst (Comes c.args.mode bytes) (sym is)
+      ((quotes_come c.args.mode _ _ _ bytes c.requires.quote c.in-Some.ensures same (grind arith) at).1 (λ three. other (is ∙ three)))
 
 pub returns-in-Some-len-clause-does : goal.returns-in-Some-len-clause-does
 returns-in-Some-len-clause-does c at = come_here (goal.at.returns-in-Some-len-clause-does c).Joined-c-quote-2 at (Some c.in-Some-len.len) c.in-Some-len.is

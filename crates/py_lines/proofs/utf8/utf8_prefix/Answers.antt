@@ -1,5 +1,4 @@
-use Rattle.std.proofs.Common.{◌≡◌, ℕ, length, take, sym, ap, ◌∙◌, arith, length-take-le, take_all}
-use Rattle.std.specs.Str.{IsValidUpTo}
+use Rattle.py_lines.proofs.Prelude.{◌≡◌, ℕ, length, take, sym, ap, ◌∙◌, arith, length-take-le, take_all, IsValidUpTo}
 use Rattle.py_lines.proofs.Text.Utf8Prefixes.{whole_text, front_text}
 use Rattle.py_lines.proofs.utf8.utf8_prefix.Goals as goal
 use Rattle.py_lines.proofs.utf8.utf8_prefix.Goals.{After-valid_up_to}

@@ -1,4 +1,4 @@
-use Rattle.std.proofs.Common.{arith, ◌∙◌}
+use Rattle.py_lines.proofs.Prelude.{arith, ◌∙◌}
 use Rattle.py_lines.specs.Private.FieldText.{is_code_bracket}
 use Rattle.py_lines.proofs.FieldScans.TextLengths.{code_begun, code_on}
 use Rattle.py_lines.proofs.whole_strings.code_len.Goals as goal

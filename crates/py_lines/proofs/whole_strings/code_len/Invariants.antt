@@ -1,4 +1,4 @@
-use Rattle.std.proofs.Common.{length, ◌-◌}
+use Rattle.py_lines.proofs.Prelude.{length, ◌-◌}
 use Rattle.py_lines.specs.Private.FieldText.{HasCode}
 use Rattle.py_lines.proofs.whole_strings.code_len.Given as goal
 

@@ -1,4 +1,4 @@
-use Rattle.std.proofs.Common.{arith}
+use Rattle.py_lines.proofs.Prelude.{arith}
 use Rattle.py_lines.proofs.FieldScans.TextLengths.{plain_field, specified_field}
 use Rattle.py_lines.proofs.whole_strings.field_len.Goals as goal
 use Rattle.py_lines.proofs.whole_strings.field_len.Goals.{then-len-bytes+then-bytes-len-eq58, else-len-bytes}

@@ -1,4 +1,4 @@
-use Rattle.std.proofs.Common.{length, ◌-◌}
+use Rattle.py_lines.proofs.Prelude.{length, ◌-◌}
 use Rattle.py_lines.specs.Private.LongStrings.{TakesLong}
 use Rattle.py_lines.specs.Private.Scan.{with_bytes}
 use Rattle.py_lines.proofs.whole_strings.long_text_len.Given as goal

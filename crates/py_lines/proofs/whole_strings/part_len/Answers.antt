@@ -1,5 +1,4 @@
-use Rattle.std.proofs.Common.{arith, refl}
-use Rattle.std.proofs.lemmas.Bool.Decides.{nat_tests}
+use Rattle.py_lines.proofs.Prelude.{arith, refl, nat_tests}
 use Rattle.py_lines.specs.Character.{is_brace, is_break}
 use Rattle.py_lines.proofs.FieldScans.TextLengths.{brace_part, field_part, two_part}
 use Rattle.py_lines.proofs.FieldScans.Texts.{escape_leads, two_lead}

@@ -1,4 +1,4 @@
-use Rattle.std.proofs.Common.{◌+◌, ◌<◌, ◌≤◌, length, arith}
+use Rattle.py_lines.proofs.Prelude.{◌+◌, ◌<◌, ◌≤◌, length, arith}
 use Rattle.py_lines.proofs.FieldScans.TextLengths.{code_counted, code_counted_on, quote_next, rest_within, text_within}
 use Rattle.py_lines.proofs.whole_strings.simple_code_len.Goals as goal
 use Rattle.py_lines.proofs.whole_strings.simple_code_len.Goals.{In-Some}

@@ -1,4 +1,4 @@
-use Rattle.std.proofs.Common.{length, ◌-◌}
+use Rattle.py_lines.proofs.Prelude.{length, ◌-◌}
 use Rattle.py_lines.proofs.FieldScans.TextLengths.{IsCodeCounted}
 use Rattle.py_lines.proofs.whole_strings.simple_code_len.Given as goal
 

@@ -1,4 +1,4 @@
-use Rattle.std.proofs.Common.{arith}
+use Rattle.py_lines.proofs.Prelude.{arith}
 use Rattle.py_lines.proofs.FieldScans.TextLengths.{text_begun, text_on}
 use Rattle.py_lines.proofs.whole_strings.text_len.Goals as goal
 

@@ -1,4 +1,4 @@
-use Rattle.std.proofs.Common.{arith}
+use Rattle.py_lines.proofs.Prelude.{arith}
 use Rattle.py_lines.proofs.LineScan.PlainStrings.{text_whole}
 use Rattle.py_lines.proofs.whole_strings.whole_plain_string.Goals as goal
 

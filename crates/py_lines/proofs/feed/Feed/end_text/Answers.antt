@@ -1,6 +1,4 @@
-use Rattle.std.proofs.Common.{◌≢◌, ◌∙◌, List, ℕ, Ok, Some, sym, subst, arith}
-use Rattle.std.specs.Vec.{vec_len}
-use Rattle.std.proofs.lemmas.Bool.{eqb-false}
+use Rattle.py_lines.proofs.Prelude.{◌≢◌, ◌∙◌, List, ℕ, Ok, Some, sym, subst, arith, vec_len, eqb-false}
 use Rattle.py_lines.specs.Private.Feed.{EndsText, HasRoomAt}
 use Rattle.py_lines.specs.Private.LineState.{HasNextFault, HasNextLine}
 use Rattle.py_lines.specs.declared.line_state.LineState.{LineState}

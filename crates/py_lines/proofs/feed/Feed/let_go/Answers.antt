@@ -1,6 +1,5 @@
-use Rattle.std.proofs.Common.{◌≡◌, ℕ, drop, None, sym, ap, ◌∙◌, arith, rules}
-use Rattle.std.specs.Global.{Vec}
-use Rattle.std.proofs.lemmas.List.{drop_all}
+use Rattle.py_lines.proofs.Feeds.ReadyLines.{held_within}
+use Rattle.py_lines.proofs.Prelude.{◌≡◌, ℕ, drop, None, sym, ap, ◌∙◌, arith, rules, Vec, drop_all}
 use Rattle.py_lines.specs.Private.Feed.{Feed, IsLineAfterHeld, LetsGo, LineState}
 use Rattle.py_lines.specs.Private.LineState.{BeginsAnew, passed}
 use Rattle.py_lines.proofs.Feeds.OpenLine.{begun_open}
@@ -30,3 +29,9 @@ returns c =
           (w.clear.ensures.items ∙ sym (drop_all f.state.scan.stop f.held.items (omega (arith, w.if-stop-len.true, c.len.ensures)))) c.pass.ensures c.requires.after c.restart.ensures
       | else-stop-len w ↦ lets_go f c.if-stop-len.self c.pass.new.self c.restart.new.self _ w.self-is (search rules) c.pass.ensures c.requires.after c.restart.ensures
     ]
+
+pub pass-requires : goal.pass-requires
+pass-requires c = let (end_len, h) = c.requires.holds in omega (arith, held_within c.args.self.now end_len h, c.requires.room.fits)
+
+pub drain-requires-clause-in_bounds : goal.drain-requires-clause-in_bounds
+drain-requires-clause-in_bounds c = let (end_len, h) = c.requires.holds in omega (arith, held_within c.args.self.now end_len h)

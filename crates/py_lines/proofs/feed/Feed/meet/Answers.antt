@@ -1,7 +1,5 @@
-use Rattle.std.proofs.Common.{◌≡◌, ℕ, ◌+◌, ◌-◌, ◌==◌, Ok, sym, ap, ◌∙◌, subst, arith, is_some, length, length-take}
-use Rattle.std.proofs.lemmas.Grind.{get_or_default_zero}
+use Rattle.py_lines.proofs.Prelude.{◌≡◌, ℕ, ◌+◌, ◌-◌, ◌==◌, Ok, sym, ap, ◌∙◌, subst, arith, is_some, length, length-take, get_or_default_zero, vec_len}
 use Rattle.py_lines.specs.Private.Feed.{Feed, Meets, Stop, StopsHeld}
-use Rattle.std.specs.Vec.{vec_len}
 use Rattle.py_lines.specs.LogicalLine.{byte_len}
 use Rattle.py_lines.specs.Settled.{IsHopeless}
 use Rattle.py_lines.proofs.Readers.LineAnswers.{all_within}
@@ -53,6 +51,9 @@ hopeless c =
           (ap is_some (sym c.error_len.ensures) ∙ sym c.is_some.ensures ∙ c.if-is_some.true))),
     )
 
+pub fail-requires-clause-cut : goal.fail-requires-clause-cut
+fail-requires-clause-cut c = let (s, (at, never)) = hopeless c in (within_held c.args.self.now s.read s.rest s.spell _ (all_within s.read _ at)).0
+
 pub fail-requires-in-Wrong-clause-cut : goal.fail-requires-in-Wrong-clause-cut
 fail-requires-in-Wrong-clause-cut c =
     let f = c.args.self.now in let s = refused (goal.at.fail-requires-in-Wrong-clause-cut c).In-Wrong in let no = s.stops in
@@ -74,8 +75,25 @@ returns-in_default c =
 pub returns-in-Wrong : goal.returns-in-Wrong
 returns-in-Wrong c = held_refused c.args.self.now c.fail-in-Wrong.new.self c.args.before c.fail-in-Wrong.result c.requires.not_ready _ (refused (goal.at.returns-in-Wrong c).In-Wrong) c.fail-in-Wrong.ensures
 
+pub fail-requires-clause-room : goal.fail-requires-clause-room
+fail-requires-clause-room c = c.requires.room
+
+pub fail-requires-in-Wrong-clause-room : goal.fail-requires-in-Wrong-clause-room
+fail-requires-in-Wrong-clause-room c = c.requires.room
+
+pub overflow_add-before : goal.overflow_add-before
+overflow_add-before c = omega (arith, c.requires.within, c.requires.room.fits)
+
 pub overflow_sub-result : goal.overflow_sub-result
 overflow_sub-result c = omega (arith, c.requires.within, c.len.ensures, ap length c.truncate.ensures.items, length-take c.max.result c.args.self.now.held.items, c.max.ensures)
+
+pub overflow_sub-result-in_default : goal.overflow_sub-result-in_default
+overflow_sub-result-in_default c =
+    let same : c.in_default.self ≡ c.args.self.now = elim c.in_default.branch [
+      | in_default-via-in-Err+else-is_some w ↦ w.self-is
+      | in_default-via-in_default w ↦ w.self-is
+    ] in
+    omega (arith, c.len-in_default.ensures, ap (λ (x : Feed). vec_len x.held) same, c.requires.within)
 
 pub overflow_add-scanned : goal.overflow_add-scanned
 overflow_add-scanned c = let (s, (at, never)) = hopeless c in omega (arith, (within_held c.args.self.now s.read s.rest s.spell _ (all_within s.read _ at)).0, c.requires.room.fits)

@@ -1,4 +1,4 @@
-use Rattle.std.proofs.Common.{ℕ, List, sym, ap, subst, length, take, arith}
+use Rattle.py_lines.proofs.Prelude.{ℕ, List, sym, ap, subst, length, take, arith}
 use Rattle.py_lines.specs.Private.Feed.{HasReadTokens, HoldsLine, HoldsSo, LineState}
 use Rattle.py_lines.specs.Private.LineTokens.{HoldsTokens, IsLineAfter, IsLineText}
 use Rattle.py_lines.proofs.Feeds.ReadyLines.{held_line_text, held_within, some_read}

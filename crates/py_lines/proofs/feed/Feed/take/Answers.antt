@@ -1,4 +1,4 @@
-use Rattle.std.proofs.Common.{◌++◌, ap, refl, sym, ◌∙◌, subst, length, take, length-append, length-take, arith}
+use Rattle.py_lines.proofs.Prelude.{◌++◌, ap, refl, sym, ◌∙◌, subst, length, take, length-append, length-take, arith, ◌-◌, drop, length-take-le}
 use Rattle.py_lines.specs.Private.LineState.{first_mode}
 use Rattle.py_lines.specs.Private.LineScan.{Reached, ScansIn}
 use Rattle.py_lines.specs.Private.Feed.{Stop}
@@ -67,8 +67,25 @@ returns-in-Err c =
     rw c.into.ensures (begun_unchanged f (record f { held = c.extend_from_slice-2.new.self; state = c.restart.new.self }) (record f.state { scan = c.extend-stop-2.new.self }) c.requires.not_ready
     (record { held = c.in-Err.ensures.items; place = refl; line = refl; ended = refl; fault = refl }) c.restart.ensures)
 
+pub slice_bounds-extend_from_slice-end : goal.slice_bounds-extend_from_slice-end
+slice_bounds-extend_from_slice-end c = sym (length-take-le c.min.result c.args.piece.now (omega (arith, c.min.ensures)))
+
+pub slice_bounds-extend-count : goal.slice_bounds-extend-count
+slice_bounds-extend-count c = omega (arith, c.if-scanned-before.true, c.len-before.ensures, ap length c.deref.ensures.value, ap length c.in_ok-extend_from_slice.ensures.items, length-append c.args.self.now.held.items (take c.min.result c.args.piece.now))
+
+pub extend-stop-requires-clause-bytes : goal.extend-stop-requires-clause-bytes
+extend-stop-requires-clause-bytes c =
+    let stop = c.args.self.now.state.scan.stop in let held = c.deref.result.now in
+    omega (arith, c.if-scanned-before.true, c.len-before.ensures, length-take (length held - stop) (drop stop held), ap length c.deref.ensures.value, ap length c.in_ok-extend_from_slice.ensures.items, length-append c.args.self.now.held.items (take c.min.result c.args.piece.now), length-take c.min.result c.args.piece.now, c.requires.room.fits)
+
+pub meet-requires-clause-within : goal.meet-requires-clause-within
+meet-requires-clause-within c = omega (arith, c.len-before.ensures, ap length c.in_ok-extend_from_slice.ensures.items, length-append c.args.self.now.held.items (take c.min.result c.args.piece.now))
+
 pub meet-requires-clause-room : goal.meet-requires-clause-room
 meet-requires-clause-room c = record { fits = omega (arith, ap length c.in_ok-extend_from_slice.ensures.items, length-append c.args.self.now.held.items (take c.min.result c.args.piece.now), length-take c.min.result c.args.piece.now, c.requires.room.fits); few_lines = c.requires.room.few_lines }
+
+pub slice_bounds-extend_from_slice-end-2 : goal.slice_bounds-extend_from_slice-end-2
+slice_bounds-extend_from_slice-end-2 c = sym (length-take-le c.match-stop.len c.args.piece.now (held_stop (goal.at.slice_bounds-extend_from_slice-end-2 c).Joined-stop).within)
 
 pub meet-requires-2-clause-within : goal.meet-requires-2-clause-within
 meet-requires-2-clause-within c = omega (arith, c.len-before.ensures, ap length c.in_default-extend_from_slice.ensures.items, length-append c.args.self.now.held.items (take c.match-stop.len c.args.piece.now))

@@ -1,10 +1,20 @@
-use Rattle.std.proofs.Common.{ap, ◌∙◌, not, subst, length, take, length-append, length-drop, arith}
-use Rattle.std.proofs.lemmas.List.{length-take-le}
-use Rattle.py_lines.specs.Private.Feed.{EndsWithLine}
-use Rattle.std.proofs.lemmas.Result.{err_from_is_err_and}
+use Rattle.py_lines.proofs.Prelude.{ap, ◌∙◌, not, subst, length, take, length-append, length-drop, arith, length-take-le, err_from_is_err_and}
+use Rattle.py_lines.specs.Private.Feed.{EndsWithLine, StandsSo}
 use Rattle.py_lines.proofs.Feeds.FedScanner.{errs, fails_more, known_fault, meets, rest_is, settled_held, taken, takes_more, takes_short}
 use Rattle.py_lines.proofs.Feeds.ReadyLines.{none_is}
 use Rattle.py_lines.proofs.feed.Feed.take_bytes.Goals as goal
+
+pub take-requires-clause-opens : goal.take-requires-clause-opens
+take-requires-clause-opens c = subst (StandsSo c.args.self.now) c.requires.not_ready c.requires.sound.state c.in_default.is
+
+pub take-requires-clause-not_ready : goal.take-requires-clause-not_ready
+take-requires-clause-not_ready c = c.requires.not_ready
+
+pub take-requires-clause-room : goal.take-requires-clause-room
+take-requires-clause-room c = record { fits = c.requires.fits; few_lines = c.requires.sound.room.few_lines }
+
+pub take-requires-in-loop-taken-clause-not_ready : goal.take-requires-in-loop-taken-clause-not_ready
+take-requires-in-loop-taken-clause-not_ready c = none_is c.loop-taken.self.ready (c.is_none.ensures ∙ ap not c.if-is_none.true)
 
 pub loop-taken-init : goal.loop-taken-init
 loop-taken-init c = let old = c.args.self.now in record { before = old.held.items; none = λ text lines s go. (s.held, settled_held text lines old c.requires.not_ready s); more = c.in_ok-taken.ensures }

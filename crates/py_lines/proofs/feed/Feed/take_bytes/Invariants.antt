@@ -1,4 +1,4 @@
-use Rattle.std.proofs.Common.{◌-◌, length}
+use Rattle.py_lines.proofs.Prelude.{◌-◌, length}
 use Rattle.py_lines.proofs.Feeds.FedScanner.{TakesSoFar}
 use Rattle.py_lines.proofs.feed.Feed.take_bytes.Given as goal
 

@@ -1,4 +1,4 @@
-use Rattle.std.proofs.Common.{◌-◌, ◌∙◌, sym}
+use Rattle.py_lines.proofs.Prelude.{◌-◌, ◌∙◌, sym}
 use Rattle.py_lines.proofs.FieldScans.FrameArrays.{first_frames, first_frames_last}
 use Rattle.py_lines.proofs.frames.Frames.innermost.Goals as goal
 

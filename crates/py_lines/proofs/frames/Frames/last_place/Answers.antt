@@ -1,4 +1,4 @@
-use Rattle.std.proofs.Common.{◌∙◌, ap, get_or, sym}
+use Rattle.py_lines.proofs.Prelude.{◌∙◌, ap, get_or, sym}
 use Rattle.py_lines.specs.declared.frames.Frame.TheVariants as frames
 use Rattle.py_lines.specs.Private.Frames.{place_of}
 use Rattle.py_lines.proofs.FieldScans.FrameArrays.{taken}

@@ -1,4 +1,4 @@
-use Rattle.std.proofs.Common.{◌+◌, ap, ◌∙◌, arith}
+use Rattle.py_lines.proofs.Prelude.{◌+◌, ap, ◌∙◌, arith}
 use Rattle.py_lines.proofs.FieldScans.FrameArrays.{opened, Opened}
 use Rattle.py_lines.proofs.frames.Frames.open.Goals.{Else-len-eq-MAX_DEPTH}
 use Rattle.py_lines.proofs.frames.Frames.open.Goals as goal

@@ -1,4 +1,4 @@
-use Rattle.std.proofs.Common.{arith}
+use Rattle.py_lines.proofs.Prelude.{arith}
 use Rattle.py_lines.proofs.FieldScans.FrameArrays.{Taken, taken}
 use Rattle.py_lines.proofs.frames.Frames.pop.Goals.{In-Some}
 use Rattle.py_lines.proofs.frames.Frames.pop.Goals as goal

@@ -1,6 +1,4 @@
-use Rattle.std.proofs.Common.{◌≡◌, ◌∙◌, ℕ, zero, suc, ap, refl}
-use Rattle.std.proofs.lemmas.Option.{IfSome_then}
-use Rattle.std.proofs.lemmas.Result.{IfOk-weaker}
+use Rattle.py_lines.proofs.Prelude.{◌≡◌, ◌∙◌, ℕ, zero, suc, ap, refl, IfSome_then, IfOk-weaker}
 use Rattle.py_lines.specs.Private.LineScan.{first_open}
 use Rattle.py_lines.specs.Private.LineState.{first_mode}
 use Rattle.py_lines.specs.Private.Scan.{opened_at}

@@ -1,4 +1,4 @@
-use Rattle.std.proofs.Common.{◌≡◌, ℕ, ◌∙◌, List, ap}
+use Rattle.py_lines.proofs.Prelude.{◌≡◌, ℕ, ◌∙◌, List, ap}
 use Rattle.py_lines.specs.Private.LineScan.{ScansIn, WhereverReached, first_open}
 use Rattle.py_lines.specs.Private.LineState.{first_mode}
 use Rattle.py_lines.specs.Private.Scan.{opened_at}

@@ -1,4 +1,4 @@
-use Rattle.std.proofs.Common.{ℕ, ◌+◌, ◌^◌, ◌<◌, List, length, sym, subst}
+use Rattle.py_lines.proofs.Prelude.{ℕ, ◌+◌, ◌^◌, ◌<◌, List, length, sym, subst}
 use Rattle.py_lines.specs.Token.{EachLiesIn}
 use Rattle.py_lines.specs.declared.token.Token.{Token}
 use Rattle.py_lines.proofs.line_state.LineState.unit.Goals as goal

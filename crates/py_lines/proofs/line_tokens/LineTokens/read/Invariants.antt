@@ -1,4 +1,4 @@
-use Rattle.std.proofs.Common.{◌-◌, length}
+use Rattle.py_lines.proofs.Prelude.{◌-◌, length}
 use Rattle.py_lines.specs.Private.LineTokens.{HaveRead}
 use Rattle.py_lines.proofs.line_tokens.LineTokens.read.Given as goal
 

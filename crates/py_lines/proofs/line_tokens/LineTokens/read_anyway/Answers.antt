@@ -1,5 +1,4 @@
-use Rattle.std.proofs.Common.{◌≡◌, ◌<◌, ◌≤◌, ◌+◌, ◌∙◌, ℕ, List, ap, arith, drop, length, length-drop, refl, subst, sym, append-nil, false, true, slice_index, ⊎_elim}
-use Rattle.std.proofs.lemmas.Bool.{or_left}
+use Rattle.py_lines.proofs.Prelude.{◌≡◌, ◌<◌, ◌≤◌, ◌+◌, ◌∙◌, ℕ, List, ap, arith, drop, length, length-drop, refl, subst, sym, append-nil, false, true, slice_index, ⊎_elim, or_left}
 use Rattle.py_lines.specs.Character.{is_quote, is_space}
 use Rattle.py_lines.specs.declared.class.Class.{Class as ByteClass}
 use Rattle.py_lines.specs.declared.line_tokens.LineTokens.{LineTokens}

@@ -1,7 +1,4 @@
-use Rattle.std.proofs.Common.{◌≡◌, ◌+◌, ◌∙◌, ℕ, List, true, false, ap, append-nil, arith, drop, le_refl, length, length-drop, refl, slice_index, subst, sym, ⊎_elim}
-use Rattle.std.specs.Prelude.{MatchOption, nat_le}
-use Rattle.std.proofs.lemmas.Bool.{both_ways, or_left, or_right}
-use Rattle.std.proofs.lemmas.List.{take_all}
+use Rattle.py_lines.proofs.Prelude.{◌≡◌, ◌+◌, ◌∙◌, ℕ, List, true, false, ap, append-nil, arith, drop, le_refl, length, length-drop, refl, slice_index, subst, sym, ⊎_elim, MatchOption, nat_le, both_ways, or_left, or_right, take_all}
 use Rattle.py_lines.specs.Piece.{Piece}
 use Rattle.py_lines.specs.declared.class.Class.{Class as ByteClass}
 use Rattle.py_lines.specs.declared.class.Class.TheVariants as class

@@ -1,4 +1,4 @@
-use Rattle.std.proofs.Common.{◌≡◌, arith}
+use Rattle.py_lines.proofs.Prelude.{◌≡◌, arith}
 use Rattle.py_lines.proofs.Readers.NextLines.{lines_within}
 use Rattle.py_lines.proofs.lines.Lines.at.Goals as goal
 

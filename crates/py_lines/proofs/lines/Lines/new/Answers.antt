@@ -1,5 +1,4 @@
-use Rattle.std.proofs.Common.{◌≡◌, List, ℕ, [], refl, sym, subst}
-use Rattle.std.proofs.lemmas.Result.{IfOk-weaker}
+use Rattle.py_lines.proofs.Prelude.{◌≡◌, List, ℕ, [], refl, sym, subst, IfOk-weaker}
 use Rattle.py_lines.specs.Reader.{GoesOnAt, HasGiven, Reader, at_start}
 use Rattle.py_lines.proofs.Lexings.Existence.{first_none}
 use Rattle.py_lines.proofs.lines.Lines.new.Goals as goal

@@ -1,4 +1,4 @@
-use Rattle.std.proofs.Common.{◌≡◌, ℕ, ◌+◌, ◌-◌, ◌≤◌, List, length, take, drop, ◌∙◌, sym, subst, arith, length-take}
+use Rattle.py_lines.proofs.Prelude.{◌≡◌, ℕ, ◌+◌, ◌-◌, ◌≤◌, List, length, take, drop, ◌∙◌, sym, subst, arith, length-take, le_of_lt, le_trans}
 use Rattle.py_lines.specs.LogicalLine.{line_ends}
 use Rattle.py_lines.proofs.LineScan.LineCount.{few_first}
 use Rattle.py_lines.specs.Lines.{PassesUpTo}
@@ -8,7 +8,6 @@ use Rattle.py_lines.specs.declared.line_state.LineState.{LineState}
 use Rattle.py_lines.proofs.Feeds.ReadyLines.{none_is}
 use Rattle.py_lines.proofs.Readers.NextLines.{further}
 use Rattle.py_lines.proofs.Readers.PassedLines.{passes_found}
-use Rattle.std.proofs.Math.Nat.{le_of_lt, le_trans}
 use Rattle.py_lines.proofs.lines.Lines.pass_lines.Goals as goal
 
 pub returns : goal.returns

@@ -1,4 +1,4 @@
-use Rattle.std.proofs.Common.{◌≡◌, ◌∙◌, refl, sym, ap, arith, rules}
+use Rattle.py_lines.proofs.Prelude.{◌≡◌, ◌∙◌, refl, sym, ap, arith, rules}
 use Rattle.py_lines.proofs.SpecialBytes.Places.{finds_end, finds_lowest, passes_block}
 use Rattle.py_lines.proofs.marks.Marks.next.Goals as goal
 

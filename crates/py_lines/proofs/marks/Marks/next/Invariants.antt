@@ -1,4 +1,4 @@
-use Rattle.std.proofs.Common.{ℕ, ◌-◌, ◌≤◌, length}
+use Rattle.py_lines.proofs.Prelude.{ℕ, ◌-◌, ◌≤◌, length}
 use Rattle.py_lines.specs.Private.Marks.{HasMarks}
 use Rattle.py_lines.proofs.SpecialBytes.Places.{HasPassed}
 use Rattle.py_lines.proofs.marks.Marks.next.Given as goal

@@ -1,4 +1,4 @@
-use Rattle.std.proofs.Common.{arith, rules}
+use Rattle.py_lines.proofs.Prelude.{arith, rules}
 use Rattle.py_lines.proofs.SpecialBytes.Places.{passes_feeds}
 use Rattle.py_lines.proofs.marks.Marks.pass_feeds.Goals as goal
 

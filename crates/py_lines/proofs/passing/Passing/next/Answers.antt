@@ -1,4 +1,4 @@
-use Rattle.std.proofs.Common.{arith, subst, sym}
+use Rattle.py_lines.proofs.Prelude.{arith, subst, sym, ap}
 use Rattle.py_lines.proofs.PassedPieces.Counts.{few_ends}
 use Rattle.py_lines.specs.Private.Marks.{HasMarks}
 use Rattle.py_lines.proofs.PassedPieces.LineFeeds.{base_kept, begins_there, block_next, block_passed, special_found, counted_so}
@@ -28,8 +28,16 @@ pass_feeds-requires c =
       few = omega (arith, few_ends c.args.bytes.now c.args.self.now c.requires.counted, c.well_formed);
     }
 
+pub advance-requires : goal.advance-requires
+advance-requires c = let marked = c.feeds.invariant.marked in omega (arith, marked.base, marked.within)
+
 pub pass_feeds-requires-in-feeds : goal.pass_feeds-requires-in-feeds
 pass_feeds-requires-in-feeds c = record {
   fits = omega (arith, c.feeds-test.ensures.base, c.well_formed);
   few = omega (arith, few_ends c.args.bytes.now c.feeds.self (counted_so c.feeds.invariant c.requires.counted), c.well_formed);
 }
+
+pub next-requires : goal.next-requires
+next-requires c =
+    let marked = c.feeds.invariant.marked in
+    omega (arith, marked.base, marked.within, ap (λ m. m.base) c.feeds-test.ensures.marks.0)

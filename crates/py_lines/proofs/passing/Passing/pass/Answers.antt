@@ -1,6 +1,4 @@
-use Rattle.std.proofs.Common.{◌+◌, ◌∙◌, ◌≤◌, List, ℕ, ap, arith, drop, length, length-drop, refl, slice_index, subst, sym}
-use Rattle.std.proofs.Math.Utf8.{low_scalar}
-use Rattle.std.proofs.lemmas.Bool.{both_ways}
+use Rattle.py_lines.proofs.Prelude.{◌+◌, ◌∙◌, ◌≤◌, List, ℕ, ap, arith, drop, length, length-drop, refl, slice_index, subst, sym, low_scalar, both_ways}
 use Rattle.py_lines.specs.Character.{is_break}
 use Rattle.py_lines.specs.Private.LineEnds.{BeginsOuterEnd}
 use Rattle.py_lines.proofs.FieldScans.LineEnds.{feed_breaks, return_breaks}

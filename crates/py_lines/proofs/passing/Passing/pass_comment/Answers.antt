@@ -1,6 +1,4 @@
-use Rattle.std.proofs.Common.{◌<◌, ◌∙◌, arith, length, sym, true, false, refl, slice_index}
-use Rattle.std.proofs.Math.Utf8.{low_scalar}
-use Rattle.std.proofs.lemmas.Bool.{both_ways}
+use Rattle.py_lines.proofs.Prelude.{◌<◌, ◌∙◌, arith, length, sym, true, false, refl, slice_index, low_scalar, both_ways}
 use Rattle.py_lines.specs.Character.{is_break, is_hash}
 use Rattle.py_lines.proofs.PassedPieces.Reads.{comment_begun, comment_item, comment_passed, reads_on}
 use Rattle.py_lines.proofs.passing.Passing.pass_comment.Goals as goal

@@ -1,4 +1,4 @@
-use Rattle.std.proofs.Common.{◌-◌, length}
+use Rattle.py_lines.proofs.Prelude.{◌-◌, length}
 use Rattle.py_lines.proofs.PassedPieces.Reads.{ReadsComment}
 use Rattle.py_lines.proofs.passing.Passing.pass_comment.Given as goal
 

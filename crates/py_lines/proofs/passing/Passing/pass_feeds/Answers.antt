@@ -1,4 +1,4 @@
-use Rattle.std.proofs.Common.{rules, ap, inl, inr}
+use Rattle.py_lines.proofs.Prelude.{rules, ap, inl, inr}
 use Rattle.py_lines.specs.declared.marks.Marks.{Marks}
 use Rattle.py_lines.proofs.passing.Passing.pass_feeds.Goals as goal
 

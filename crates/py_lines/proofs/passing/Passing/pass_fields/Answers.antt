@@ -1,5 +1,4 @@
-use Rattle.std.proofs.Common.{◌+◌, ◌<◌, ◌≡◌, ◌∙◌, List, ℕ, ap, arith, get_or-drop, length, length-drop, refl, slice_index, subst, sym, ◌≤◌, true, false}
-use Rattle.std.proofs.lemmas.Bool.{both_ways}
+use Rattle.py_lines.proofs.Prelude.{◌+◌, ◌<◌, ◌≡◌, ◌∙◌, List, ℕ, ap, arith, get_or-drop, length, length-drop, refl, slice_index, subst, sym, ◌≤◌, true, false, both_ways}
 use Rattle.py_lines.specs.declared.frames.Frame.{Frame}
 use Rattle.py_lines.specs.Private.FieldText.{HasText}
 use Rattle.py_lines.specs.Private.Scan.{quotes_in}

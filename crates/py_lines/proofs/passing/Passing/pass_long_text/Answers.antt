@@ -1,5 +1,4 @@
-use Rattle.std.proofs.Common.{◌+◌, ◌≡◌, ◌∙◌, ap, arith, drop, length-drop, slice_index, subst, sym}
-use Rattle.std.proofs.lemmas.List.{drop-drop}
+use Rattle.py_lines.proofs.Prelude.{◌+◌, ◌≡◌, ◌∙◌, ap, arith, drop, length-drop, slice_index, subst, sym, drop-drop}
 use Rattle.py_lines.specs.Private.LongStrings.{TakesLong}
 use Rattle.py_lines.specs.Private.Marks.{HasMarks}
 use Rattle.py_lines.specs.Private.Scan.{passed, quotes_in}

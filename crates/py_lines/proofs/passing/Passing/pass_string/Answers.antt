@@ -1,5 +1,4 @@
-use Rattle.std.proofs.Common.{◌+◌, ◌∙◌, Some, ap, arith, drop, get_or-drop, length-drop, refl, slice_index, subst, sym, true, false, length, ◌<◌, ◌≡◌}
-use Rattle.std.proofs.lemmas.Bool.{both_ways}
+use Rattle.py_lines.proofs.Prelude.{◌+◌, ◌∙◌, Some, ap, arith, drop, get_or-drop, length-drop, refl, slice_index, subst, sym, true, false, length, ◌<◌, ◌≡◌, both_ways}
 use Rattle.py_lines.specs.Private.Passing.{MeetsString, TellsFields, word_before}
 use Rattle.py_lines.specs.Private.Scan.{quotes_in}
 use Rattle.py_lines.proofs.FieldScans.TextLengths.{rest_is}

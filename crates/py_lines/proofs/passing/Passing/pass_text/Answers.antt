@@ -1,5 +1,4 @@
-use Rattle.std.proofs.Common.{◌+◌, ◌<◌, ◌≡◌, ◌∙◌, List, ℕ, ap, arith, get_or-drop, length, length-drop, refl, slice_index, sym, true, false, ◌≤◌}
-use Rattle.std.proofs.lemmas.Bool.{both_ways}
+use Rattle.py_lines.proofs.Prelude.{◌+◌, ◌<◌, ◌≡◌, ◌∙◌, List, ℕ, ap, arith, get_or-drop, length, length-drop, refl, slice_index, sym, true, false, ◌≤◌, both_ways, le_refl}
 use Rattle.py_lines.specs.Private.Run.{is_line_byte}
 use Rattle.py_lines.proofs.FieldScans.TextLengths.{rest_is, rest_of}
 use Rattle.py_lines.proofs.PassedPieces.FirstBytes.{first_later}
@@ -84,8 +83,41 @@ returns-in_default-3 c = record { passed = λ so. absurd (both_ways false refl s
 pub returns-in_default-4 : goal.returns-in_default-4
 returns-in_default-4 c = record { passed = λ so. absurd (both_ways false refl so); string = λ so. absurd (both_ways false refl so); same = λ _. refl }
 
+pub bounds-bytes-at : goal.bounds-bytes-at
+bounds-bytes-at c = c.requires.quote.within
+
+pub next-end-requires : goal.next-end-requires
+next-end-requires c = omega (arith, (c.requires.quote.next.held c.requires.quote.within).0, c.requires.quote.within)
+
+pub slice_bounds-t-16-count : goal.slice_bounds-t-16-count
+slice_bounds-t-16-count c = c.specials.invariant.next.within
+
+pub slice_bounds-t-17-start : goal.slice_bounds-t-17-start
+slice_bounds-t-17-start c = c.specials.invariant.next.within
+
+pub slice_bounds-t-17-end : goal.slice_bounds-t-17-end
+slice_bounds-t-17-end c = le_refl (length c.args.bytes.now)
+
+pub bounds-b-0 : goal.bounds-b-0
+bounds-b-0 c = omega (arith, c.in-len1-up.len_at_least)
+
+pub bounds-0 : goal.bounds-0
+bounds-0 c = omega (arith, c.in-len1-up.len_at_least)
+
+pub bounds-b-1 : goal.bounds-b-1
+bounds-b-1 c = omega (arith, c.in-92.len_at_least)
+
+pub overflow_add-end : goal.overflow_add-end
+overflow_add-end c = omega (arith, there c.args.bytes.now c.specials.end 2 (omega arith) c.in-92.len_at_least, c.well_formed)
+
 pub pass-requires : goal.pass-requires
 pass-requires c =
     let room = there c.args.bytes.now c.specials.end 2 (omega arith) c.in-92.len_at_least in
     let held = c.specials.invariant.next.held (omega (arith, room)) in
     record { base = omega (arith, held.0); within = room }
+
+pub bounds-b-0-in-specials : goal.bounds-b-0-in-specials
+bounds-b-0-in-specials c = omega (arith, c.in-len1-up.len_at_least)
+
+pub overflow_add-self : goal.overflow_add-self
+overflow_add-self c = omega (arith, there c.args.bytes.now c.specials.end 1 (omega arith) c.in-len1-up.len_at_least, c.well_formed)

@@ -1,4 +1,4 @@
-use Rattle.std.proofs.Common.{◌-◌, length, slice_index}
+use Rattle.py_lines.proofs.Prelude.{◌-◌, length, slice_index}
 use Rattle.py_lines.proofs.PassedPieces.Reads.{ReadsText}
 use Rattle.py_lines.proofs.passing.Passing.pass_text.Given as goal
 

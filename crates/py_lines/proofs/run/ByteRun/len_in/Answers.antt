@@ -1,6 +1,4 @@
-use Rattle.std.specs.List.{prefix_len}
-use Rattle.std.proofs.Common.{◌+◌, ◌≤◌, ap, arith, length}
-use Rattle.std.proofs.lemmas.List.{take_rest}
+use Rattle.py_lines.proofs.Prelude.{prefix_len, ◌+◌, ◌≤◌, ap, arith, length, take_rest}
 use Rattle.py_lines.specs.Private.Run.{is_in_run}
 use Rattle.py_lines.proofs.Text.Lanes.{run_is, ends_within, sixteen_on}
 use Rattle.py_lines.proofs.run.ByteRun.len_in.Goals as goal

@@ -1,5 +1,4 @@
-use Rattle.std.specs.List.{prefix_len}
-use Rattle.std.proofs.Common.{◌≡◌, ◌≤◌, ◌+◌, ◌-◌, drop, length}
+use Rattle.py_lines.proofs.Prelude.{prefix_len, ◌≡◌, ◌≤◌, ◌+◌, ◌-◌, drop, length}
 use Rattle.py_lines.specs.Private.Run.{is_in_run}
 use Rattle.py_lines.proofs.run.ByteRun.len_in.Given as goal
 

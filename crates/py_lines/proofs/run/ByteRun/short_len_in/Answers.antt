@@ -1,5 +1,4 @@
-use Rattle.std.proofs.Common.{arith, length, replicate}
-use Rattle.std.proofs.lemmas.List.{length-take-le}
+use Rattle.py_lines.proofs.Prelude.{arith, length, replicate, length-take-le}
 use Rattle.py_lines.specs.Private.Run.{is_in_run}
 use Rattle.py_lines.proofs.Text.Lanes.{shorter_run}
 use Rattle.py_lines.proofs.run.ByteRun.short_len_in.Goals as goal

@@ -1,7 +1,5 @@
-use Rattle.std.proofs.Common.{◌≡◌, ◌+◌, ℕ, List, [], ◌++◌, true, false, inl, inr, drop, length, length-drop, take-append-drop, refl, sym, ap, ◌∙◌, subst, append-nil, arith}
-use Rattle.std.specs.Prelude.{encode_utf8_all}
-use Rattle.std.proofs.lemmas.Bool.{both_ways}
-use Rattle.std.proofs.lemmas.List.{drop_all, take_all}
+use Rattle.py_lines.proofs.Text.FirstCharacters.{begins_some}
+use Rattle.py_lines.proofs.Prelude.{◌≡◌, ◌+◌, ℕ, List, [], ◌++◌, true, false, inl, inr, drop, length, length-drop, take-append-drop, refl, sym, ap, ◌∙◌, subst, append-nil, arith, encode_utf8_all, both_ways, drop_all, take_all, ◌==◌, length-take}
 use Rattle.py_lines.specs.Private.FieldMachine.{FieldScanned}
 use Rattle.py_lines.specs.Private.Scan.{Follows, Goes, GoesOverAll, has_returned, is_pending}
 use Rattle.py_lines.proofs.FieldScans.Ends.{begins_there, ends_returned, no_members, not_returned, pending_run, whole_run}
@@ -73,3 +71,16 @@ returns c = λ t follow all.
       open_yet = no_return (goal.at.returns c).Joined-else-starts_with t follow all;
       stop = ap (λ (n : ℕ). record c.args.self.now { stop = c.args.self.now.stop + n }) g.length_is;
     })
+
+pub pass-requires : goal.pass-requires
+pass-requires c =
+    let first = begins_there c.args.bytes.now (sym c.starts_with.ensures.value ∙ c.if-starts_with.true) in
+    omega (arith, begins_some (λ c. c == 13) c.args.bytes.now first, c.requires.bytes)
+
+pub overflow_add-result : goal.overflow_add-result
+overflow_add-result c = omega (arith, c.if-characters-bytes.true, c.requires.bytes)
+
+pub overflow_add-self : goal.overflow_add-self
+overflow_add-self c =
+    let prefix = c.utf8_prefix-characters.result.now in
+    omega (arith, ap length c.utf8_prefix-characters.ensures.prefix, length-take (length prefix) c.args.bytes.now, c.requires.bytes)

@@ -1,4 +1,4 @@
-use Rattle.std.proofs.Common.{◌≤◌, ◌-◌, arith}
+use Rattle.py_lines.proofs.Prelude.{◌≤◌, ◌-◌, arith}
 use Rattle.py_lines.proofs.LineScan.LineStops.{ComesAlong, comes_along, gone}
 use Rattle.py_lines.proofs.LineScan.Reaching.{ends_over, reached_over}
 use Rattle.py_lines.proofs.scan.Scan.extend.Goals as goal

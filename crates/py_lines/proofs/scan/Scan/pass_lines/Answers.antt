@@ -1,5 +1,4 @@
-use Rattle.std.proofs.Common.{◌≡◌, ◌+◌, ◌-◌, ◌≤◌, ◌∙◌, List, ℕ, ap, arith, drop, length, length-drop, length-take, refl, sym, take}
-use Rattle.std.proofs.lemmas.List.{take_rest}
+use Rattle.py_lines.proofs.Prelude.{◌≡◌, ◌+◌, ◌-◌, ◌≤◌, ◌∙◌, List, ℕ, ap, arith, drop, length, length-drop, length-take, refl, sym, take, take_rest}
 use Rattle.py_lines.specs.LogicalLine.{line_ends}
 use Rattle.py_lines.specs.Private.Mode as modes
 use Rattle.py_lines.specs.declared.passing.Passing.{Passing}

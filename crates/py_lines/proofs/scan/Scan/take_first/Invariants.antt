@@ -1,4 +1,4 @@
-use Rattle.std.proofs.Common.{length}
+use Rattle.py_lines.proofs.Prelude.{length}
 use Rattle.py_lines.proofs.LineTokens.FirstString.{InFirst}
 use Rattle.py_lines.proofs.scan.Scan.take_first.Given as goal
 

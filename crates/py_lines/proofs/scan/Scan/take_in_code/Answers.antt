@@ -1,4 +1,4 @@
-use Rattle.std.proofs.Common.{arith}
+use Rattle.py_lines.proofs.Prelude.{arith}
 use Rattle.py_lines.specs.Character.{is_mark}
 use Rattle.py_lines.proofs.FieldScans.CodeItems.{mark_taken, nothing_waits, piece_grows}
 use Rattle.py_lines.proofs.Text.FirstCharacters.{first_size}

@@ -1,6 +1,4 @@
-use Rattle.std.proofs.Common.{◌+◌, ◌-◌, ◌<◌, ◌≤◌, ◌∙◌, length, take, drop, sym, ap, subst, arith, length-drop}
-use Rattle.std.proofs.lemmas.Bool.{eqb-true}
-use Rattle.std.proofs.lemmas.List.{drop-drop, nil_from_length, take_rest}
+use Rattle.py_lines.proofs.Prelude.{◌+◌, ◌-◌, ◌<◌, ◌≤◌, ◌∙◌, length, take, drop, sym, ap, subst, arith, length-drop, eqb-true, drop-drop, nil_from_length, take_rest}
 use Rattle.py_lines.specs.Private.LineScan.{Reached}
 use Rattle.py_lines.proofs.LineScan.LineStops.{GoesTo, gone, goes_run, goes_step, stops_line, stops_text, stops_waiting, stops_wrong}
 use Rattle.py_lines.proofs.Text.FirstCharacters.{some_bytes}

@@ -1,4 +1,4 @@
-use Rattle.std.proofs.Common.{◌≤◌, length}
+use Rattle.py_lines.proofs.Prelude.{◌≤◌, length}
 use Rattle.py_lines.proofs.LineScan.LineStops.{GoesTo}
 use Rattle.py_lines.proofs.scan.Scan.take_items.Given as goal
 

@@ -1,5 +1,4 @@
-use Rattle.std.proofs.Common.{◌+◌, ◌≤◌, ap, arith, length, length-drop, rules}
-use Rattle.std.proofs.lemmas.List.{take_rest}
+use Rattle.py_lines.proofs.Prelude.{◌+◌, ◌≤◌, ap, arith, length, length-drop, rules, take_rest}
 use Rattle.py_lines.proofs.FieldScans.LineEnds.{half_join_waits, join_takes, join_waits, join_wrong, none_told}
 use Rattle.py_lines.specs.Character.{is_backslash}
 use Rattle.py_lines.proofs.Text.FirstCharacters.{begins_some}

@@ -1,5 +1,4 @@
-use Rattle.std.proofs.Common.{◌≡◌, List, ◌∷◌, arith, refl, sym, ◌∙◌}
-use Rattle.std.specs.Str.{byte}
+use Rattle.py_lines.proofs.Prelude.{◌≡◌, List, ◌∷◌, arith, refl, sym, ◌∙◌, byte}
 use Rattle.py_lines.specs.declared.frames.Frame.{Frame}
 use Rattle.py_lines.specs.declared.frames.Frame.TheVariants as frame
 use Rattle.py_lines.specs.declared.frames.OpenField.{OpenField}

@@ -1,4 +1,5 @@
-use Rattle.std.proofs.Common.{arith, sym, ◌∙◌, refl, ⊎_elim}
+use Rattle.py_lines.proofs.Text.FirstCharacters.{first_size}
+use Rattle.py_lines.proofs.Prelude.{arith, sym, ◌∙◌, refl, ⊎_elim}
 use Rattle.py_lines.specs.Character.{is_backslash, is_quote}
 use Rattle.py_lines.specs.declared.class.Class.{Class}
 use Rattle.py_lines.specs.declared.class.Class.TheVariants as class
@@ -69,3 +70,15 @@ bounds-bytes-0 c = some_first c.requires.first
 
 pub take_operator-requires-clause-bytes : goal.take_operator-requires-clause-bytes
 take_operator-requires-clause-bytes c = omega (arith, some_first c.requires.first, c.requires.bytes)
+
+pub pass-requires : goal.pass-requires
+pass-requires c = omega (arith, c.in-Some.ensures.within, c.requires.bytes)
+
+pub returns-in-Quote : goal.returns-in-Quote
+returns-in-Quote c = c.take_quotes.ensures
+
+pub returns-in-Backslash : goal.returns-in-Backslash
+returns-in-Backslash c = c.take_join.ensures
+
+pub overflow_add-self : goal.overflow_add-self
+overflow_add-self c = omega (arith, first_size c.requires.first, c.len_utf8-len.ensures.value, c.requires.bytes)

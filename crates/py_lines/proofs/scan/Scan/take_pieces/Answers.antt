@@ -1,4 +1,4 @@
-use Rattle.std.proofs.Common.{◌≡◌, ◌+◌, ◌-◌, ◌≤◌, ◌∙◌, ap, arith, drop, length, refl, take}
+use Rattle.py_lines.proofs.Prelude.{◌≡◌, ◌+◌, ◌-◌, ◌≤◌, ◌∙◌, ap, arith, drop, length, refl, take}
 use Rattle.py_lines.specs.declared.scan.Scan.{Scan}
 use Rattle.py_lines.specs.Private.Scan.{Takes, passed}
 use Rattle.py_lines.specs.Private.TakenPieces.{IsOperatorEnd, IsWordStart, TakesOn}
@@ -20,9 +20,24 @@ specials-init c =
       omega arith,
     )
 
+pub next-at-requires : goal.next-at-requires
+next-at-requires c = omega (arith, c.new-passing.ensures.marked.base)
+
 -- where the scan stood before the bytes
 stop : (c : In-specials) → c.specials.self.stop ≡ c.args.self.now.stop
 stop c = ap (λ (s : Scan). s.stop) c.specials.invariant.0.same
+
+pub overflow_add-self : goal.overflow_add-self
+overflow_add-self c = omega (arith, stop (goal.at.overflow_add-self c).In-specials, c.specials-test.true, c.requires.bytes)
+
+pub pass-requires : goal.pass-requires
+pass-requires c = record { next = c.specials.invariant.0.next; within = c.specials-test.true; counted = c.specials.invariant.1 }
+
+pub next-at-requires-in-Passed : goal.next-at-requires-in-Passed
+next-at-requires-in-Passed c = let marked = c.in-Passed.ensures.marked in omega (arith, marked.base, marked.within)
+
+pub pass-requires-in-LineEnd : goal.pass-requires-in-LineEnd
+pass-requires-in-LineEnd c = omega (arith, stop (goal.at.pass-requires-in-LineEnd c).In-specials, c.in-LineEnd.ensures.within, c.requires.bytes)
 
 pub specials-smaller : goal.specials-smaller
 specials-smaller c =
@@ -52,6 +67,12 @@ last c = elim c.specials-test.branch [
       let (same, kept) = w.in-Unpassed.ensures in rw (w.self-is, w.passing-is, kept, same) c.specials.invariant.0
 ]
 
+pub slice_bounds-plain-count : goal.slice_bounds-plain-count
+slice_bounds-plain-count c = (last c).next.after
+
+pub slice_bounds-plain-start : goal.slice_bounds-plain-start
+slice_bounds-plain-start c = (last c).next.after
+
 -- and after the plain bytes that are finished
 left : (c : Joined-at-bytes) → TakesOn c.args.bytes.now c.args.self.now 0 (passed c.specials-test.self (c.specials-test.passing.all + c.if-at-bytes.finished))
     (c.specials-test.passing.all + c.if-at-bytes.finished)
@@ -73,6 +94,9 @@ left c =
           (end.0, operator_left here refl on.outside bytes p.all at p.marks on.next k end)
     ] in
     passes_left c.args.self.now bytes at scan p on k fits takes
+
+pub overflow_add-passing : goal.overflow_add-passing
+overflow_add-passing c = omega (arith, (left (goal.at.overflow_add-passing c).Joined-at-bytes).within, c.requires.bytes)
 
 pub pass-requires-2 : goal.pass-requires-2
 pass-requires-2 c =

@@ -1,4 +1,4 @@
-use Rattle.std.proofs.Common.{◌-◌, length}
+use Rattle.py_lines.proofs.Prelude.{◌-◌, length}
 use Rattle.py_lines.specs.Private.Passing.{IsCounted}
 use Rattle.py_lines.proofs.PassedPieces.Pieces.{HasPassed}
 use Rattle.py_lines.proofs.scan.Scan.take_pieces.Given as goal

@@ -1,4 +1,4 @@
-use Rattle.std.proofs.Common.{arith}
+use Rattle.py_lines.proofs.Prelude.{arith}
 use Rattle.py_lines.proofs.PassedPieces.FirstBytes.{quotes_fit}
 use Rattle.py_lines.proofs.FieldScans.CodeItems.{first_quote, quotes_empty, quotes_open, quotes_wait, string_begun}
 use Rattle.py_lines.proofs.scan.Scan.take_quotes.Goals as goal

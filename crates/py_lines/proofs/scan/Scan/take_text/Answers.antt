@@ -1,5 +1,4 @@
-use Rattle.std.proofs.Common.{◌≡◌, ◌==◌, ◌∷◌, arith, drop, length, length-append, refl, sym, subst, ap, ◌∙◌}
-use Rattle.std.specs.Str.{byte}
+use Rattle.py_lines.proofs.Prelude.{◌≡◌, ◌==◌, ◌∷◌, arith, drop, length, length-append, refl, sym, subst, ap, ◌∙◌, byte, encode_utf8_all}
 use Rattle.py_lines.specs.FieldStrings.{specification}
 use Rattle.py_lines.specs.Private.FieldMachine.{FieldMode, closes, refused, text_place}
 use Rattle.py_lines.specs.Private.Scan.{GrowsInText, QuotesInText}
@@ -54,6 +53,11 @@ returns-in-EndsSpecification c = λ t follow.
           (subst (λ (m : FieldMode). QuotesInText m c.args.bytes.now does.0 refused) follow.mode does.1) there place refl,
       refl,
     )
+
+pub overflow_add-self : goal.overflow_add-self
+overflow_add-self c =
+    let does = rw c.in-Grows.is at c.requires.does in
+    omega (arith, does.size, ap length does.spell, length-append (encode_utf8_all does.run) (drop c.in-Grows.len c.args.bytes.now), c.requires.bytes)
 
 pub pass-requires : goal.pass-requires
 pass-requires c =

@@ -1,4 +1,4 @@
-use Rattle.std.proofs.Common.{false, length, None, refl, ap, arith}
+use Rattle.py_lines.proofs.Prelude.{false, length, None, refl, ap, arith}
 use Rattle.py_lines.specs.Private.Feed.{Feed}
 use Rattle.py_lines.proofs.Feeds.OpenLine.{begun_open}
 use Rattle.py_lines.proofs.scanner.Scanner.at.Goals as goal

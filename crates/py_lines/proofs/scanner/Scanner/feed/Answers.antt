@@ -1,5 +1,4 @@
-use Rattle.std.proofs.Common.{sym, ◌∙◌, arith}
-use Rattle.std.proofs.lemmas.Result.{err_from_is_err_and}
+use Rattle.py_lines.proofs.Prelude.{sym, ◌∙◌, arith, err_from_is_err_and}
 use Rattle.py_lines.proofs.Feeds.FedScanner.{fed_short, takes_read, waits_so}
 use Rattle.py_lines.proofs.Feeds.ReadyLines.{none_is}
 use Rattle.py_lines.proofs.scanner.Scanner.feed.Goals as goal

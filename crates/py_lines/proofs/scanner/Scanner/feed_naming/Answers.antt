@@ -1,6 +1,4 @@
-use Rattle.std.proofs.Common.{◌≡◌, inl, true, sym, ◌∙◌, arith, is_some, take, ap, ℕ, ◌+◌}
-use Rattle.std.proofs.lemmas.Result.{err_from_is_err_and}
-use Rattle.std.proofs.lemmas.Bool.{both_ways}
+use Rattle.py_lines.proofs.Prelude.{◌≡◌, inl, true, sym, ◌∙◌, arith, is_some, take, ap, ℕ, ◌+◌, err_from_is_err_and, both_ways}
 use Rattle.py_lines.specs.ScannerState.{LacksBoth}
 use Rattle.py_lines.specs.Private.Feed.{scanning_of}
 use Rattle.py_lines.proofs.Feeds.FedScanner.{fed_named, fed_released, fed_short, naming_fails, naming_same, size_taken, some_taken, stands_taken, waits_so}
@@ -31,6 +29,18 @@ returns c =
     ] in
     record { feeds = rw (← c.self.view_is) (fed_named c.in_ok-taken.ensures stays c.in_ok-read_tokens.ensures) }
 
+pub take_bytes-requires-clause-sound : goal.take_bytes-requires-clause-sound
+take_bytes-requires-clause-sound c = c.self.invariant
+
+pub take_bytes-requires-clause-not_ready : goal.take_bytes-requires-clause-not_ready
+take_bytes-requires-clause-not_ready c = none_is c.self.inside.feed.ready (sym c.is_some.ensures ∙ c.if-is_some.false)
+
+pub take_bytes-requires-clause-fits : goal.take_bytes-requires-clause-fits
+take_bytes-requires-clause-fits c = rw (← c.self.view_is) at c.requires.fits
+
+pub invariant_of-self : goal.invariant_of-self
+invariant_of-self c = c.in_err-taken.ensures.1
+
 pub returns-in_err-taken : goal.returns-in_err-taken
 returns-in_err-taken c =
     let (error, is, same) = err_from_is_err_and c.from_residual.result c.from_residual.ensures.1 in
@@ -38,6 +48,9 @@ returns-in_err-taken c =
 
 pub read_tokens-requires-clause-holds : goal.read_tokens-requires-clause-holds
 read_tokens-requires-clause-holds c = (c.in_ok-taken.ensures.line, c.in_ok-taken.ensures.holds)
+
+pub read_tokens-requires-clause-no_fault : goal.read_tokens-requires-clause-no_fault
+read_tokens-requires-clause-no_fault c = c.in_ok-taken.ensures.takes.no_fault
 
 pub read_tokens-requires-clause-room : goal.read_tokens-requires-clause-room
 read_tokens-requires-clause-room c = c.in_ok-taken.ensures.room

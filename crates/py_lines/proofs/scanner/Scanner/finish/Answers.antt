@@ -1,6 +1,5 @@
 use Rattle.py_lines.specs.Private.Feed.{StandsSo}
-use Rattle.std.proofs.Common.{ap, ◌∙◌, arith, sym, subst}
-use Rattle.std.proofs.lemmas.Result.{err_from_is_err_and}
+use Rattle.py_lines.proofs.Prelude.{ap, ◌∙◌, arith, sym, subst, err_from_is_err_and}
 use Rattle.py_lines.specs.ScannerState.{ScannerState}
 use Rattle.py_lines.proofs.Feeds.EndedHeld.{ends_known, finish_errs, finish_read, finish_short, same_room}
 use Rattle.py_lines.proofs.Feeds.ReadyLines.{none_ready}

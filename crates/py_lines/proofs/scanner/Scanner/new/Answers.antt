@@ -1,5 +1,4 @@
-use Rattle.std.proofs.Common.{[]}
-use Rattle.std.proofs.lemmas.Result.{IfOk-weaker}
+use Rattle.py_lines.proofs.Prelude.{[], IfOk-weaker}
 use Rattle.py_lines.proofs.Lexings.Existence.{first_none}
 use Rattle.py_lines.proofs.scanner.Scanner.new.Goals as goal
 

@@ -1,16 +1,15 @@
-use Rattle.std.proofs.Common.{rules, take, length-take, arith, sym, subst, ap, ◌∙◌}
-use Rattle.std.proofs.lemmas.List.{length-take-le}
+use Rattle.py_lines.proofs.Prelude.{rules, take, length-take, arith, sym, subst, ap, ◌∙◌, length-take-le}
 use Rattle.py_lines.specs.LogicalLine.{line_ends}
 use Rattle.py_lines.specs.ScannerState.{PassesPieceLines, ScannerState, StandsAtLine}
 use Rattle.py_lines.specs.Private.LineState.{BeginsAnew}
 use Rattle.py_lines.specs.Private.Feed.{Feed, IsSoundFeed, LineState, ready_of, scanning_of}
 use Rattle.py_lines.proofs.Feeds.PassedLines.{began_with, begun_none, end_within, none_found, passed}
-use Rattle.py_lines.proofs.Feeds.LastBytes.{ends_with_return}
+use Rattle.py_lines.proofs.Feeds.LastBytes.{ends_with_return, one_most}
 use Rattle.py_lines.proofs.Feeds.ReadyLines.{none_is}
 use Rattle.py_lines.proofs.LineScan.LineCount.{few_first}
 use Rattle.py_lines.proofs.Text.LineEnds.{line_ends-encoded}
-use Rattle.py_lines.proofs.scanner.Scanner.pass_lines.Goals.{Else-is_some-2}
 use Rattle.py_lines.proofs.scanner.Scanner.pass_lines.Goals as goal
+use Rattle.py_lines.proofs.scanner.Scanner.pass_lines.Goals.{Else-is_some-2}
 
 pub slice_bounds-extend_from_slice-end : goal.slice_bounds-extend_from_slice-end
 slice_bounds-extend_from_slice-end c =
@@ -72,6 +71,18 @@ slice_bounds-ends_with-end c = sym (length-take-le c.pass_lines-len.result.0 (ta
 
 pub overflow_cast-end : goal.overflow_cast-end
 overflow_cast-end c = tt
+
+pub overflow_add-end : goal.overflow_add-end
+overflow_add-end c = omega (arith, c.pass_lines-len.ensures.lines.within, length-take c.min.result c.args.bytes.now, c.requires.fits, one_most c.ends_with.result)
+
+pub slice_bounds-extend_from_slice-count : goal.slice_bounds-extend_from_slice-count
+slice_bounds-extend_from_slice-count c = omega arith
+
+pub drain-requires-clause-start_le_end : goal.drain-requires-clause-start_le_end
+drain-requires-clause-start_le_end c = omega arith
+
+pub drain-requires-clause-not_exhausted : goal.drain-requires-clause-not_exhausted
+drain-requires-clause-not_exhausted c = tt
 
 pub pass-requires : goal.pass-requires
 pass-requires c = omega (arith, c.pass_lines-len.ensures.lines.within, length-take c.min.result c.args.bytes.now, c.requires.fits, ap (λ (s : ScannerState). s.place) c.self.view_is)

@@ -1,5 +1,4 @@
-use Rattle.std.proofs.Common.{ℕ, List, take, sym, ap, subst, arith}
-use Rattle.std.proofs.lemmas.List.{length-take}
+use Rattle.py_lines.proofs.Prelude.{ℕ, List, take, sym, ap, subst, arith, length-take}
 use Rattle.py_lines.specs.Token.{EachLiesIn}
 use Rattle.py_lines.specs.Private.Feed.{StandsSo}
 use Rattle.py_lines.proofs.Feeds.ReadyLines.{held_within, ready_lies}

@@ -1,4 +1,4 @@
-use Rattle.std.proofs.Common.{◌≡◌, ℕ, IsSome, Some, subst, sym}
+use Rattle.py_lines.proofs.Prelude.{◌≡◌, ℕ, IsSome, Some, subst, sym}
 use Rattle.py_lines.specs.ScannerState.{ScannerState}
 use Rattle.py_lines.specs.Private.Feed.{IsReady}
 use Rattle.py_lines.proofs.Feeds.Released.{ready_from, release_seen}

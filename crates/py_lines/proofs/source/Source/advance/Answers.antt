@@ -1,9 +1,4 @@
-use Rattle.std.proofs.Common.{◌≡◌, ℕ, ◌+◌, ◌-◌, ◌<◌, ◌≤◌, ◌∙◌, None, List, [], length, take, drop, refl, sym, ap, subst, arith, length-drop}
-use Rattle.std.specs.Option.{IfSome}
-use Rattle.std.specs.Prelude.{slice_range}
-use Rattle.std.proofs.Math.Path.{transport}
-use Rattle.std.proofs.lemmas.Bool.{eqb-false, eqb-true}
-use Rattle.std.proofs.lemmas.List.{length-take-le}
+use Rattle.py_lines.proofs.Prelude.{◌≡◌, ℕ, ◌+◌, ◌-◌, ◌<◌, ◌≤◌, ◌∙◌, None, List, [], length, take, drop, refl, sym, ap, subst, arith, length-drop, IfSome, slice_range, transport, eqb-false, eqb-true, length-take-le}
 use Rattle.py_lines.specs.Piece.{Piece, spelled}
 use Rattle.py_lines.specs.LogicalLine.{LogicalLine, line_ends, line_of}
 use Rattle.py_lines.specs.Token.{EachLiesIn}
@@ -156,6 +151,9 @@ returns-in-Some-2 c =
     let s = c.args.self.now in
     gives s.bytes.now (read (goal.at.returns-in-Some-2 c).In-Some-2).scans (rest_is s.bytes.now s.state.place) c.in_default.is
     (read_moved (goal.at.returns-in-Some-2 c).After-pass)
+
+pub read_tokens-requires-clause-text : goal.read_tokens-requires-clause-text
+read_tokens-requires-clause-text c = let h = c.in-Ok.ensures.scans in (h.is.pieces, (h.is.text, h.is.ends))
 
 -- the line that was scanned first
 moved : (c : After-pass-in-Ok) → let s = c.args.self.now in

@@ -1,4 +1,4 @@
-use Rattle.std.proofs.Common.{arith}
+use Rattle.py_lines.proofs.Prelude.{arith}
 use Rattle.py_lines.proofs.LogicalLines.TokenPlaces.{lies_at}
 use Rattle.py_lines.proofs.unit.Unit.word.Goals as goal
 
