@@ -1,5 +1,5 @@
 //! What is wrong with a text, and where.
-ghost use Rattle.std.specs.Prelude.{◌≡◌};
+ghost use Rattle.std.specs.Prelude.{◌≡◌, Some};
 ghost use Rattle.py_lines.specs.declared.fault.LexError.TheVariants.{Memory};
 ghost use Rattle.py_lines.specs.FaultWords.{fault_words};
 
@@ -53,8 +53,6 @@ impl FaultKind {
 }
 
 impl fmt::Display for FaultKind {
-    ghost use Rattle.std.specs.Prelude.{Some};
-
     ghost output = { λ k. Some (fault_words k) };
 
     fn fmt<W: fmt::Write>(&self, f: &mut fmt::Formatter<W>) -> fmt::Result {
@@ -76,9 +74,7 @@ pub struct Fault {
 
 impl fmt::Display for Fault {
     fn fmt<W: fmt::Write>(&self, f: &mut fmt::Formatter<W>) -> fmt::Result {
-        let kind = self.kind;
-        let line = self.line;
-        write!(f, "line {line}: {kind}")
+        write!(f, "line {}: {}", self.line, self.kind)
     }
 }
 

@@ -20,10 +20,19 @@ pub struct Feed {
 }
 
 impl Feed {
-    ghost use Rattle.std.specs.Prelude.{◌≡◌, ℕ, ◌+◌, ◌≤◌, ◌^◌, None, Option, length};
+    ghost use Rattle.std.specs.Prelude.{◌≡◌, ℕ, ◌+◌, ◌≤◌, ◌^◌, true, None, Option, length};
+    ghost use Rattle.py_lines.specs.ScannerState.{StandsAtLine};
+    ghost use Rattle.py_lines.specs.ScannerState.View.{scanning_of};
     ghost use Rattle.py_lines.specs.LogicalLine.{LogicalLine};
     ghost use Rattle.py_lines.specs.Private.Feed.{EndsText, FailsAt, HasRoom, HoldsLine, HoldsSo, IsHeldOpen};
     ghost use Rattle.py_lines.specs.Private.Feed.{IsLineAfterHeld, IsSoundFeed, LetsGo, Meets, ReadsTokens, StopsHeld, Takes, TakesSo};
+
+    /// Whether a line begins where the text was fed up to, or one byte before it, and the text may go on. `false` promises nothing.
+    pub fn stands_at_line(&self) -> bool
+        ensures { result ≡ true → StandsAtLine (scanning_of self.now) }
+    {
+        self.held.len() <= 1 && self.ready.is_none() && !self.ended && self.state.fault.is_none()
+    }
 
     /// The text has this fault, from now on. It stands so many bytes after the lines that were released.
     fn fail(&mut self, kind: FaultKind, offset: usize) -> LexError

@@ -1,7 +1,10 @@
 //! The brackets and fields that are open at a place of a line, kept without memory.
 
-ghost use Rattle.std.specs.Prelude.{◌≡◌};
+ghost use Rattle.std.specs.Prelude.{◌≡◌, ◌==◌, ◌≤◌, List, [], ◌∷◌, length, reverse, take};
 ghost use Rattle.py_lines.specs.Balance.{closing_of};
+ghost use Rattle.py_lines.specs.Private.Frames.{ClosesBracket, IsInnermostFrame, OpensFrame, TakesFrame};
+ghost use Rattle.py_lines.specs.Private.Frames.{fields_of, has_field, place_of};
+ghost use Rattle.py_lines.specs.declared.frames.Frame.{Frame};
 
 use crate::host::{Region, StringWithFields};
 use std::marker::Model;
@@ -55,10 +58,6 @@ pub struct Frames {
 
 // Clauses see what is open, the innermost first.
 impl Model for Frames {
-    ghost use Rattle.std.specs.Prelude.{◌≡◌, ◌≤◌, List, length, reverse, take};
-    ghost use Rattle.py_lines.specs.declared.frames.Frame.{Frame};
-    ghost use Rattle.py_lines.specs.Private.Frames.{fields_of};
-
     ghost Value = { List Frame };
 
     ghost view = { λ f. reverse (take f.depth f.frames) };
@@ -68,11 +67,6 @@ impl Model for Frames {
 }
 
 impl Frames {
-    ghost use Rattle.std.specs.Prelude.{◌≡◌, ◌==◌, ◌≤◌, List, [], ◌∷◌, length};
-    ghost use Rattle.py_lines.specs.Private.Frames.{ClosesBracket, IsInnermostFrame, OpensFrame, TakesFrame};
-    ghost use Rattle.py_lines.specs.Private.Frames.{has_field, place_of};
-    ghost use Rattle.py_lines.specs.declared.frames.Frame.{Frame};
-
     /// Nothing is open.
     pub fn new() -> Frames
         ensures { result ≡ [] }

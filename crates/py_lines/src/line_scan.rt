@@ -22,10 +22,11 @@ use crate::scan::{Progress, Scan, Stop};
 pub fn last_operator_end(plain: &[u8]) -> usize
     ensures { IsOperatorEnd plain.now result }
 {
-    plain
-        .iter()
-        .rposition(|&b| matches!(Class::of(b), Class::Operator))
-        .map_or(0, |at| at + 1)
+    let mut end = plain.len();
+    while end > 0 && !matches!(Class::of(plain[end - 1]), Class::Operator) {
+        end -= 1;
+    }
+    end
 }
 
 /// Where the word begins that the bytes end with; their end, if they end with none.
@@ -33,10 +34,11 @@ pub fn last_operator_end(plain: &[u8]) -> usize
 pub fn word_start(plain: &[u8]) -> usize
     ensures { IsWordStart plain.now result }
 {
-    plain
-        .iter()
-        .rposition(|&b| !is_ascii_word(b))
-        .map_or(0, |at| at + 1)
+    let mut start = plain.len();
+    while start > 0 && is_ascii_word(plain[start - 1]) {
+        start -= 1;
+    }
+    start
 }
 
 impl Scan {

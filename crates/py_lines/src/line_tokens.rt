@@ -81,9 +81,10 @@ fn word_or_string(scan: &mut Scan, bytes: &[u8]) -> (TokKind, usize, u64)
 fn mark_len(bytes: &[u8]) -> usize
     ensures { result ≡ mark_len bytes.now }
 {
-    match bytes {
-        [0xef, 0xbb, 0xbf, ..] => 3,
-        _ => 0,
+    if bytes.starts_with(b"\xef\xbb\xbf") {
+        3
+    } else {
+        0
     }
 }
 

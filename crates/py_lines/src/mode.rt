@@ -76,13 +76,15 @@ impl Spelling {
         }
     }
 
-    /// The spelling of a word of ASCII, which isn't empty.
+    /// The spelling of a word of ASCII. No prefix has three characters.
     pub fn of_word(bytes: &[u8]) -> Spelling
-        requires { 0 < length bytes.now }
         ensures { result ≡ word_spelling bytes.now }
     {
-        let first = Spelling::of(bytes[0] as char);
-        bytes[1..].iter().fold(first, |s, &b| s.with(b as char))
+        match bytes {
+            [c] => Spelling::of(*c as char),
+            [c, d] => Spelling::of(*c as char).with(*d as char),
+            _ => Spelling::Name,
+        }
     }
 
     /// Whether the word spells the prefix of a string.

@@ -159,16 +159,10 @@ impl Scanner {
         requires fits { self.old.place + length bytes.now ≤ 2 ^ 62 }
         ensures passes { PassesPieceLines self.old bytes.now before result self.new }
     {
-        let held = self.feed.held.len();
-        let begins = bytes.starts_with(&self.feed.held);
-        if held > 1
-            || !begins
-            || self.feed.ready.is_some()
-            || self.feed.ended
-            || self.feed.state.fault.is_some()
-        {
+        if !self.feed.stands_at_line() || !bytes.starts_with(&self.feed.held) {
             return 0;
         }
+        let held = self.feed.held.len();
         let clear = &bytes[..before.min(bytes.len())];
         let (len, ends) = self.feed.state.scan.pass_lines(clear);
         // The byte after CR shows that the last line is whole.

@@ -1,15 +1,21 @@
 -- A word's spelling, as the machine keeps it, says whether the word is the prefix of a string, with fields or without.
-use Rattle.py_lines.proofs.Prelude.{◌≡◌, ℕ, List, [], ◌∷◌, refl, arith, true, false, fold_stays, list_any}
+use Rattle.py_lines.proofs.Prelude.{◌≡◌, ◌≤◌, ℕ, List, [], ◌∷◌, length, refl, arith, true, false, fold_stays, list_any}
 use Rattle.py_lines.specs.PieceGrammar.{is_prefix}
 use Rattle.py_lines.specs.Private.Machine.{Spelling, first_spelling, spelling_with, is_prefix_spelling, is_field_spelling, is_raw_spelling, begins_string, spelling_on, Mode, Holds}
 use Rattle.py_lines.proofs.Text.CharacterTests.{r-not-others, t-not-u, b-not-others}
 use Rattle.py_lines.specs.Character.{is_r}
 use Rattle.py_lines.specs.FieldStrings.{is_field_prefix}
+use Rattle.py_lines.specs.Private.Run.{word_spelling}
 
 -- a word of three characters is no prefix
 pub third : (s : Spelling) (b c : ℕ) → spelling_with (spelling_with s b) c ≡ Spelling.Name
 unfolding spelling_with
 third s b c = grind arith
+
+pub long_word : (word : List ℕ) → 3 ≤ length word → word_spelling word ≡ Spelling.Name
+unfolding spelling_with
+long_word (a ∷ b ∷ c ∷ cs) long = rw (third (first_spelling a) b c) (fold_stays spelling_with Spelling.Name (λ x. refl) cs)
+long_word other long = absurd (omega (arith, long))
 
 -- what a spelling says is what the word is
 abbrev pub Tells : List ℕ → Spelling → Type 0

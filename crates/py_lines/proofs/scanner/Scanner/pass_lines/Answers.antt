@@ -2,14 +2,12 @@ use Rattle.py_lines.proofs.Prelude.{rules, take, length-take, arith, sym, subst,
 use Rattle.py_lines.specs.LogicalLine.{line_ends}
 use Rattle.py_lines.specs.ScannerState.{PassesPieceLines, ScannerState, StandsAtLine}
 use Rattle.py_lines.specs.Private.LineState.{BeginsAnew}
-use Rattle.py_lines.specs.Private.Feed.{Feed, IsSoundFeed, LineState, ready_of, scanning_of}
+use Rattle.py_lines.specs.Private.Feed.{Feed, IsSoundFeed, LineState, scanning_of}
 use Rattle.py_lines.proofs.Feeds.PassedLines.{began_with, begun_none, end_within, none_found, passed}
 use Rattle.py_lines.proofs.Feeds.LastBytes.{ends_with_return, one_most}
-use Rattle.py_lines.proofs.Feeds.ReadyLines.{none_is}
 use Rattle.py_lines.proofs.LineScan.LineCount.{few_first}
 use Rattle.py_lines.proofs.Text.LineEnds.{line_ends-encoded}
 use Rattle.py_lines.proofs.scanner.Scanner.pass_lines.Goals as goal
-use Rattle.py_lines.proofs.scanner.Scanner.pass_lines.Goals.{Else-is_some-2}
 
 pub slice_bounds-extend_from_slice-end : goal.slice_bounds-extend_from_slice-end
 slice_bounds-extend_from_slice-end c =
@@ -23,26 +21,16 @@ overflow_add-line c =
     let within = c.pass_lines-len.ensures.lines.within in let place = ap (λ (s : ScannerState). s.place) c.self.view_is in
     omega (arith, c.pass_lines-len.ensures.ends, few, within, size, c.self.invariant.room.few_lines, c.requires.fits, place)
 
-stands : (c : Else-is_some-2) → StandsAtLine (scanning_of c.self.inside.feed)
-stands c =
-    let f = c.self.inside.feed in
-    record {
-      held = omega (arith, c.if-held-gt1.false, c.len-held.ensures);
-      ready = ap (ready_of f) (none_is f.ready (sym c.is_some.ensures ∙ c.if-is_some.false));
-      open_yet = c.if-self.false;
-      no_fault = none_is f.state.fault (sym c.is_some-else-self.ensures ∙ c.if-is_some-2.false);
-    }
-
 -- there is no memory for the byte after CR
 none_passed : (c : goal.After-restart) → StandsAtLine (scanning_of c.self.inside.feed)
     → PassesPieceLines (scanning_of c.self.inside.feed) c.args.bytes.now c.args.before 0 (scanning_of (record c.self.inside.feed { held = c.extend_from_slice.new.self; state = c.restart.new.self })) × IsSoundFeed (record c.self.inside.feed { held = c.extend_from_slice.new.self; state = c.restart.new.self })
 none_passed c at = begun_none c.self.inside.feed c.extend_from_slice.new.self c.restart.new.self c.pass_lines-len.new.self at (search rules) c.restart.ensures c.args.bytes.now c.args.before c.self.invariant
 
 pub invariant_of-self : goal.invariant_of-self
-invariant_of-self c = (none_passed c (stands (goal.at.invariant_of-self c).Else-is_some-2)).1
+invariant_of-self c = (none_passed c (c.stands_at_line.ensures c.if-not-stands_at_line.false)).1
 
 pub returns-then-is_err : goal.returns-then-is_err
-returns-then-is_err c = record { passes = rw (← c.self.view_is) (none_passed c (stands (goal.at.returns-then-is_err c).Else-is_some-2)).0 }
+returns-then-is_err c = record { passes = rw (← c.self.view_is) (none_passed c (c.stands_at_line.ensures c.if-not-stands_at_line.false)).0 }
 
 -- lines were passed, if any were found
 some_passed : (c : goal.After-restart-2) → StandsAtLine (scanning_of c.self.inside.feed)
@@ -50,7 +38,7 @@ some_passed : (c : goal.After-restart-2) → StandsAtLine (scanning_of c.self.in
     PassesPieceLines (scanning_of c.self.inside.feed) c.args.bytes.now c.args.before c.pass_lines-len.result.0 (scanning_of new) × IsSoundFeed new
 some_passed c at =
     let f = c.self.inside.feed in let bytes = c.args.bytes.now in let lines = c.pass_lines-len.ensures.lines in
-    let began = began_with bytes f.held.items c.deref.result.now c.starts_with-begins.result c.deref.ensures.value c.starts_with-begins.ensures.value c.if-not-begins.false in
+    let began = began_with bytes f.held.items c.deref.result.now c.starts_with.result c.deref.ensures.value c.starts_with.ensures.value c.if-not-starts_with.false in
     passed f bytes c.args.before c.min.result c.pass_lines-len.result.0 at began c.min.ensures lines c.drop-drain.new.self.0
     c.ends_with.result c.ends_with.ensures.value (search rules)
     (c.pass_lines-len.ensures.ends ∙ ap line_ends (sym lines.spell) ∙ line_ends-encoded lines.read)
@@ -58,10 +46,10 @@ some_passed c at =
     (omega (arith, c.requires.fits, ap (λ (s : ScannerState). s.place) c.self.view_is)) c.self.invariant
 
 pub invariant_of-self-2 : goal.invariant_of-self-2
-invariant_of-self-2 c = (some_passed c (stands (goal.at.invariant_of-self-2 c).Else-is_some-2)).1
+invariant_of-self-2 c = (some_passed c (c.stands_at_line.ensures c.if-not-stands_at_line.false)).1
 
 pub returns : goal.returns
-returns c = record { passes = rw (← c.self.view_is) (some_passed c (stands (goal.at.returns c).Else-is_some-2)).0 }
+returns c = record { passes = rw (← c.self.view_is) (some_passed c (c.stands_at_line.ensures c.if-not-stands_at_line.false)).0 }
 
 pub slice_bounds-clear-end : goal.slice_bounds-clear-end
 slice_bounds-clear-end c = sym (length-take-le c.min.result c.args.bytes.now (omega (arith, c.min.ensures)))
@@ -87,5 +75,5 @@ drain-requires-clause-not_exhausted c = tt
 pub pass-requires : goal.pass-requires
 pass-requires c = omega (arith, c.pass_lines-len.ensures.lines.within, length-take c.min.result c.args.bytes.now, c.requires.fits, ap (λ (s : ScannerState). s.place) c.self.view_is)
 
-pub returns-then-held-gt1 : goal.returns-then-held-gt1
-returns-then-held-gt1 c = record { passes = none_found c.args.self.now c.args.bytes.now c.args.before }
+pub returns-then-not-stands_at_line : goal.returns-then-not-stands_at_line
+returns-then-not-stands_at_line c = record { passes = none_found c.args.self.now c.args.bytes.now c.args.before }

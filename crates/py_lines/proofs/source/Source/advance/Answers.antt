@@ -192,3 +192,24 @@ returns-in-Err c =
     let some = eqb-false _ 0 (sym c.is_empty.ensures ∙ c.if-is_empty.false) in
     let failed = fails text {s = t} c.in-Err.ensures.scans (left text s t still) (omega arith) (none_yet text s t still c.in_default.is) in
     rw c.fail.ensures.error_is (subst (λ r. Fails r c.fail.ensures.fault (reader_at text c.fail.new.self)) (same text s t still) (failed c.in-Err.ensures.same c.fail.ensures))
+
+-- the fault was met before
+pub returns-in-Some : goal.returns-in-Some
+returns-in-Some c =
+    let is = c.in-Some.is in record {
+      all = λ lines given. absurd (let clash = sym given.no_fault ∙ is in cc);
+      again = λ first known. let same = sym is ∙ known in cc;
+      more = λ none. absurd (let clash = sym none ∙ is in cc);
+      text = refl;
+      place = refl;
+      line = refl;
+      kept = is;
+    }
+
+pub slice_bounds-rest-count : goal.slice_bounds-rest-count
+slice_bounds-rest-count c = c.args.self.now.within
+
+pub read_simple-requires : goal.read_simple-requires
+read_simple-requires c =
+    let s = c.args.self.now in
+    omega (arith, s.within, s.few_lines, ap length (rest_is s.bytes.now s.state.place), length-drop s.state.place s.bytes.now, c.well_formed)
