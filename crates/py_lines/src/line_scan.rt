@@ -17,8 +17,8 @@ use crate::passing::{Passing, Special};
 use crate::run::is_ascii_word;
 use crate::scan::{Progress, Scan, Stop};
 
-/// How many plain bytes there are up to the last operator, and with it.
-#[inline(always)]
+/// How many plain bytes there are up to the last operator, and with it. It stands apart, so that what calls it stays fast.
+#[inline(never)]
 pub fn last_operator_end(plain: &[u8]) -> usize
     ensures { IsOperatorEnd plain.now result }
 {
