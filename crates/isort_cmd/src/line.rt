@@ -5,6 +5,7 @@ ghost use Rattle.py_imports.specs.Spelled.{statement_text};
 ghost use Rattle.isort_cmd.specs.Printed.{line_text};
 
 use crate::error::RunError;
+use itoa::Buffer;
 use py_imports::Binding;
 
 /// Puts the statement that binds this alone after `out`.
@@ -39,9 +40,10 @@ pub(crate) fn push_line(binding: &Binding, path: &str, out: &mut String) -> Resu
         ≡ string_bytes out.old ++ line_text path.now (binding_value binding.now)) }
     ensures err { IfErr result (λ e. e ≡ RunError.Memory) }
 {
-    let line = binding.line;
-    let indented = if binding.indented { "indented " } else { "" };
-    write!(out, "{path}:{line} {indented}")?;
+    out.push_str(path)?;
+    out.push(':')?;
+    out.push_str(Buffer::new().format(binding.line))?;
+    out.push_str(if binding.indented { " indented " } else { " " })?;
     push_statement(binding, out)?;
     out.push('\n')?;
     Ok(())
