@@ -42,7 +42,7 @@
 --
 -- Pieces of code that are passed over from mark to mark (proofs/PassedPieces) are what the scan would take item by item. So plain bytes lead it
 -- to a word, space or nothing that is open (FieldScans/PlainCode), and what stands at the mark is the next item. LF before it are passed by
--- their marks alone (LineFeeds).
+-- their marks alone (LineFeeds), in brackets of a line, too (BracketFeeds).
 --
 -- The scan of logical lines (proofs/LineScan): what it has gone over of the line, the machine has (`IsUnderWay`, specs/Private/LineScan). The
 -- machine is sound there, so where a line ends its pieces are those of the line (LineSteps). What is taken from where the scan stands is

@@ -10,3 +10,4 @@ pub mod LineFeeds
 pub mod Reads
 pub mod FieldStrings
 pub mod Pieces
+pub mod BracketFeeds

@@ -54,7 +54,8 @@ impl Scan {
         let mut at = passing.marks.next(bytes);
         'specials: while at < bytes.len() {
             match passing.pass(&mut self.frames, bytes, at, self.stop + at) {
-                Special::Passed => at = passing.marks.next(bytes),
+                Special::Passed if self.frames.is_empty() => at = passing.marks.next(bytes),
+                Special::Passed => at = passing.next(&self.frames, bytes),
                 Special::LineEnd(len) => {
                     self.pass(passing.all);
                     return Some(len);

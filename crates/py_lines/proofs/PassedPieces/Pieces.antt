@@ -26,7 +26,7 @@ use Rattle.py_lines.proofs.Text.CharacterTests.{excluded}
 use Rattle.py_lines.proofs.Text.FirstBytes.{first_other}
 
 -- up to one byte, and from there on to another
-takes_further : (old mid new : Scan) (bytes : List ℕ) (a b : ℕ) → a ≤ b → Takes old bytes a mid → Takes mid (drop a bytes) (b - a) new → Takes old bytes b new
+pub takes_further : (old mid new : Scan) (bytes : List ℕ) (a b : ℕ) → a ≤ b → Takes old bytes a mid → Takes mid (drop a bytes) (b - a) new → Takes old bytes b new
 takes_further old mid new bytes a b more takes others =
     let size : a + (b - a) ≡ b = omega (arith, more) in
     subst (λ (n : ℕ). Takes old bytes n new) size (takes_on old mid new bytes a (b - a) takes others)
@@ -64,19 +64,22 @@ module _ (old : Scan) (bytes : List ℕ) (at : ℕ) (scan : Scan) (p : Passing) 
   stands = record { mode = refl; stop = refl; frames = refl; outside = on.outside }
 
   -- after what was passed there
-  pub passes_next : (c : List Frame) (q : Passing) (to : ℕ) (marks : Marks) → PassesSo bytes at (scan.stop + at) p scan.frames q c
-      → FindsNext bytes q.all to marks → HasPassed old bytes to (with_frames scan c) (record q { marks = marks })
-  passes_next c q to marks so next =
+  pub takes_so : (c : List Frame) (q : Passing) → PassesSo bytes at (scan.stop + at) p scan.frames q c → Takes old bytes q.all (passed (with_frames scan c) q.all)
+  takes_so c q so =
       let more : p.all ≤ q.all = omega (arith, on.next.after, so.further) in
       let far : scan.stop + p.all + (q.all - p.all) ≡ scan.stop + q.all = omega (arith, more) in
       let place : scan.stop + at ≡ scan.stop + p.all + (at - p.all) = omega (arith, on.next.after) in
-      record {
-        same = ap (λ (s : Scan). with_frames s c) on.same;
-        outside = so.outside on.outside;
-        takes = takes_further old here (passed (with_frames scan c) q.all) bytes p.all q.all more on.takes
-            (subst (Takes here (drop p.all bytes) (q.all - p.all)) (ap (λ (n : ℕ). free_at c n) far) (so.over (scan.stop + p.all) place here stands));
-        next = next;
-      }
+      takes_further old here (passed (with_frames scan c) q.all) bytes p.all q.all more on.takes
+      (subst (Takes here (drop p.all bytes) (q.all - p.all)) (ap (λ (n : ℕ). free_at c n) far) (so.over (scan.stop + p.all) place here stands))
+
+  pub passes_next : (c : List Frame) (q : Passing) (to : ℕ) (marks : Marks) → PassesSo bytes at (scan.stop + at) p scan.frames q c
+      → FindsNext bytes q.all to marks → HasPassed old bytes to (with_frames scan c) (record q { marks = marks })
+  passes_next c q to marks so next = record {
+    same = ap (λ (s : Scan). with_frames s c) on.same;
+    outside = so.outside on.outside;
+    takes = takes_so c q so;
+    next = next;
+  }
 
   -- after a line end that ends the line
   pub passes_line : (len : ℕ) (new : Scan) (q : Passing) (c : List Frame) → EndsLineSo bytes at p scan.frames len q c

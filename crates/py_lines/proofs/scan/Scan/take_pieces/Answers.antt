@@ -1,8 +1,9 @@
-use Rattle.py_lines.proofs.Prelude.{◌≡◌, ◌+◌, ◌-◌, ◌≤◌, ◌∙◌, ap, arith, drop, length, refl, take}
+use Rattle.py_lines.proofs.Prelude.{◌≡◌, ◌+◌, ◌-◌, ◌≤◌, ◌∙◌, ap, arith, drop, length, refl, sym, take}
 use Rattle.py_lines.specs.declared.scan.Scan.{Scan}
 use Rattle.py_lines.specs.Private.Scan.{Takes, passed}
 use Rattle.py_lines.specs.Private.TakenPieces.{IsOperatorEnd, IsWordStart, TakesOn}
 use Rattle.py_lines.proofs.PassedPieces.Ends.{in_code, passes_none}
+use Rattle.py_lines.proofs.PassedPieces.BracketFeeds.{finds_further, passes_feeds}
 use Rattle.py_lines.proofs.PassedPieces.Pieces.{HasPassed, operator_left, passes_left, passes_line, passes_next, word_left}
 use Rattle.py_lines.proofs.scan.Scan.take_pieces.Goals.{In-specials, Joined-at-bytes, Left-specials, else-specials-test, then-at-bytes, then-specials-test+in-Unpassed, else-at-bytes}
 use Rattle.py_lines.proofs.scan.Scan.take_pieces.Goals as goal
@@ -36,21 +37,34 @@ pass-requires c = record { next = c.specials.invariant.0.next; within = c.specia
 pub next-at-requires-in-Passed : goal.next-at-requires-in-Passed
 next-at-requires-in-Passed c = let marked = c.in-Passed.ensures.marked in omega (arith, marked.base, marked.within)
 
+pub next-at-requires-in-Passed-2 : goal.next-at-requires-in-Passed-2
+next-at-requires-in-Passed-2 c = record { counted = c.in-Passed.ensures.counted ∙ c.specials.invariant.1; marked = c.in-Passed.ensures.marked }
+
 pub pass-requires-in-LineEnd : goal.pass-requires-in-LineEnd
 pass-requires-in-LineEnd c = omega (arith, stop (goal.at.pass-requires-in-LineEnd c).In-specials, c.in-LineEnd.ensures.within, c.requires.bytes)
 
-pub specials-smaller : goal.specials-smaller
-specials-smaller c =
+pub specials-smaller-then-is_empty : goal.specials-smaller-then-is_empty
+specials-smaller-then-is_empty c =
     let on = c.in-Passed.ensures in
     let next = c.next-at-in-Passed.ensures c.pass.new.self.all on.marked in
     omega (arith, on.further, next.after, next.within, c.specials-test.true)
 
-pub specials-preserved : goal.specials-preserved
-specials-preserved c = (
+pub specials-preserved-then-is_empty : goal.specials-preserved-then-is_empty
+specials-preserved-then-is_empty c = (
   passes_next _ _ _ _ _ c.specials.invariant.0 c.pass.new.frames c.pass.new.self c.next-at-in-Passed.result c.next-at-in-Passed.new.self
       c.in-Passed.ensures (c.next-at-in-Passed.ensures c.pass.new.self.all c.in-Passed.ensures.marked),
   c.in-Passed.ensures.counted ∙ c.specials.invariant.1,
 )
+
+pub specials-smaller : goal.specials-smaller
+specials-smaller c =
+    let further = finds_further _ _ _ _ _ _ _ _ _ c.specials.invariant.0 c.in-Passed.ensures c.next-at-in-Passed-2.ensures in
+    omega (arith, further.0, further.1, c.specials-test.true)
+
+pub specials-preserved : goal.specials-preserved
+specials-preserved c =
+    passes_feeds _ _ _ _ _ _ _ _ _ c.specials.invariant.0 c.in-Passed.ensures c.next-at-in-Passed-2.ensures (sym c.is_empty.ensures ∙ c.if-is_empty.false)
+    (c.in-Passed.ensures.counted ∙ c.specials.invariant.1)
 
 pub returns-in-LineEnd : goal.returns-in-LineEnd
 returns-in-LineEnd c = (
