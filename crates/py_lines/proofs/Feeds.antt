@@ -8,5 +8,6 @@ pub mod ReadyLines
 pub mod LastBytes
 pub mod GivenBack
 pub mod FedScanner
+pub mod SimpleLines
 pub mod EndedHeld
 pub mod PassedLines

@@ -62,7 +62,7 @@
 --
 -- Pieces (proofs/Feeds, over Lexings): from the state of the scan, the theorems over plain lists say which lines the
 -- bytes fed settle, and whether they decide a fault. Of the bytes fed no more are taken than up to the line's end, so
--- a line is ready as soon as it is settled.
+-- a line is ready as soon as it is settled. A simple one is taken as any line, with its tokens (SimpleLines).
 --
 -- One reading (proofs/Fields): the machine with fields goes over a piece that is read, finds it, and may stop there. It is in one state
 -- after a text, so where two pieces begin in one place it finds one alone, and they are the same. So of two lists of pieces one begins

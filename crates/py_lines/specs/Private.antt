@@ -1,5 +1,6 @@
 -- What contracts of private functions alone cite: the machine that goes through a text, the scan of logical lines,
--- and the reader of lines. No public contract names a word of these files.
+-- and the reader of lines. No public contract names a word of these files. Those that belong to one file of src/ pass on what else its
+-- contracts cite.
 pub mod Mode
 pub mod Machine
 pub mod FieldMachine

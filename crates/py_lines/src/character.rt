@@ -1,10 +1,8 @@
 //! Which characters the pieces of a text are made of (Python Language Reference, 2.1 to 2.6).
 
 ghost use Rattle.std.specs.Prelude.{◌≡◌};
-ghost use Rattle.py_lines.specs.Character.{is_space, is_word_character, is_quote};
-ghost use Rattle.py_lines.specs.Character.{is_break};
-ghost use Rattle.py_lines.specs.Character.{is_brace};
-ghost use Rattle.py_lines.specs.Balance.{is_opening, is_closing};
+ghost use Rattle.py_lines.specs.Character.{is_brace, is_break, is_quote, is_space, is_word_character};
+ghost use Rattle.py_lines.specs.Balance.{is_closing, is_opening};
 
 use crate::run::is_ascii_word;
 

@@ -20,12 +20,10 @@ pub struct Feed {
 }
 
 impl Feed {
-    ghost use Rattle.std.specs.Prelude.{◌≡◌, ℕ, ◌+◌, ◌≤◌, ◌^◌, true, None, Option, length};
-    ghost use Rattle.py_lines.specs.ScannerState.{StandsAtLine};
-    ghost use Rattle.py_lines.specs.ScannerState.View.{scanning_of};
-    ghost use Rattle.py_lines.specs.LogicalLine.{LogicalLine};
-    ghost use Rattle.py_lines.specs.Private.Feed.{EndsText, FailsAt, HasRoom, HoldsLine, HoldsSo, IsHeldOpen};
-    ghost use Rattle.py_lines.specs.Private.Feed.{IsLineAfterHeld, IsSoundFeed, LetsGo, Meets, ReadsTokens, StopsHeld, Takes, TakesSo};
+    ghost use Rattle.std.specs.Prelude.{◌≡◌, ℕ, ◌+◌, ◌≤◌, ◌^◌, true, None, Option, length, OnOk};
+    ghost use Rattle.py_lines.specs.Private.Feed.{EndsText, FailsAt, HasRoom, HoldsLine, HoldsSo, IsHeldOpen, IsLineAfterHeld, IsReadyAt};
+    ghost use Rattle.py_lines.specs.Private.Feed.{IsSoundFeed, LetsGo, LogicalLine, Meets, ReadsTokens, ScansPiece, StandsAtLine, StopsHeld, Takes};
+    ghost use Rattle.py_lines.specs.Private.Feed.{TakesSimple, TakesSo, scanning_of};
 
     /// Whether a line begins where the text was fed up to, or one byte before it, and the text may go on. `false` promises nothing.
     pub fn stands_at_line(&self) -> bool
@@ -76,7 +74,8 @@ impl Feed {
         requires not_ready { self.old.ready ≡ None }
         requires within { before ≤ length self.old.held.items }
         requires room { HasRoom self.old 0 }
-        ensures { Meets self.old before result self.new }
+        ensures meets { Meets self.old before result self.new }
+        ensures ready { OnOk result (IsReadyAt self.old stop self.new) }
     {
         let scanned = self.state.scan.stop;
         match stop {
@@ -98,6 +97,49 @@ impl Feed {
         }
     }
 
+    /// Holds bytes of a piece that were scanned where they stand, up to a line's end: how many. If there is no memory for them, none is
+    /// held, and the scan of what was held is begun anew.
+    #[inline(always)]
+    fn hold(&mut self, piece: &[u8], stop: Stop) -> Result<usize, LexError>
+        requires scanned { ScansPiece self.old piece.now stop }
+        requires not_ready { self.old.ready ≡ None }
+        requires room { HasRoom self.old (length piece.now) }
+        ensures takes { Takes self.old piece.now result self.new }
+        ensures ready { OnOk result (IsReadyAt self.old stop self.new) }
+    {
+        let before = self.held.len();
+        let len = match stop {
+            Stop::LineEnd(_) => piece.len().min(self.state.scan.stop + 1),
+            _ => piece.len(),
+        };
+        if let Err(error) = self.held.extend_from_slice(&piece[..len]) {
+            self.state.restart();
+            return Err(error.into());
+        }
+        self.meet(stop, before)
+    }
+
+    /// Takes the line with which a piece begins, with its tokens, if it is simple and nothing is held: how many bytes. If there is no
+    /// memory for it, none is taken. `None` promises nothing of the line.
+    pub fn take_simple(&mut self, piece: &[u8]) -> Result<Option<usize>, LexError>
+        requires sound { IsSoundFeed self.old }
+        requires not_ready { self.old.ready ≡ None }
+        requires fits { self.old.state.place + length self.old.held.items + length piece.now
+            ≤ 2 ^ 62 }
+        ensures { TakesSimple self.old piece.now result self.new }
+    {
+        if !self.held.is_empty() || self.state.fault.is_some() {
+            return Ok(None);
+        }
+        if let Ok(Some((end_len, line))) = self.state.read_simple(piece) {
+            let taken = self.hold(piece, Stop::LineEnd(end_len))?;
+            self.next_line = line;
+            return Ok(Some(taken));
+        }
+        self.state.restart();
+        Ok(None)
+    }
+
     /// Takes bytes of a piece, up to a line's end: how many. If there is no memory for them, none is taken.
     fn take(&mut self, piece: &[u8]) -> Result<usize, LexError>
         requires opens { IsHeldOpen self.old }
@@ -115,15 +157,7 @@ impl Feed {
         }
         // Bytes are scanned where they stand.
         let stop = self.state.scan.extend(piece);
-        let len = match stop {
-            Stop::LineEnd(_) => piece.len().min(self.state.scan.stop + 1),
-            _ => piece.len(),
-        };
-        if let Err(error) = self.held.extend_from_slice(&piece[..len]) {
-            self.state.restart();
-            return Err(error.into());
-        }
-        self.meet(stop, before)
+        self.hold(piece, stop)
     }
 
     /// Takes all bytes of a piece, up to a line's end: how many. If there is no memory for more, only the first are taken. The tokens of

@@ -1,10 +1,8 @@
 //! The brackets and fields that are open at a place of a line, kept without memory.
 
 ghost use Rattle.std.specs.Prelude.{◌≡◌, ◌==◌, ◌≤◌, List, [], ◌∷◌, length, reverse, take};
-ghost use Rattle.py_lines.specs.Balance.{closing_of};
-ghost use Rattle.py_lines.specs.Private.Frames.{ClosesBracket, IsInnermostFrame, OpensFrame, TakesFrame};
-ghost use Rattle.py_lines.specs.Private.Frames.{fields_of, has_field, place_of};
-ghost use Rattle.py_lines.specs.declared.frames.Frame.{Frame};
+ghost use Rattle.py_lines.specs.Private.Frames.{ClosesBracket, Frame, IsInnermostFrame, OpensFrame, TakesFrame, closing_of, fields_of, has_field};
+ghost use Rattle.py_lines.specs.Private.Frames.{place_of};
 
 use crate::host::{Region, StringWithFields};
 use std::marker::Model;

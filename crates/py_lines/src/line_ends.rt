@@ -1,10 +1,7 @@
 //! Line numbers: a place's line is one more than the line ends before it.
 
 ghost use Rattle.std.specs.Prelude.{◌≡◌, ℕ, ◌+◌, ◌≤◌, List, drop, length, encode_utf8_all};
-ghost use Rattle.std.specs.List.{count_by};
-ghost use Rattle.memchr.specs.Find.{is_byte};
-ghost use Rattle.py_lines.specs.LogicalLine.{line_ends};
-ghost use Rattle.py_lines.specs.Private.LineEnds.{HasOuterEnd};
+ghost use Rattle.py_lines.specs.Private.LineEnds.{HasOuterEnd, count_by, is_byte, line_ends};
 
 use crate::class::feeds64;
 

@@ -1,14 +1,9 @@
 //! The scan of logical lines: where each of them ends.
 
 ghost use Rattle.std.specs.Prelude.{◌≡◌, ℕ, ◌+◌, ◌-◌, ◌<◌, ◌≤◌, ◌^◌, true, List, drop, length, take, encode_utf8_all};
-ghost use Rattle.py_lines.specs.LogicalLine.{byte_len, line_ends};
-ghost use Rattle.py_lines.specs.Piece.{Piece, string};
-ghost use Rattle.py_lines.specs.Private.LineTokens.{BeginWithPiece, BeginWithString};
-ghost use Rattle.py_lines.specs.Private.LineScan.{Reached, ReachedInSomeLine, ScansIn, WhereverReached};
-ghost use Rattle.py_lines.specs.Private.Scan.{is_in_code, opened_at};
-ghost use Rattle.py_lines.specs.Private.TakenPieces.{IsOperatorEnd, IsWordStart, TakesItems, TakesPieces};
-ghost use Rattle.py_lines.specs.Private.WholeLines.{BeginWithLines};
-ghost use Rattle.py_lines.specs.declared.mode.Mode.TheVariants.{Free};
+ghost use Rattle.py_lines.specs.Private.TakenPieces.{BeginWithLines, BeginWithPiece, BeginWithString, Free, IsOperatorEnd, IsWordStart, Piece};
+ghost use Rattle.py_lines.specs.Private.TakenPieces.{Reached, ReachedInSomeLine, ScansIn, TakesItems, TakesPieces, WhereverReached, byte_len};
+ghost use Rattle.py_lines.specs.Private.TakenPieces.{is_in_code, line_ends, opened_at, string};
 
 use crate::class::Class;
 use crate::line_ends::line_ends_up_to;

@@ -37,11 +37,8 @@ pub struct LineState {
 }
 
 impl LineState {
-    ghost use Rattle.py_lines.specs.Token.{EachLiesIn};
-    ghost use Rattle.py_lines.specs.UnitLine.{line_in};
-    ghost use Rattle.py_lines.specs.Private.LineState.{BeginsAnew, BeginsAt, KeepsFault, ReadsLine, ScansLine};
-    ghost use Rattle.py_lines.specs.Private.LineState.{first_mode, passed, read_line, reread, rescanned, with_tokens};
-    ghost use Rattle.py_lines.specs.Private.LineTokens.{HoldsTokens, IsLineAfter, IsLineText};
+    ghost use Rattle.py_lines.specs.Private.LineState.{BeginsAnew, BeginsAt, EachLiesIn, HoldsTokens, IsLineAfter, IsLineText, KeepsFault, ReadsLine};
+    ghost use Rattle.py_lines.specs.Private.LineState.{ScansLine, first_mode, line_in, passed, read_line, reread, rescanned, with_tokens};
 
     /// At this byte of a text, which is on this line. Nothing of the next line is read.
     pub fn at(alloc: Global, place: u64, line: u64) -> LineState
@@ -73,8 +70,8 @@ impl LineState {
         self.scan.restart(first_mode(self.place));
     }
 
-    /// Reads the line with which the last bytes of a text begin, with its tokens, if it is simple and no text's first: how many bytes its line
-    /// end has, and the line after it. `None` promises nothing of it.
+    /// Reads the line with which the bytes begin, with its tokens, if it is simple and no text's first: how many bytes its line end has, and
+    /// the line after it. `None` promises nothing of it.
     pub fn read_simple(&mut self, bytes: &[u8]) -> Result<Option<(usize, u64)>, AllocError>
         requires { self.old.line + length bytes.now < 2 ^ 64 }
         ensures same { self.new ≡ reread self.old self.new }

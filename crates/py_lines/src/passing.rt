@@ -1,13 +1,10 @@
 //! Bytes of a line that are passed over at once, from one that isn't plain to the next.
 
 ghost use Rattle.std.specs.Prelude.{◌≡◌, ℕ, ◌+◌, ◌<◌, ◌≤◌, ◌^◌, ◌==◌, true, false, IsTrue, List, Some, length, slice_index};
-ghost use Rattle.py_lines.specs.Character.{is_hash, is_quote};
+ghost use Rattle.py_lines.specs.Private.Passing.{FindsNext, FindsSpecial, HasMarks, IsCounted, IsShortStringAt, MeetsString, PassesBlock};
+ghost use Rattle.py_lines.specs.Private.Passing.{PassesPiece, PassesSo, PassesSpecial, TellsFields, is_hash, is_line_byte, is_quote};
+ghost use Rattle.py_lines.specs.Private.Passing.{line_end_special, nothing_passed, passed_line_end, passed_to, tail_of, word_before};
 ghost use Rattle.py_lines.specs.Private.LongStrings.{HasLongString};
-ghost use Rattle.py_lines.specs.Private.Marks.{FindsNext, HasMarks};
-ghost use Rattle.py_lines.specs.Private.Passing.{IsCounted, PassesBlock, PassesPiece, PassesSo, PassesSpecial};
-ghost use Rattle.py_lines.specs.Private.Passing.{FindsSpecial, MeetsString, TellsFields, tail_of, word_before};
-ghost use Rattle.py_lines.specs.Private.Passing.{line_end_special, nothing_passed, passed_line_end, passed_to};
-ghost use Rattle.py_lines.specs.Private.Run.{IsShortStringAt, is_line_byte};
 
 use crate::character::is_break;
 use crate::class::Class;

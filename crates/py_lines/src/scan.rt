@@ -2,9 +2,7 @@
 //! it. It takes a line item after item, and stops before one that the bytes don't tell whole.
 
 ghost use Rattle.std.specs.Prelude.{◌≡◌, ◌==◌, ◌+◌, ◌<◌, ◌≤◌, ◌^◌, None, Some, false, true, length, nat_lt, slice_index};
-ghost use Rattle.py_lines.specs.Character.{is_backslash, is_operator, is_quote};
-ghost use Rattle.py_lines.specs.Piece.{begins};
-ghost use Rattle.py_lines.specs.Private.Scan.{lone_of};
+ghost use Rattle.py_lines.specs.Private.Scan.{begins, is_backslash, is_operator, is_quote, lone_of};
 
 use crate::character::{is_closing, is_opening, is_quote};
 use crate::class::Class;
@@ -74,11 +72,9 @@ fn lone_byte(bytes: &[u8]) -> u8
 }
 
 impl Scan {
-    ghost use Rattle.std.specs.Char.{len_utf8};
-    ghost use Rattle.py_lines.specs.Private.Run.{BeginsWith};
-    ghost use Rattle.py_lines.specs.Private.Scan.{DoesText, EndsField, EndsOpen, EndsTextSo, HasPending, HasQuote};
-    ghost use Rattle.py_lines.specs.Private.Scan.{HoldsRun, IsPending, Steps, TakesOperator};
-    ghost use Rattle.py_lines.specs.Private.Scan.{ends_before, is_in_code, is_text, mode_from, opened_at, passed, string_start, wrong_here};
+    ghost use Rattle.py_lines.specs.Private.Scan.{BeginsWith, DoesText, EndsField, EndsOpen, EndsTextSo, HasPending, HasQuote, HoldsRun, IsPending};
+    ghost use Rattle.py_lines.specs.Private.Scan.{Steps, TakesOperator, ends_before, is_in_code, is_text, len_utf8, mode_from, opened_at, passed};
+    ghost use Rattle.py_lines.specs.Private.Scan.{string_start, wrong_here};
 
     /// At the start of a line.
     pub fn new(mode: Mode) -> Scan

@@ -90,6 +90,9 @@ impl Scanner {
         if self.feed.ready.is_some() {
             return Ok(0);
         }
+        if let Some(taken) = self.feed.take_simple(piece)? {
+            return Ok(taken);
+        }
         let before = self.feed.held.len();
         let taken = self.feed.take_bytes(piece)?;
         self.feed.read_tokens(before)?;

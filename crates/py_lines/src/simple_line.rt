@@ -1,15 +1,8 @@
 //! Simple logical lines, which are read in one pass: where they end, and their tokens. Most lines are so.
 
 ghost use Rattle.std.specs.Prelude.{◌≡◌, ◌+◌, ◌-◌, ◌<◌, ◌≤◌, ◌^◌, true, length, slice_index, IfOk, IsTrue};
-ghost use Rattle.std.specs.Option.{IfSome};
-ghost use Rattle.py_lines.specs.Character.{is_quote};
-ghost use Rattle.py_lines.specs.Private.LineTokens.{ReadsUpTo};
-ghost use Rattle.py_lines.specs.Private.Marks.{FindsNext};
-ghost use Rattle.py_lines.specs.Private.Passing.{PassesPiece};
-ghost use Rattle.py_lines.specs.Private.Run.{IsShortStringAt};
-ghost use Rattle.py_lines.specs.Private.Scan.{opened_at};
-ghost use Rattle.py_lines.specs.Private.SimpleLine.{ReadsSimpleLine};
-ghost use Rattle.py_lines.specs.declared.mode.Mode.TheVariants.{Free};
+ghost use Rattle.py_lines.specs.Private.SimpleLine.{FindsNext, Free, IfSome, IsShortStringAt, PassesPiece, ReadsSimpleLine, ReadsUpTo, is_quote};
+ghost use Rattle.py_lines.specs.Private.SimpleLine.{opened_at};
 
 use crate::class::Class;
 use crate::line_tokens::LineTokens;

@@ -1,11 +1,8 @@
 //! Strings that bytes hold whole, where they are short and simple, or have no fields: the machine need not go through them.
 
 ghost use Rattle.std.specs.Prelude.{◌≡◌, false, true};
-ghost use Rattle.py_lines.specs.FieldStrings.{begins_open};
-ghost use Rattle.py_lines.specs.Character.{is_quote};
-ghost use Rattle.py_lines.specs.Piece.{begins};
-ghost use Rattle.py_lines.specs.Private.Run.{BeginsPlainString, HasWholePlainString, IsRunOf, is_literal_byte};
-ghost use Rattle.py_lines.specs.Private.FieldText.{HasSimpleCode, HasCode, HasField, HasPart, HasText};
+ghost use Rattle.py_lines.specs.Private.FieldText.{BeginsPlainString, HasCode, HasField, HasPart, HasSimpleCode, HasText, HasWholePlainString};
+ghost use Rattle.py_lines.specs.Private.FieldText.{IsRunOf, begins, begins_open, is_literal_byte, is_quote};
 ghost use Rattle.py_lines.specs.Private.LongStrings.{HasLongText};
 
 use crate::character::{is_brace, is_quote};

@@ -7,7 +7,8 @@ use Rattle.py_lines.specs.Piece.{ends}
 use Rattle.py_lines.specs.LogicalLine.{byte_len}
 use Rattle.py_lines.specs.Private.LineScan.{EndsWhole, ScansIn}
 use Rattle.py_lines.specs.ScannerState.{EndsExactly}
-use Rattle.py_lines.specs.Private.Feed.{EndsWithLine, Holds, HoldsMore, IsScanned, LexError, Meets, StopsHeld, Scan, Stop, Feed, Mode, Takes}
+use Rattle.py_lines.specs.Private.LineState.{reread}
+use Rattle.py_lines.specs.Private.Feed.{EndsWithLine, FailsAfter, Holds, HoldsMore, IsScanned, IsUnchanged, LexError, LineState, Meets, StopsHeld, Scan, Stop, Feed, Mode, Takes}
 use Rattle.py_lines.proofs.Feeds.LastBytes.{ends-encoded, exactly, last_test, one_most}
 use Rattle.py_lines.proofs.Feeds.ReadyLines.{ended_alone, stopped_text}
 
@@ -116,3 +117,12 @@ takes_met old mid new piece k before text within some at (Ok n) met =
     }
 takes_met old mid new piece k before text within some at (Err (LexError.Fault f)) met = (k, within, fails_later old mid new text text.held met)
 takes_met old mid new piece k before text within some at (Err LexError.Memory) never = absurd never
+
+-- so they are whatever the scan and the tokens were
+pub takes_reread : (old : Feed) (state : LineState) → state ≡ reread old.state state → (piece : List ℕ) (result : Result ℕ LexError) (new : Feed)
+    → Takes (record old { state = state }) piece result new → Takes old piece result new
+takes_reread old state same piece (Ok n) new takes =
+    let h = subst (λ (s : LineState). HoldsMore (record old { state = s }) old.held.items old.held.items piece n new) same takes in
+    record { within = h.within; some = h.some; text = h.text; ends = h.ends }
+takes_reread old state same piece (Err (LexError.Fault f)) new takes = subst (λ (s : LineState). FailsAfter (record old { state = s }) piece f new) same takes
+takes_reread old state same piece (Err LexError.Memory) new takes = subst (λ (s : LineState). IsUnchanged (record old { state = s }) new) same takes

@@ -1,5 +1,5 @@
 -- LF in brackets are passed, up to another byte that isn't plain.
-use Rattle.py_lines.proofs.Prelude.{◌≡◌, ℕ, zero, suc, ◌+◌, ◌-◌, ◌<◌, ◌≤◌, ◌==◌, false, ⊎_elim, inl, inr, List, ◌∷◌, ◌++◌, length, take, drop, slice_index, refl, sym, ap, ◌∙◌, subst, arith, length-drop, get_or-drop, transport, cases_lt, ne_eqb, or_cases}
+use Rattle.py_lines.proofs.Prelude.{◌≡◌, ℕ, zero, suc, ◌+◌, ◌-◌, ◌<◌, ◌≤◌, ◌==◌, false, ⊎_elim, inl, inr, List, ◌∷◌, ◌++◌, length, take, drop, slice_index, refl, sym, ap, ◌∙◌, subst, arith, length-drop, get_or-drop, transport, cases_lt, or_cases}
 use Rattle.py_lines.specs.Character.{is_line_feed}
 use Rattle.py_lines.specs.declared.frames.Frame.{Frame}
 use Rattle.py_lines.specs.declared.passing.Passing.{Passing}

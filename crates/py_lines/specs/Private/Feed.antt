@@ -2,11 +2,13 @@
 use Rattle.std.specs.Prelude.{◌≡◌, ℕ, ◌+◌, ◌<◌, ◌≤◌, ◌^◌, ◌⊎◌, Bool, true, Option, None, Some, Result, Ok, Err, List, ◌++◌, length, take, drop, encode_utf8_all}
 use Rattle.std.specs.Str.{all_scalars}
 use Rattle.py_lines.specs.Piece.{Piece, spelled}
-use Rattle.py_lines.specs.LogicalLine.{LogicalLine, byte_len, end_len_of, line_ends, line_of}
+use Rattle.py_lines.specs.LogicalLine.{byte_len, end_len_of, line_ends, line_of}
+pub use Rattle.py_lines.specs.LogicalLine.{LogicalLine}
 use Rattle.py_lines.specs.Lexed.{IsLexed}
 use Rattle.py_lines.specs.Settled.{IsHopeless, Decides}
 pub use Rattle.py_lines.specs.Given.{AreFirstLines}
 use Rattle.py_lines.specs.ScannerState.{ScannerState, EndsExactly, Feeds, GoesOnWith, HoldsLast, TakesBytes, WhereWhole, ready_lines}
+pub use Rattle.py_lines.specs.ScannerState.{StandsAtLine}
 pub use Rattle.py_lines.specs.ScannerState.View.{line_of_feed, ready_of, scanning_of}
 use Rattle.py_lines.specs.Private.LineScan.{Reached, ScansIn}
 use Rattle.py_lines.specs.Private.LineState.{BeginsAnew, KeepsFault, first_mode}
@@ -20,6 +22,7 @@ pub use Rattle.py_lines.specs.declared.fault.LexError.{LexError}
 pub use Rattle.py_lines.specs.declared.scan.Scan.{Scan}
 pub use Rattle.py_lines.specs.declared.scan.Stop.{Stop}
 pub use Rattle.py_lines.specs.declared.feed.Feed.{Feed}
+pub use Rattle.py_lines.specs.ScannerState.View.{scanning_of}
 
 -- these bytes are held, from the same place on, and this fault is known
 pub record HoldsAt (at number : ℕ) (over : Bool) (items : List ℕ) (known : Option Fault) (f : Feed) : Type 0 where
@@ -174,6 +177,15 @@ Meets old before (Ok n) new = HoldsMore old (take before old.held.items) (take b
 Meets old before (Err (LexError.Fault f)) new = FailsIn old old.held.items f new
 Meets old before (Err LexError.Memory) new = ⊥
 
+-- where a line has ended, it is ready, and nothing else has changed than what is held
+abbrev pub IsReadyAt : Feed → Stop → Feed → Type 0
+IsReadyAt old (Stop.LineEnd end_len) new = new ≡ record old { held = new.held; ready = Some end_len }
+IsReadyAt old other new = Unit {0}
+
+-- the scan of a piece where it stands, after what is held, has stopped so
+abbrev pub ScansPiece : Feed → List ℕ → Stop → Type 0
+ScansPiece f piece stop = ScansIn (first_mode f.state.place) (f.held.items ++ piece) f.state.scan stop
+
 -- with some bytes of a piece after what was held this fault is met, and kept
 abbrev pub FailsAfter : Feed → List ℕ → Fault → Feed → Type 0
 FailsAfter old piece fault new = (n : ℕ) × (n ≤ length piece) × FailsIn old (old.held.items ++ take n piece) fault new
@@ -195,6 +207,12 @@ pub record TakesLine (old : Feed) (piece : List ℕ) (n : ℕ) (new : Feed) : Ty
 abbrev pub TakesSo : Feed → List ℕ → Result ℕ LexError → Feed → Type 0
 TakesSo old piece (Ok n) new = TakesLine old piece n new
 TakesSo old piece (Err error) new = Feeds (scanning_of old) piece (Err error) (scanning_of new) × IsSoundFeed new
+
+-- the line with which a piece begins is ready with its tokens, or nothing that contracts see has changed
+abbrev pub TakesSimple : Feed → List ℕ → Result (Option ℕ) LexError → Feed → Type 0
+TakesSimple old piece (Ok (Some n)) new = TakesBytes (scanning_of old) piece n (scanning_of new) × IsSoundFeed new
+TakesSimple old piece (Ok None) new = (scanning_of new ≡ scanning_of old) × (new.ready ≡ None) × IsSoundFeed new
+TakesSimple old piece (Err error) new = Feeds (scanning_of old) piece (Err error) (scanning_of new) × IsSoundFeed new
 
 -- the text that ends with what is held has this fault, which is kept
 pub record HasEndFault (old : Feed) (fault : Fault) (new : Feed) : Type 0 where

@@ -3,13 +3,17 @@
 use Rattle.std.specs.Prelude.{◌≡◌, ℕ, ◌+◌, ◌<◌, ◌≤◌, ◌==◌, ◌&&◌, not, nat_lt, Bool, true, false, Option, None, Some, List, [], ◌∷◌, length, take, codes}
 use Rattle.std.specs.Str.{byte}
 use Rattle.std.specs.List.{list_all}
-use Rattle.py_lines.specs.Character.{is_brace, is_break, is_one_of, is_quote}
+use Rattle.py_lines.specs.Character.{is_brace, is_break, is_one_of}
+pub use Rattle.py_lines.specs.Character.{is_quote}
 use Rattle.py_lines.specs.Piece.{Piece}
+pub use Rattle.py_lines.specs.Piece.{begins}
 use Rattle.py_lines.specs.FieldStrings.{literal, specification}
+pub use Rattle.py_lines.specs.FieldStrings.{begins_open}
 use Rattle.py_lines.specs.Private.Machine.{Mode}
 use Rattle.py_lines.specs.Private.Mode as modes
 use Rattle.py_lines.specs.Private.FieldMachine.{between, after_brace, plain, body, Level, FieldScanned, field_state, levels_open}
 use Rattle.py_lines.specs.Private.Run.{is_line_byte}
+pub use Rattle.py_lines.specs.Private.Run.{BeginsPlainString, HasWholePlainString, IsRunOf, is_literal_byte}
 use Rattle.py_lines.specs.Private.Scan.{Goes, KeepsOpen}
 
 -- Where the machine stands in a string: `outer` are the fields round the string, and `l` says what stands before it in its list,

@@ -1,7 +1,7 @@
 -- The brackets and fields that are open in a line, as a list with the innermost first. It serves the contracts of private functions.
 use Rattle.std.specs.Prelude.{◌≡◌, ℕ, ◌+◌, ◌<◌, Bool, true, false, Option, None, Some, List, [], ◌∷◌, length}
-use Rattle.py_lines.specs.Balance.{closing_of}
-use Rattle.py_lines.specs.declared.frames.Frame.{Frame}
+pub use Rattle.py_lines.specs.Balance.{closing_of}
+pub use Rattle.py_lines.specs.declared.frames.Frame.{Frame}
 use Rattle.py_lines.specs.declared.frames.Frame.TheVariants as frame
 
 -- what was opened last

@@ -1,8 +1,10 @@
 -- Line ends in the bytes of a text.
 use Rattle.std.specs.Prelude.{◌≡◌, ◌<◌, ◌≤◌, ◌⊎◌, ℕ, ◌+◌, ◌&&◌, not, Bool, true, false, Option, None, Some, List, [], ◌∷◌, length, take, drop, if◌then◌else◌}
 use Rattle.py_lines.specs.Character.{is_break, is_line_feed, is_return}
-use Rattle.py_lines.specs.LogicalLine.{line_ends}
+pub use Rattle.py_lines.specs.LogicalLine.{line_ends}
 use Rattle.py_lines.specs.Piece.{begins}
+pub use Rattle.std.specs.List.{count_by}
+pub use Rattle.memchr.specs.Find.{is_byte}
 
 -- how many of the bytes are CR that isn't before LF
 abbrev pub lone_returns : List ℕ → ℕ

@@ -5,8 +5,9 @@ use Rattle.py_lines.specs.Piece.{Piece, spelled}
 use Rattle.py_lines.specs.LogicalLine.{LogicalLine, end_len_of, line_ends, line_of}
 use Rattle.py_lines.specs.Given.{AreFirstLines}
 use Rattle.py_lines.specs.Lexed.{IsLexed}
-use Rattle.py_lines.specs.Private.LineScan.{HasBegun}
-use Rattle.py_lines.specs.Private.LineTokens.{AreLineText, HoldsTokens, IsLineAfter}
+use Rattle.py_lines.specs.Private.LineScan.{HasBegun, ScansIn}
+use Rattle.py_lines.specs.Private.LineTokens.{AreLineText}
+pub use Rattle.py_lines.specs.Private.LineTokens.{HoldsTokens, IsLineAfter, IsLineText}
 use Rattle.py_lines.specs.declared.fault.Fault.{Fault}
 use Rattle.py_lines.specs.declared.fault.FaultKind.{FaultKind}
 use Rattle.py_lines.specs.declared.fault.LexError.{LexError}
@@ -16,6 +17,9 @@ use Rattle.py_lines.specs.Private.Machine.{Mode}
 use Rattle.py_lines.specs.Private.Mode as modes
 use Rattle.py_lines.specs.declared.scan.Scan.{Scan}
 use Rattle.py_lines.specs.declared.scan.LineFault.{LineFault}
+use Rattle.py_lines.specs.declared.scan.Stop.TheVariants as stops
+pub use Rattle.py_lines.specs.Token.{EachLiesIn}
+pub use Rattle.py_lines.specs.UnitLine.{line_in}
 
 -- what is open where a line begins: a mark may stand at the text's start
 abbrev pub first_mode : ℕ → Mode
@@ -104,9 +108,9 @@ pub record HasNextFault (s : LineState) (bytes : List ℕ) (line_fault : LineFau
   pub lexed : (fault : Fault) → IsFaultAfter s line_fault.kind line_fault.place (take line_fault.place bytes) fault
       → WhereLeft s.place s.line bytes (λ text lines. IsLexed text lines (Some fault))
 
--- the next line was read, with its tokens: so many bytes are its line end, and the line after it is this one
+-- the line with which these bytes begin was read, with its tokens: so many of its bytes are its line end, and the line after it is this one
 pub record ReadsLine (s : LineState) (bytes : List ℕ) (end_len after : ℕ) (new : LineState) : Type 0 where
-  pub scans : HasNextLine s.place s.line bytes new.scan.stop end_len
+  pub scans : ScansIn (first_mode s.place) bytes new.scan (stops.LineEnd end_len)
   pub tokens : HoldsTokens (take new.scan.stop bytes) end_len s.line new.tokens
   pub after_is : IsLineAfter s.line (take new.scan.stop bytes) end_len after
 

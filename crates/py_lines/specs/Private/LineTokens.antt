@@ -3,11 +3,14 @@ use Rattle.std.specs.Prelude.{◌≡◌, ℕ, ◌+◌, Bool, true, false, List, 
 use Rattle.std.specs.List.{starts_with}
 use Rattle.std.specs.Str.{all_scalars}
 use Rattle.py_lines.specs.Character.{is_digit}
-use Rattle.py_lines.specs.Piece.{Class, word, string, operator, comment, join, Piece, begins, begins_marked, is_mark_class, spelled}
+pub use Rattle.py_lines.specs.Character.{is_quote, is_space}
+use Rattle.py_lines.specs.Piece.{Class, word, operator, comment, join, begins_marked, is_mark_class, spelled}
+pub use Rattle.py_lines.specs.Piece.{Piece, begins, string}
 use Rattle.py_lines.specs.Fields.{AreReadBefore, IsShallow}
 use Rattle.py_lines.specs.LogicalLine.{byte_len, end_len_of, line_ends, first_or_zero, token, tokens_from, kind_of, indent_of}
 use Rattle.py_lines.specs.Private.Machine.{begins_string}
-use Rattle.py_lines.specs.Private.Run.{word_spelling}
+pub use Rattle.py_lines.specs.Private.Machine.{is_field_spelling}
+pub use Rattle.py_lines.specs.Private.Run.{IsRunOf, is_wide_word, word_spelling}
 use Rattle.py_lines.specs.Token.{is_comment}
 use Rattle.py_lines.specs.declared.class.Class.{Class as ByteClass}
 use Rattle.py_lines.specs.declared.class.Class.TheVariants as class
@@ -17,6 +20,8 @@ use Rattle.py_lines.specs.declared.unit.UnitKind.{UnitKind}
 use Rattle.py_lines.specs.declared.unit.UnitKind.TheVariants as unit_kind
 use Rattle.py_lines.specs.declared.token.TokKind.TheVariants as kind
 use Rattle.py_lines.specs.declared.line_tokens.LineTokens.{LineTokens}
+pub use Rattle.std.specs.Char.{is_ascii_digit}
+pub use Rattle.py_lines.specs.Private.Marks.{is_of_class}
 
 -- the text is what these pieces spell, which something may follow, and there is room for all that they open where so many brackets are open
 -- before them

@@ -1,6 +1,6 @@
 -- Bytes of a line that are passed over at one that isn't plain: what that comes to, wherever in a line they stand.
 use Rattle.std.specs.Prelude.{◌≡◌, ◌⊎◌, ℕ, ◌+◌, ◌-◌, ◌<◌, ◌≤◌, Bool, true, false, Option, None, Some, List, [], ◌∷◌, length, take, drop, slice_index, if◌then◌else◌}
-use Rattle.py_lines.specs.Character.{is_quote}
+pub use Rattle.py_lines.specs.Character.{is_hash, is_quote}
 use Rattle.py_lines.specs.declared.frames.Frame.{Frame}
 use Rattle.py_lines.specs.declared.marks.Marks.{Marks}
 use Rattle.py_lines.specs.declared.mode.Mode.TheVariants as opens
@@ -13,8 +13,10 @@ use Rattle.py_lines.specs.declared.scan.Scan.{Scan}
 use Rattle.py_lines.specs.Private.Frames.{has_field}
 use Rattle.py_lines.specs.LogicalLine.{line_ends}
 use Rattle.py_lines.specs.Private.Machine.{begins_string, first_spelling, is_field_spelling, spelling_with}
-use Rattle.py_lines.specs.Private.Marks.{EndInFeed, FindsNext, HasMarks, PassesFeedsTo}
+use Rattle.py_lines.specs.Private.Marks.{EndInFeed, PassesFeedsTo}
+pub use Rattle.py_lines.specs.Private.Marks.{FindsNext, HasMarks}
 use Rattle.py_lines.specs.Private.Run.{is_ascii_word}
+pub use Rattle.py_lines.specs.Private.Run.{IsShortStringAt, is_line_byte}
 use Rattle.py_lines.specs.Private.Scan.{Steps, Takes, passed, quotes_in}
 
 -- the spelling of the word of ASCII that a text ends with, if it ends with one: with one more character or byte, and with more of them

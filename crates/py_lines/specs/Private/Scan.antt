@@ -3,11 +3,14 @@
 -- empty string does before another byte than its quote, the scan has closed them, and the machine does so with that byte's character.
 use Rattle.std.specs.Prelude.{◌≡◌, ℕ, ◌+◌, ◌-◌, ◌<◌, ◌==◌, ◌||◌, ◌&&◌, ◌⊎◌, not, nat_lt, Bool, true, false, Option, None, Some, Result, Ok, Err, List, [], ◌∷◌, ◌++◌, length, drop, map, slice_index, encode_utf8, encode_utf8_all, if◌then◌else◌}
 use Rattle.std.specs.Char.{IsScalar}
+pub use Rattle.std.specs.Char.{len_utf8}
 use Rattle.std.specs.Str.{all_scalars, byte, StartsWithNoChar}
-use Rattle.py_lines.specs.Character.{is_break, is_line_feed, is_mark, is_quote, is_space, is_word_character, is_backslash}
+use Rattle.py_lines.specs.Character.{is_break, is_line_feed, is_mark, is_space, is_word_character}
+pub use Rattle.py_lines.specs.Character.{is_backslash, is_operator, is_quote}
 use Rattle.py_lines.specs.LogicalLine.{byte_len}
 use Rattle.py_lines.specs.Faults.{kind_of_cause, Unfinished, open_bracket, kind_of_unfinished}
-use Rattle.py_lines.specs.Piece.{Piece, begins, spelled}
+use Rattle.py_lines.specs.Piece.{Piece, spelled}
+pub use Rattle.py_lines.specs.Piece.{begins}
 use Rattle.py_lines.specs.FieldStrings.{Host, Place, literal, specification}
 use Rattle.py_lines.specs.declared.fault.FaultKind.{FaultKind}
 use Rattle.py_lines.specs.declared.fault.FaultKind.TheVariants.{BadUtf8}
@@ -32,7 +35,7 @@ use Rattle.py_lines.specs.Private.Machine.{Holds, Bracket, begins_string, bracke
 use Rattle.py_lines.specs.Private.Mode as modes
 use Rattle.py_lines.specs.Private.FieldMachine.{FieldMode, FieldMove, plain, empty, body, between, grows, closes, breaks, ends_field, refused, closing_move, after_open_backslash, Level, FieldScanned, field_class_of, field_fresh, field_move, field_pieces, room_step, text_place, before, frames}
 use Rattle.py_lines.specs.Private.FieldFaults.{here, piece_start, cause_in, cause_place, is_waiting, quotes_specification, unfinished_at, unfinished_place}
-use Rattle.py_lines.specs.Private.Run.{BeginsWith}
+pub use Rattle.py_lines.specs.Private.Run.{BeginsWith}
 
 -- what the code's words are in the machine's
 abbrev pub host_in : StringWithFields → Host

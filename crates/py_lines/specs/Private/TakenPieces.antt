@@ -3,11 +3,17 @@ use Rattle.std.specs.Prelude.{◌≡◌, ℕ, ◌+◌, ◌-◌, ◌<◌, ◌≤�
 use Rattle.py_lines.specs.declared.class.Class.TheVariants as class
 use Rattle.py_lines.specs.declared.scan.Scan.{Scan}
 use Rattle.py_lines.specs.declared.scan.Stop.{Stop}
-use Rattle.py_lines.specs.Private.LineScan.{Reached, ScansIn, WhereverReached}
+pub use Rattle.py_lines.specs.Private.LineScan.{Reached, ReachedInSomeLine, ScansIn, WhereverReached}
 use Rattle.py_lines.specs.Private.Marks.{is_of_class}
 use Rattle.py_lines.specs.Private.Passing.{EndsAfter}
 use Rattle.py_lines.specs.Private.Run.{is_ascii_word}
-use Rattle.py_lines.specs.Private.Scan.{Takes, is_in_code}
+use Rattle.py_lines.specs.Private.Scan.{Takes}
+pub use Rattle.py_lines.specs.Private.Scan.{is_in_code, opened_at}
+pub use Rattle.py_lines.specs.LogicalLine.{byte_len, line_ends}
+pub use Rattle.py_lines.specs.Piece.{Piece, string}
+pub use Rattle.py_lines.specs.Private.LineTokens.{BeginWithPiece, BeginWithString}
+pub use Rattle.py_lines.specs.Private.WholeLines.{BeginWithLines}
+pub use Rattle.py_lines.specs.declared.mode.Mode.TheVariants.{Free}
 
 -- so many bytes go up to an operator that is no bracket, and with it; or none
 abbrev pub IsOperatorEnd : List ℕ → ℕ → Type 0

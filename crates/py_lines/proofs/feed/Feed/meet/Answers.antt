@@ -30,9 +30,9 @@ index-requires c = let s = line_ended (goal.at.index-requires c).In-LineEnd in o
 pub overflow_add-end : goal.overflow_add-end
 overflow_add-end c = let s = line_ended (goal.at.overflow_add-end c).In-LineEnd in omega (arith, stop_within s, c.requires.room.fits, one_most (c.index.result.now == 13))
 
-pub returns-in-LineEnd : goal.returns-in-LineEnd
-returns-in-LineEnd c =
-    let f = c.args.self.now in let s = line_ended (goal.at.returns-in-LineEnd c).In-LineEnd in
+pub returns-in-LineEnd-clause-meets : goal.returns-in-LineEnd-clause-meets
+returns-in-LineEnd-clause-meets c =
+    let f = c.args.self.now in let s = line_ended (goal.at.returns-in-LineEnd-clause-meets c).In-LineEnd in
     let last = c.index.ensures ∙ get_or_default_zero f.held.items (f.state.scan.stop - 1) c.index.result.now (omega (arith, stop_some s, stop_within s)) in
     stays_line f c.args.before c.requires.within s (c.index.result.now == 13) (ap (λ (b : ℕ). b == 13) last ∙ returns_is s) c.truncate.new.self c.max.result _ (omega (arith, c.len.ensures)) c.truncate.ensures.items c.max.ensures
 
@@ -59,12 +59,12 @@ fail-requires-in-Wrong-clause-cut c =
     let f = c.args.self.now in let s = refused (goal.at.fail-requires-in-Wrong-clause-cut c).In-Wrong in let no = s.stops in
     (within_held f s.read s.rest s.spell _ (refused_within f.state.place s.read no.way no.c no.none _ no.fault)).0
 
-pub returns-in-Err : goal.returns-in-Err
-returns-in-Err c = let (s, (at, never)) = hopeless (goal.at.returns-in-Err c).After-valid_up_to in part_fails c.args.self.now c.fail.new.self c.args.before c.fail.result c.requires.not_ready _ s at never c.fail.ensures
+pub returns-in-Err-clause-meets : goal.returns-in-Err-clause-meets
+returns-in-Err-clause-meets c = let (s, (at, never)) = hopeless (goal.at.returns-in-Err-clause-meets c).After-valid_up_to in part_fails c.args.self.now c.fail.new.self c.args.before c.fail.result c.requires.not_ready _ s at never c.fail.ensures
 
-pub returns-in_default : goal.returns-in_default
-returns-in_default c =
-    let f = c.args.self.now in let s = left (goal.at.returns-in_default c).In-TextEnd in
+pub returns-in_default-clause-meets : goal.returns-in_default-clause-meets
+returns-in_default-clause-meets c =
+    let f = c.args.self.now in let s = left (goal.at.returns-in_default-clause-meets c).In-TextEnd in
     let (same, more) : (c.in_default.self ≡ f) × ¬ (IsHopeless s.rest) = elim c.in_default.branch [
       | in_default-via-in-Err+else-is_some w ↦ (w.self-is, part_held f s _ c.deref.ensures.value (tells_part _ _ _ w.in-Err.ensures.cases.1 w.in-Err.ensures.fault (ap is_some (sym w.error_len.ensures) ∙ sym w.is_some.ensures ∙ w.if-is_some.false)))
       | in_default-via-in_default w ↦ (w.self-is, part_held f s _ c.deref.ensures.value (tells_ok _ (rw w.in_default.is at c.from_utf8.ensures.cases).1))
@@ -72,8 +72,8 @@ returns-in_default c =
     subst (Meets f c.args.before (Ok (c.len-in_default.result - c.args.before))) (sym same)
     (stays_open f c.args.before c.requires.within _ (omega (arith, c.len-in_default.ensures, ap (λ (x : Feed). vec_len x.held) same)) c.requires.not_ready (s, more))
 
-pub returns-in-Wrong : goal.returns-in-Wrong
-returns-in-Wrong c = held_refused c.args.self.now c.fail-in-Wrong.new.self c.args.before c.fail-in-Wrong.result c.requires.not_ready _ (refused (goal.at.returns-in-Wrong c).In-Wrong) c.fail-in-Wrong.ensures
+pub returns-in-Wrong-clause-meets : goal.returns-in-Wrong-clause-meets
+returns-in-Wrong-clause-meets c = held_refused c.args.self.now c.fail-in-Wrong.new.self c.args.before c.fail-in-Wrong.result c.requires.not_ready _ (refused (goal.at.returns-in-Wrong-clause-meets c).In-Wrong) c.fail-in-Wrong.ensures
 
 pub fail-requires-clause-room : goal.fail-requires-clause-room
 fail-requires-clause-room c = c.requires.room

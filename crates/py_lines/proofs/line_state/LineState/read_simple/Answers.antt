@@ -6,7 +6,6 @@ use Rattle.py_lines.specs.declared.mode.Mode.TheVariants as opens
 use Rattle.py_lines.proofs.LineScan.LineSteps.{begun_reached}
 use Rattle.py_lines.proofs.LineScan.Reaching.{ends_over}
 use Rattle.py_lines.proofs.LineScan.TextSteps.{begun_sound}
-use Rattle.py_lines.proofs.Readers.NextLines.{line_scanned}
 use Rattle.py_lines.proofs.line_state.LineState.read_simple.Goals as goal
 
 -- after the text's start no mark may stand
@@ -20,7 +19,7 @@ returns-clause-reads c =
     let bytes = c.args.bytes.now in
     let begun = begun_reached (c.restart.ensures ∙ ap opened_at (free_there s.place c.if-self-eq0.false)) (begun_sound s.place) bytes in
     IfOk-weaker c.read_simple_line.result _ _ (λ r. λ some. IfSome_then r some (λ read is. record {
-      scans = line_scanned s (ends_over (begun_sound s.place) begun _ is.before read.0 is.ends);
+      scans = ends_over (begun_sound s.place) begun _ is.before read.0 is.ends;
       tokens = is.tokens;
       after_is = is.lines;
     })) c.read_simple_line.ensures

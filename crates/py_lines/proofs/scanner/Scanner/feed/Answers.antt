@@ -1,22 +1,31 @@
-use Rattle.py_lines.proofs.Prelude.{sym, ◌∙◌, arith, err_from_is_err_and}
+use Rattle.py_lines.proofs.Prelude.{◌≡◌, None, Ok, sym, ◌∙◌, arith, subst, err_from_is_err_and}
+use Rattle.py_lines.specs.Private.Feed.{IsSoundFeed, TakesSimple, scanning_of}
 use Rattle.py_lines.proofs.Feeds.FedScanner.{fed_short, takes_read, waits_so}
-use Rattle.py_lines.proofs.Feeds.ReadyLines.{none_is}
+use Rattle.py_lines.proofs.scanner.Scanner.feed.Goals.{In_default}
 use Rattle.py_lines.proofs.scanner.Scanner.feed.Goals as goal
 
 pub returns-then-is_some : goal.returns-then-is_some
 returns-then-is_some c = record { feeds = rw (← c.self.view_is) (waits_so c.self.inside.feed c.args.piece.now c.self.invariant (sym c.is_some.ensures ∙ c.if-is_some.true)) }
 
+-- no simple line was taken
+stays : (c : In_default) → let new = c.take_simple.new.self in (scanning_of new ≡ scanning_of c.self.inside.feed) × (new.ready ≡ None) × IsSoundFeed new
+stays c = subst (λ o. TakesSimple c.self.inside.feed c.args.piece.now (Ok o) c.take_simple.new.self) c.in_default.is c.in_ok-taken.ensures
+
 pub read_tokens-requires-clause-no_fault : goal.read_tokens-requires-clause-no_fault
-read_tokens-requires-clause-no_fault c = c.in_ok-taken.ensures.takes.no_fault
+read_tokens-requires-clause-no_fault c = c.in_ok-taken-2.ensures.takes.no_fault
 
 pub invariant_of-self-in_err-read_tokens : goal.invariant_of-self-in_err-read_tokens
 invariant_of-self-in_err-read_tokens c =
-    (fed_short c.in_ok-taken.ensures c.self.invariant (none_is c.self.inside.feed.ready (sym c.is_some.ensures ∙ c.if-is_some.false)) (omega (arith, c.len-before.ensures)) _ c.in_err-read_tokens.ensures).1
+    let (same, none, sound) = stays (goal.at.invariant_of-self-in_err-read_tokens c).In_default in
+    (fed_short c.in_ok-taken-2.ensures sound none (omega (arith, c.len-before.ensures)) _ c.in_err-read_tokens.ensures).1
 
 pub returns-in_err-read_tokens : goal.returns-in_err-read_tokens
 returns-in_err-read_tokens c =
-    let (error, is, same) = err_from_is_err_and c.from_residual-in_err-read_tokens.result c.from_residual-in_err-read_tokens.ensures.1 in
-    record { feeds = rw (← c.self.view_is, is, same) (fed_short c.in_ok-taken.ensures c.self.invariant (none_is c.self.inside.feed.ready (sym c.is_some.ensures ∙ c.if-is_some.false)) (omega (arith, c.len-before.ensures)) _ c.in_err-read_tokens.ensures).0 }
+    let (error, is, so) = err_from_is_err_and c.from_residual-in_err-read_tokens.result c.from_residual-in_err-read_tokens.ensures.1 in
+    let (same, none, sound) = stays (goal.at.returns-in_err-read_tokens c).In_default in
+    record { feeds = rw (← c.self.view_is, ← same, is, so) (fed_short c.in_ok-taken-2.ensures sound none (omega (arith, c.len-before.ensures)) _ c.in_err-read_tokens.ensures).0 }
 
 pub returns : goal.returns
-returns c = record { feeds = rw (← c.self.view_is) (takes_read c.in_ok-taken.ensures c.in_ok-read_tokens.ensures) }
+returns c =
+    let (same, none, sound) = stays (goal.at.returns c).In_default in
+    record { feeds = rw (← c.self.view_is, ← same) (takes_read c.in_ok-taken-2.ensures c.in_ok-read_tokens.ensures) }

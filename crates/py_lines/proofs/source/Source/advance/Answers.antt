@@ -13,7 +13,7 @@ use Rattle.py_lines.proofs.FieldScans.TextLengths.{rest_is, rest_of}
 use Rattle.py_lines.proofs.Lexings.FirstLines.{all_first}
 use Rattle.py_lines.proofs.LineScan.LineCount.{line_ends-bytes}
 use Rattle.py_lines.proofs.LogicalLines.TokenPlaces.{each_after}
-use Rattle.py_lines.proofs.Readers.NextLines.{further, passes_next}
+use Rattle.py_lines.proofs.Readers.NextLines.{further, line_scanned, passes_next}
 use Rattle.py_lines.proofs.source.Source.advance.Goals as goal
 use Rattle.py_lines.proofs.source.Source.advance.Goals.{After-pass, After-pass-in-Ok, In-Some-2}
 
@@ -130,16 +130,16 @@ read c =
     subst (λ o. IfSome o (λ r. ReadsLine s.state (rest_of s.bytes.now s.state.place) r.0 r.1 c.read_simple.new.self)) c.in-Some-2.is c.in_ok-end_len.ensures.reads
 
 read_moved : (c : After-pass) → let s = c.args.self.now in
-    Moves s.state c.pass.new.self (rest_of s.bytes.now s.state.place) c.read_simple.new.self.scan.stop (read (goal.at.After-pass c).In-Some-2).scans.is.pieces
+    Moves s.state c.pass.new.self (rest_of s.bytes.now s.state.place) c.read_simple.new.self.scan.stop (line_scanned s.state (read (goal.at.After-pass c).In-Some-2).scans).is.pieces
 read_moved c =
     let r = read (goal.at.After-pass c).In-Some-2 in
     let s = c.args.self.now.state in
-    moves {s = s} {scanned = rescanned s c.read_simple.new.self} {read = c.read_simple.new.self} r.scans refl c.read_simple.ensures.same c.pass.ensures r.tokens r.after_is
+    moves {s = s} {scanned = rescanned s c.read_simple.new.self} {read = c.read_simple.new.self} (line_scanned s r.scans) refl c.read_simple.ensures.same c.pass.ensures r.tokens r.after_is
 
 pub invariant_of-self-in-Some-2 : goal.invariant_of-self-in-Some-2
 invariant_of-self-in-Some-2 c =
     let s = c.args.self.now in
-    let h = (read (goal.at.invariant_of-self-in-Some-2 c).In-Some-2).scans in
+    let h = line_scanned s.state (read (goal.at.invariant_of-self-in-Some-2 c).In-Some-2).scans in
     let m = read_moved (goal.at.invariant_of-self-in-Some-2 c).After-pass in
     let left = ap length (rest_is s.bytes.now s.state.place) in record {
       within = omega (arith, m.place, h.is.within, h.is.some, left, length-drop s.state.place s.bytes.now);
@@ -149,7 +149,7 @@ invariant_of-self-in-Some-2 c =
 pub returns-in-Some-2 : goal.returns-in-Some-2
 returns-in-Some-2 c =
     let s = c.args.self.now in
-    gives s.bytes.now (read (goal.at.returns-in-Some-2 c).In-Some-2).scans (rest_is s.bytes.now s.state.place) c.in_default.is
+    gives s.bytes.now (line_scanned s.state (read (goal.at.returns-in-Some-2 c).In-Some-2).scans) (rest_is s.bytes.now s.state.place) c.in_default.is
     (read_moved (goal.at.returns-in-Some-2 c).After-pass)
 
 pub read_tokens-requires-clause-text : goal.read_tokens-requires-clause-text
@@ -213,3 +213,9 @@ pub read_simple-requires : goal.read_simple-requires
 read_simple-requires c =
     let s = c.args.self.now in
     omega (arith, s.within, s.few_lines, ap length (rest_is s.bytes.now s.state.place), length-drop s.state.place s.bytes.now, c.well_formed)
+
+pub pass-requires : goal.pass-requires
+pass-requires c =
+    let s = c.args.self.now in
+    let h = line_scanned s.state (read (goal.at.pass-requires c).In-Some-2).scans in
+    omega (arith, h.is.within, s.within, ap (λ (t : LineState). t.place) c.read_simple.ensures.same, ap length (rest_is s.bytes.now s.state.place), length-drop s.state.place s.bytes.now)
