@@ -98,8 +98,8 @@ impl<'t> Finder<'t> {
         }
     }
 
-    /// Passes over the next logical lines without their tokens, as long as they are simple and bind nothing. Most lines are passed
-    /// over so. Nothing is left of the line read last, and none was left unread.
+    /// Passes over the next logical lines without their tokens, as long as they bind nothing. Most lines are passed over so. Nothing is
+    /// left of the line read last, and none was left unread.
     #[inline(always)]
     fn pass_lines(&mut self)
         requires stands { StandsBefore self.old self.old }

@@ -3,8 +3,8 @@
 /// No pause is longer: so many lines.
 const LONGEST: u32 = 64;
 
-/// Pauses between tries to pass over lines. Where a try passes over none, the lines here may not be simple, so some are read before
-/// the next one: one line, and twice as many after each further try in vain.
+/// Pauses between tries to pass over lines. Where a try passes over none, the next may be as vain, so some lines are read before it:
+/// one line, and twice as many after each further try in vain.
 #[derive(Clone, Copy)]
 pub(crate) struct Pauses {
     /// How many lines are yet to be read before the next try.

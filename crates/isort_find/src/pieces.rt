@@ -106,7 +106,7 @@ impl PieceFinder {
     }
 
     /// Lets the logical line go that was read last. After it, from byte `start` of the piece on, passes over lines without their
-    /// tokens, as long as they are simple and bind nothing, and answers how many bytes these have. Most lines are passed over so.
+    /// tokens, as long as they bind nothing, and answers how many bytes these have. Most lines are passed over so.
     #[inline(always)]
     fn pass_lines(
         &mut self,

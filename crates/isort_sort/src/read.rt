@@ -84,8 +84,8 @@ impl LineReader {
         self.skip.begun && !self.blocks.is_open()
     }
 
-    /// Passes over the next lines without their tokens, as long as they are simple, no import statement begins in them, `isort:` stands
-    /// nowhere in them, and no block may go on. Most lines are passed over so.
+    /// Passes over the next lines without their tokens, as long as no import statement begins in them, `isort:` stands nowhere in them,
+    /// and no block may go on. Most lines are passed over so.
     #[inline(always)]
     fn pass_lines(&mut self, lines: &mut Lines<'_>, markers: &mut Markers<'_>)
         requires text { markers.old ≡ lines.old.text }
@@ -127,8 +127,7 @@ impl LineReader {
     }
 
     /// Passes over the line, where no block needs it: it has neither word `import` nor `from`, `isort:` stands nowhere in it, and no block
-    /// may go on.
-    /// The result is whether it was passed over.
+    /// may go on. The result is whether it was passed over.
     #[inline(always)]
     fn pass(&mut self, unit: &Unit<'_>, markers: &mut Markers<'_>) -> bool
         requires { HoldsLineAt markers.old (line_in unit.now) }
