@@ -1,10 +1,10 @@
 -- Pieces of which each may touch the next are read.
-use Rattle.py_lines.proofs.Prelude.{◌≡◌, ℕ, Bool, true, false, not, ◌&&◌, List, [], ◌∷◌, ◌++◌, refl, sym, ap, ◌∙◌, subst, inl, inr, append_assoc, codes, list_all, and_parts, not-true}
+use Rattle.py_lines.proofs.Prelude.{◌≡◌, ℕ, Bool, true, false, not, List, [], ◌∷◌, ◌++◌, refl, sym, ap, subst, append_assoc, codes, list_all, and_parts, not-true, arith}
 use Rattle.unicode_ident.proofs.Computing.{unicode_ident}
 use Rattle.py_lines.specs.Character.{is_one_of, is_space, is_word_start, is_word_character, is_digit, is_quote, is_operator, is_line_feed, is_return, is_break, is_hash, is_backslash}
-use Rattle.py_lines.specs.Piece.{Class, mark, space, word, string, operator, comment, join, line_end, Piece, begins, ends, is_mark_class, spelled}
+use Rattle.py_lines.specs.Piece.{Class, mark, space, word, operator, comment, join, line_end, Piece, begins, is_mark_class, spelled}
 use Rattle.py_lines.specs.PieceGrammar.{feed, return_feed, return}
-use Rattle.py_lines.specs.Fields.{fielded, InClass, MayPrecede, AreReadBefore}
+use Rattle.py_lines.specs.Fields.{InClass, MayPrecede, AreReadBefore}
 use Rattle.py_lines.specs.LogicalLine.{is_line_end_class}
 use Rattle.py_lines.proofs.Text.CharacterTests.{none_of, excluded}
 use Rattle.py_lines.proofs.Fields.Elsewhere.{none_false}
@@ -69,22 +69,10 @@ first_of : {class : Class} (test : ℕ → Bool) (text rest : List ℕ) (o : Ope
 first_of test text rest o = ap (λ (t : List ℕ). begins test (t ++ rest)) o.is
 
 touches : (class : Class) (text : List ℕ) (next_class : Class) (next rest : List ℕ) → Opens next_class next → may_touch class text next_class next ≡ true → MayPrecede class text (next ++ rest)
-touches mark text nc next rest o h = tt
-touches string text nc next rest o h = absurd (cc)
-touches operator text nc next rest o h = tt
-touches space text nc next rest o h = first_of is_space next rest o ∙ no_space nc o.first h o.passes
-touches word text nc next rest o h = let n = no_word nc o.first h o.passes in (first_of is_word_character next rest o ∙ n.0, ap (λ b. fielded.is_prefix text && b) (first_of is_quote next rest o ∙ n.1) ∙ none_false (fielded.is_prefix text))
-touches comment text nc next rest o h = inr (first_of is_break next rest o ∙ end_breaks nc o.first h o.passes)
-touches class text nc next rest o h = ap (λ b. ends is_return text && b) (first_of is_line_feed next rest o ∙ sym (ap (begins is_line_feed) o.is)) ∙ not-true _ h
+touches class text next_class next rest o h = grind (arith, first_of, no_space, no_word, none_false, end_breaks, not-true)
 
 ends_so : (class : Class) (text : List ℕ) → is_simple class ≡ true → MayPrecede class text []
-ends_so operator text s = tt
-ends_so space text s = refl
-ends_so word text s = (refl, none_false (fielded.is_prefix text))
-ends_so comment text s = inl refl
-ends_so join text s = none_false (ends is_return text)
-ends_so line_end text s = none_false (ends is_return text)
-ends_so class text s = absurd (cc)
+ends_so class text s = grind arith
 
 no_mark : (class : Class) → is_simple class ≡ true → is_mark_class class ≡ false
 no_mark mark s = absurd (cc)

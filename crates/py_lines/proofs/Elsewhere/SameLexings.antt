@@ -1,8 +1,8 @@
 -- What is open in a text that has no prefix of a string with fields before a quote is the same with fields and without, and so are
 -- its fault and its lexing.
-use Rattle.py_lines.proofs.Prelude.{◌≡◌, ℕ, Bool, true, false, ◌||◌, ◌&&◌, List, [], ◌∷◌, ◌++◌, refl, sym, ap, ◌∙◌, inl, inr, ⊎_elim, append_assoc, append-nil, Option, None, Some, byte, or_parts, or_from, both_ways}
-use Rattle.py_lines.specs.Character.{is_quote, is_r, is_f, is_t}
-use Rattle.py_lines.specs.Piece.{Piece, begins, spelled}
+use Rattle.py_lines.proofs.Prelude.{◌≡◌, ℕ, true, false, List, [], ◌∷◌, ◌++◌, refl, sym, ap, ◌∙◌, inl, inr, ⊎_elim, append_assoc, append-nil, Option, None, Some, byte, or_parts, or_from, both_ways, arith}
+use Rattle.py_lines.specs.Character.{is_quote}
+use Rattle.py_lines.specs.Piece.{Piece, spelled}
 use Rattle.py_lines.specs.PieceGrammar.{AreReadIn, joined}
 use Rattle.py_lines.specs.FieldStrings.{Host, begins_fielded, may_have_fields, Place}
 use Rattle.py_lines.specs.Dialect.{Dialect, fielded_dialect, plain_dialect}
@@ -11,7 +11,7 @@ use Rattle.py_lines.specs.Reading.{IsReadingIn, Decodes, IsReadPrefixIn}
 use Rattle.py_lines.specs.OpenFields.{Spot, IsOpenStringIn, in_literal, in_specification, AreBegunIn, BeginsListIn, at_start, in_field, StandsOpenIn, IsOpenUpToIn, InOpenShortIn, InOpenLongIn, AfterOpenBackslashIn, InSpecificationIn, InOpenFieldIn}
 use Rattle.py_lines.specs.Faults.{IsLiveIn, DiesAtIn, IsFieldDueIn, IsAtDepthIn, OpensBraceTooDeepIn, Cause, brace_too_deep, breaks_string, breaks_join, opens_too_deep, ends_specification, ExplainsIn, causes_before, NoneExplainsIn, IsCharacterFaultIn, InOpenBracketIn, Unfinished, open_brace, open_short, open_long, open_join, open_bracket, open_inside, IsOpenAtEndIn, IsFaultAtIn, at_character, at_bytes, at_end, IsLexicalFaultIn}
 use Rattle.py_lines.proofs.Fields.Parts.{not_nothing}
-use Rattle.py_lines.proofs.Fields.Elsewhere.{later, none_false, no_field_prefix, quotes_begin, read_with, read_without, balanced_with, balanced_without}
+use Rattle.py_lines.proofs.Fields.Elsewhere.{later, no_field_prefix, quotes_begin, read_with, read_without, balanced_with, balanced_without}
 use Rattle.py_lines.proofs.Elsewhere.SameRuns.{live_with, live_without}
 use Rattle.py_lines.specs.declared.fault.FaultKind.{FaultKind}
 use Rattle.py_lines.specs.declared.fault.Fault.{Fault}
@@ -22,14 +22,7 @@ use Rattle.py_lines.proofs.Text.Decoding.{decoded}
 
 -- what such a text begins with is such a text
 begins_fewer : (a b : List ℕ) → begins_fielded (a ++ b) ≡ false → begins_fielded a ≡ false
-begins_fewer [] b h = refl
-begins_fewer (c ∷ []) b h = none_false (is_f c || is_t c)
-begins_fewer (c ∷ d ∷ []) b h = go (is_f c || is_t c) (is_quote d) (is_r d) (begins is_quote b) h where
-  go : (x y z w : Bool) → x && (y || (z && w)) ≡ false → x && (y || (z && false)) ≡ false
-  go false y z w k = refl
-  go true true z w k = k
-  go true false z w k = none_false z
-begins_fewer (c ∷ d ∷ e ∷ es) b h = h
+begins_fewer a b h = grind arith
 
 pub earlier : (a b : List ℕ) → may_have_fields (a ++ b) ≡ false → may_have_fields a ≡ false
 earlier [] b h = refl

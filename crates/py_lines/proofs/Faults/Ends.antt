@@ -1,20 +1,19 @@
 -- What is open where a text with fields ends, and where it starts, are told by the state of the machine there. So a live text that
 -- has no reading has a fault at its end, and one alone.
-use Rattle.py_lines.proofs.Prelude.{if◌then◌else◌, encode, ◌≡◌, ℕ, ◌+◌, Bool, true, false, not, ◌||◌, arith, Option, None, Some, List, [], ◌∷◌, ◌++◌, refl, sym, ap, ◌∙◌, subst, ◌<◌, ◌⊎◌, inl, inr, length, nat_lt, append_assoc, append-nil, both_ways, not-true, cond_both}
-use Rattle.py_lines.specs.Piece.{Class, operator, Piece, spelled, string}
+use Rattle.py_lines.proofs.Prelude.{if◌then◌else◌, encode, ◌≡◌, ℕ, ◌+◌, Bool, true, false, not, ◌||◌, arith, Option, None, Some, List, [], ◌∷◌, ◌++◌, refl, sym, ap, ◌∙◌, subst, ◌<◌, ◌⊎◌, inl, inr, length, nat_lt, append_assoc, append-nil, both_ways, cond_both}
+use Rattle.py_lines.specs.Piece.{Piece, spelled, string}
 use Rattle.py_lines.specs.LogicalLine.{byte_len, first_or_zero}
-use Rattle.py_lines.specs.Balance.{is_opening, is_operator_that, is_opener, IsBalanced}
+use Rattle.py_lines.specs.Balance.{is_opener, IsBalanced}
 use Rattle.py_lines.specs.Faults.{Unfinished, open_brace, open_short, open_long, open_join, open_bracket, open_inside, InOpenBracket, OpensBraceTooDeep, kind_of_unfinished, IsOpenAtEnd, IsEndFault}
 use Rattle.py_lines.specs.FieldStrings.{Host, literal, specification}
 use Rattle.py_lines.specs.Private.Mode as modes
-use Rattle.py_lines.specs.Private.Machine.{in_short, in_long, is_after_backslash, Bracket, brackets_of}
-use Rattle.py_lines.specs.Private.FieldMachine.{text_place, before, after_brace, in_open_short, in_open_long, after_open_backslash, InSpecificationOf, FieldMode, plain, opened, empty, body, Level, FieldScanned, field_state, field_text_start, field_steps_from, field_pieces, may_end, openers_through, have_room, IsFieldFinal, levels_open, frames, field_closed}
+use Rattle.py_lines.specs.Private.Machine.{Bracket, brackets_of}
+use Rattle.py_lines.specs.Private.FieldMachine.{text_place, before, after_brace, in_open_short, in_open_long, after_open_backslash, InSpecificationOf, FieldMode, plain, body, Level, FieldScanned, field_state, field_text_start, field_steps_from, field_pieces, may_end, openers_through, have_room, IsFieldFinal, levels_open, frames, field_closed}
 use Rattle.py_lines.proofs.Pieces.PieceLists.{spelled-append, piece}
-use Rattle.py_lines.proofs.Faults.EndFaults.{final_by, IsDeepBrace, EndsSo, brace_open, open_in}
+use Rattle.py_lines.proofs.Faults.EndFaults.{IsDeepBrace, EndsSo, brace_open, open_in}
 use Rattle.py_lines.proofs.FieldMachine.Runs.{NoLimit, Goes, steps_of}
 use Rattle.py_lines.proofs.FieldMachine.OpenLists.{pieces_run, list_runs}
 use Rattle.py_lines.proofs.LogicalLines.Cuts.{byte_len-append}
-use Rattle.py_lines.proofs.FieldSoundness.OpenEnds.{long_mode}
 use Rattle.py_lines.proofs.Fields.Parts.{some_head}
 use Rattle.py_lines.proofs.FieldMachine.ListBrackets.{openers_through-append, opener_pushes, balanced_openers, none_some}
 use Rattle.py_lines.specs.Private.FieldFaults.{unfinished_code, unfinished_in, unfinished_at, is_waiting, unfinished_literal, here, piece_start}
@@ -84,17 +83,10 @@ one_place what s offset place one two = omega (arith, one, two)
 
 -- the kinds, by the mode: a string or a backslash stands in no specification
 pub short_unfinished : (outer : List Level) (openers : List ℕ) (m : FieldMode) → in_open_short m ≡ true → (unfinished_in outer openers m ≡ Some open_short) × (text_place m ≡ literal)
-short_unfinished outer openers (plain m) is = (rw is, refl)
-short_unfinished outer openers (opened host) is = (refl, refl)
-short_unfinished outer openers (body host literal named after_brace) is = absurd (both_ways _ refl is)
-short_unfinished outer openers (body host literal named at) is = (rw (not-true host.is_long is), refl)
-short_unfinished outer openers m is = absurd (both_ways _ refl is)
+short_unfinished outer openers m is = grind arith
 
 pub long_unfinished : (outer : List Level) (openers : List ℕ) (m : FieldMode) → in_open_long m ≡ true → (unfinished_in outer openers m ≡ Some open_long) × (text_place m ≡ literal)
-long_unfinished outer openers (plain m) is = (rw ((long_mode m is).1, is), refl)
-long_unfinished outer openers (body host literal named after_brace) is = absurd (both_ways _ refl is)
-long_unfinished outer openers (body host literal named at) is = (rw is, refl)
-long_unfinished outer openers m is = absurd (both_ways _ refl is)
+long_unfinished outer openers m is = grind arith
 
 pub join_unfinished : (outer : List Level) (openers : List ℕ) (m : FieldMode) → after_open_backslash m ≡ true → (unfinished_in outer openers m ≡ Some open_join) × (text_place m ≡ literal)
 join_unfinished outer openers (plain modes.Backslash) is = (refl, refl)
@@ -107,9 +99,7 @@ none_open short long slash o ends = absurd (both_ways _ refl ends)
 
 -- where it may end, brackets and fields aside, code is open, and no `{` of a literal part waits
 pub code_unfinished : (outer : List Level) (openers : List ℕ) (m : FieldMode) → may_end m ≡ true → (unfinished_in outer openers m ≡ unfinished_code outer openers) × (is_waiting m ≡ false)
-code_unfinished outer openers (plain m) may = (none_open (in_short m) (in_long m) (is_after_backslash m) _ (sym (final_by m) ∙ may), refl)
-code_unfinished outer openers (empty host) may = (refl, refl)
-code_unfinished outer openers m may = absurd (both_ways _ refl may)
+code_unfinished outer openers m may = grind arith
 
 -- nor does one in a specification
 pub specification_says : (outer : List Level) (openers : List ℕ) (host : Host) (m : FieldMode) → InSpecificationOf host m → (unfinished_in outer openers m ≡ Some open_inside) × (is_waiting m ≡ false) × (text_place m ≡ specification)
@@ -120,11 +110,7 @@ pub same_state : (characters : List ℕ) (s t : FieldScanned) → field_steps_fr
 same_state characters s t one two = cc
 
 opener_text : (p : Piece) → is_opener p ≡ true → (c : ℕ) × (cs : List ℕ) × (p.text ≡ c ∷ cs)
-opener_text p h = go p.class p.text h where
-  go : (class : Class) (text : List ℕ) → is_operator_that is_opening class text ≡ true → (c : ℕ) × (cs : List ℕ) × (text ≡ c ∷ cs)
-  go operator [] is = absurd (both_ways _ refl is)
-  go operator (c ∷ cs) is = (c, cs, refl)
-  go other text is = absurd (both_ways _ refl is)
+opener_text p h = grind arith
 
 pub bracket_back : (characters start : List ℕ) (s : FieldScanned) → InOpenBracket characters start → field_steps_from (Some field_text_start) characters ≡ Some s → (unfinished_at s ≡ Some open_bracket) × IsPlaced open_bracket s (byte_len start)
 bracket_back characters start s is steps =

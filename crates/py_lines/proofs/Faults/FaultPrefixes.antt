@@ -1,5 +1,5 @@
 -- The place of a fault of a text with fields stands after some characters of the text.
-use Rattle.py_lines.proofs.Prelude.{⊎_elim, ◌≡◌, ℕ, List, [], ◌∷◌, ◌++◌, sym, ap, ◌∙◌, inl, inr, append_assoc, append-nil, byte}
+use Rattle.py_lines.proofs.Prelude.{⊎_elim, ◌≡◌, ℕ, List, [], ◌∷◌, ◌++◌, sym, ap, ◌∙◌, inl, inr, append_assoc, append-nil, byte, arith}
 use Rattle.py_lines.specs.Piece.{spelled}
 use Rattle.py_lines.specs.PieceGrammar.{joined}
 use Rattle.py_lines.specs.Faults.{Cause, brace_too_deep, breaks_string, breaks_join, ends_specification, begins_nothing, kind_of_cause, Explains, kind_of_unfinished, IsUndecodable, Unfinished, open_brace, open_bracket, open_inside, IsOpenAtEnd, IsFaultAt, at_character, at_bytes, at_end}
@@ -82,6 +82,4 @@ end_decodes open_brace is = cc
 end_decodes other is = cc
 
 pub undecodable : (kind : FaultKind) (characters tail : List ℕ) (offset : ℕ) → kind ≡ faults.BadUtf8 → IsFaultAt kind characters tail offset → IsUndecodable kind characters tail offset
-undecodable kind characters tail offset is (at_character fault) = absurd (cause_decodes fault.cause (sym fault.is ∙ is))
-undecodable kind characters tail offset is (at_bytes fault) = fault
-undecodable kind characters tail offset is (at_end fault) = absurd (end_decodes fault.unfinished (sym fault.is ∙ is))
+undecodable kind characters tail offset is it5 = grind arith

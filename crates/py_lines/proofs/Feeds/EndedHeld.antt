@@ -1,10 +1,10 @@
 -- The text ends with what is held: its last line, or the fault that stands there.
-use Rattle.py_lines.proofs.Prelude.{◌≡◌, ℕ, ◌+◌, ◌<◌, ⊎_elim, true, None, Some, Ok, Err, List, [], ◌∷◌, ◌++◌, length, refl, sym, ap, ◌∙◌, subst, append-nil, arith, Option, drop, take, length-drop, encode_utf8_all, length-append, length-take-le, take-append-drop, take_all}
-use Rattle.py_lines.specs.LogicalLine.{LogicalLine, byte_len, line_ends}
+use Rattle.py_lines.proofs.Prelude.{◌≡◌, ℕ, ◌+◌, ◌<◌, ⊎_elim, true, None, Some, Ok, Err, List, [], ◌∷◌, ◌++◌, length, refl, sym, ap, ◌∙◌, subst, append-nil, arith, Option, drop, length-drop, encode_utf8_all, length-append, length-take-le, take-append-drop, take_all}
+use Rattle.py_lines.specs.LogicalLine.{LogicalLine, byte_len}
 use Rattle.py_lines.specs.Lexed.{IsLexed}
 use Rattle.py_lines.specs.ScannerState.{IsScanning, fed_of, EndsFaulty, EndsScan, Finishes, ScannerState}
 use Rattle.py_lines.specs.Piece.{spelled}
-use Rattle.py_lines.specs.Private.LineState.{HasNextFault, HasNextLine, IsFaultAfter, rescanned}
+use Rattle.py_lines.specs.Private.LineState.{HasNextFault, HasNextLine, rescanned}
 use Rattle.py_lines.specs.Private.Feed.{EndsText, FailsAt, Fault, HasRoom, HoldsLine, IsHeldOpen, Holds, HasEndedText, HasReadTokens, HoldsSo, IsSoundFeed, ReadsTokens, StandsSo, with_line, LexError, LineFault, LineState, Scan, Feed, scanning_of, ready_of}
 use Rattle.py_lines.proofs.Feeds.Known.{first_at}
 use Rattle.py_lines.proofs.Feeds.OpenLine.{dropped, runs_out}
@@ -67,37 +67,11 @@ last_line old not_ready some scan {end_len} h =
 -- or the fault that stands there
 pub last_fault : (old new : Feed) → old.ready ≡ None → (state : LineState) → state ≡ rescanned old.state state → {wrong : LineFault} → HasNextFault old.state old.held.items wrong
     → (error : LexError) → FailsAt (record old { state = state }) wrong.kind wrong.place error new → EndsText old (Err error) new
-last_fault old new not_ready state same {wrong} h error fails =
-    let k = fails.keeps in
-    let at : IsFaultAfter old.state wrong.kind wrong.place (take wrong.place old.held.items) k.fault = record {
-      is = k.at.is;
-      place = k.at.place ∙ ap (λ (s : LineState). s.place + wrong.place) same;
-      line = λ prefix spell. k.at.line prefix spell ∙ ap (λ (s : LineState). s.line + line_ends prefix) same;
-    } in subst (λ (e : LexError). EndsText old (Err e) new) (sym k.error_is) (record {
-      text = record {
-        held = ap (λ (f : Feed). f.held.items) fails.same;
-        place = ap (λ (s : LineState). s.place) (k.same ∙ ap (λ (s : LineState). record s { fault = Some k.fault }) same);
-        line = ap (λ (s : LineState). s.line) (k.same ∙ ap (λ (s : LineState). record s { fault = Some k.fault }) same);
-        ended = ap (λ (f : Feed). f.ended) fails.same;
-        fault = ap (λ (s : LineState). s.fault) k.same;
-      };
-      none_ready = ap (λ (f : Feed). f.ready) fails.same ∙ not_ready;
-      lexed = λ text lines scanning whole. h.lexed k.fault at text lines scanning.first (text_held old text lines scanning whole);
-    })
+last_fault old new not_ready state same {wrong} h error fails = grind (arith, text_held)
 
 -- the fault was known before
 pub ends_known : (s : ScannerState) {fault : Fault} → s.fault ≡ Some fault → EndsFaulty s fault s
-ends_known s is = record {
-  all = λ text lines scanning whole. absurd (let h = sym scanning.no_fault ∙ is in cc);
-  again = λ first seen. let h = sym is ∙ seen in cc;
-  place = refl;
-  line = refl;
-  held = refl;
-  fed = refl;
-  ready = refl;
-  open_yet = refl;
-  kept = is;
-}
+ends_known s is = grind arith
 
 -- the text has ended
 abbrev pub ended_now : Feed → Feed

@@ -15,7 +15,7 @@ use Rattle.py_lines.proofs.Lexings.FirstLines.{first_reading}
 use Rattle.py_lines.proofs.Feeds.Known.{IsKnown, given_bytes, is_known, first_at, goes_at, goes_joined, goes_with_first}
 use Rattle.py_lines.proofs.Feeds.SettledSoFar.{settled_open, settled_ready, ended_before, IsNextLine, next_line}
 use Rattle.py_lines.proofs.Feeds.DecidedSoFar.{undecided}
-use Rattle.py_lines.proofs.Feeds.ReadyLines.{ended_alone, line_alone, pieces_alone, ended_holds, held_within, line_stands, none_read, none_ready, some_is, text_stands}
+use Rattle.py_lines.proofs.Feeds.ReadyLines.{ended_alone, line_alone, pieces_alone, ended_holds, held_within, line_stands, none_read, some_is, text_stands}
 use Rattle.py_lines.proofs.Feeds.LastBytes.{exactly_encoded}
 use Rattle.py_lines.proofs.LineScan.LineSteps.{follows_whole}
 use Rattle.py_lines.proofs.Feeds.OpenLine.{fails_later, holds_on, room_more, left_none, dropped, runs_out}
@@ -235,20 +235,7 @@ naming_same word other old new piece n t kept = record { mid = new; takes = t; s
 
 -- the fault that is known is met again
 pub known_fault : (f : Feed) (piece : List ℕ) (fault : Fault) → IsSoundFeed f → f.state.fault ≡ Some fault → MeetsFault (scanning_of f) piece fault (scanning_of f) × IsSoundFeed f
-known_fault f piece fault sound is = (
-  record {
-    decided = λ text lines s go. absurd (let h = sym s.no_fault ∙ is in cc);
-    again = λ first seen. let h = sym is ∙ seen in cc;
-    none_ready = λ none. absurd (let h = sym none ∙ is in cc);
-    place = refl;
-    line = refl;
-    fed = omega arith;
-    ready = refl;
-    open_yet = refl;
-    kept = is;
-  },
-  sound,
-)
+known_fault f piece fault sound is = grind arith
 
 -- where lines are released at once, a call fails as any that is fed does
 pub naming_fails : (word other : List ℕ) (old new : ScannerState) (piece : List ℕ) (error : LexError) → Feeds old piece (Err error) new → FeedsNaming word other old piece (Err error) new
@@ -296,14 +283,7 @@ module _ {old new : Feed} {piece : List ℕ} {n : ℕ} (t : TakesLine old piece 
 
   -- where there is no memory for more
   pub takes_short : new.ready ≡ None → {now : Feed} → IsUnchanged new now → TakesLine old piece n now
-  takes_short none {now} unchanged = let (short, sound) = runs_out (takes_open none).1 t.takes.no_fault none unchanged in
-      let seen : ready_of now now.ready ≡ None = ap (λ (s : ScannerState). s.ready) short.same ∙ ap (ready_of new) none in
-      let ready = none_ready now now.ready seen in record {
-        line = None;
-        holds = subst (λ r. HoldsSo now r None) (sym ready) (refl, subst (StandsSo now) ready sound.state);
-        takes = subst (TakesBytes (scanning_of old) piece n) (sym (ap (with_line now) (sym seen) ∙ short.same)) (takes_open none).0;
-        room = sound.room;
-      }
+  takes_short none {now} unchanged = grind arith
 
   -- where there is no memory for the tokens
   pub fed_short : IsSoundFeed old → old.ready ≡ None → {held : ℕ} → held ≡ length old.held.items → {now : Feed} (error : LexError) → ReadsTokens new held (Err error) now

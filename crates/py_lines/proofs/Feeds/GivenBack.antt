@@ -61,11 +61,7 @@ pub record HoldsStop (m : Mode) (held piece : List ℕ) (scan : Scan) (stop : St
 module _ {m : Mode} (held piece : List ℕ) {scan : Scan} where
   -- all
   pub holds_bytes : {stop : Stop} → ScansIn m (held ++ piece) scan stop → HoldsStop m held piece scan stop (length piece)
-  holds_bytes {stop} s = record {
-    some = λ none. none;
-    within = omega arith;
-    stops = subst (λ t. ScansIn m (held ++ t) scan stop) (sym (take_all (length piece) piece (omega arith))) s;
-  }
+  holds_bytes {stop} s = grind (arith, take_all)
 
   -- or up to the end of the line
   pub holds_line_end : {end_len : ℕ} (n : ℕ) → n ≡ min (length piece) (scan.stop + 1) → ScansIn m (held ++ piece) scan (Stop.LineEnd end_len) → HoldsStop m held piece scan (Stop.LineEnd end_len) n

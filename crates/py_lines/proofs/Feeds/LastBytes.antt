@@ -1,6 +1,6 @@
 -- The last byte of characters: it is CR just where their last character is.
 use mir.Val.{bool_byte}
-use Rattle.py_lines.proofs.Prelude.{take-suc, ◌≡◌, ℕ, suc, ◌-◌, ◌<◌, ◌≤◌, Bool, true, false, List, [], ◌∷◌, ◌++◌, ◌==◌, eqb, length, take, slice_index, refl, sym, ap, ◌∙◌, ⊎_elim, inl, inr, append-nil, arith, encode_utf8, encode_utf8_all, ends_with, or-false, nat_tests, both_ways, cases_lt, false_from_ne_true, length-le-encodes}
+use Rattle.py_lines.proofs.Prelude.{take-suc, ◌≡◌, ℕ, suc, ◌-◌, ◌<◌, ◌≤◌, Bool, true, false, List, [], ◌∷◌, ◌++◌, ◌==◌, eqb, length, take, slice_index, refl, sym, ap, ◌∙◌, append-nil, arith, encode_utf8, encode_utf8_all, ends_with, or-false, nat_tests, cases_lt, false_from_ne_true, length-le-encodes}
 use Rattle.py_lines.specs.Character.{is_return}
 use Rattle.py_lines.specs.Piece.{ends}
 use Rattle.py_lines.specs.ScannerState.{EndsExactly}
@@ -16,11 +16,7 @@ no_return c wide = false_from_ne_true _ (λ returns. omega (arith, wide, return_
 
 -- the last byte of a character
 ends-encode : (c : ℕ) → ends is_return (encode_utf8 c) ≡ is_return c
-ends-encode c = ⊎_elim (λ narrow. ap (ends is_return) (one c narrow)) (λ wide. last_byte wide ∙ sym (no_return c wide)) (cases_lt c 128) where
-  last_byte : 128 ≤ c → ends is_return (encode_utf8 c) ≡ false
-  last_byte wide = ⊎_elim (λ short. ap (ends is_return) (two c wide short) ∙ no_return _ (omega arith))
-      (λ long. ⊎_elim (λ short. ap (ends is_return) (three c long short) ∙ no_return _ (omega arith))
-      (λ longer. ap (ends is_return) (four c longer) ∙ no_return _ (omega arith)) (cases_lt c 65536)) (cases_lt c 2048)
+ends-encode c = grind (arith, one, no_return, cases_lt, two, three, four)
 
 -- the last of some characters is the last of all
 pub ends-later : (p : ℕ → Bool) (first later : List ℕ) → (later ≡ [] → ⊥) → ends p (first ++ later) ≡ ends p later
@@ -60,6 +56,4 @@ one_most false = omega arith
 
 -- what is held after a line: one byte more after CR
 pub exactly : (line after : List ℕ) (returns : Bool) → returns ≡ ends is_return line → EndsWhole line after → (bool_byte returns ≤ length after) × EndsExactly line (take (bool_byte returns) after)
-exactly line after false is whole = (omega arith, inl (sym is, refl))
-exactly line after true is (inl feed) = absurd (both_ways _ feed (sym is))
-exactly line after true is (inr (b, more, spell, other)) = (omega (arith, ap length spell), inr (sym is, (b, ap (take 1) spell, other)))
+exactly line after returns is whole = grind arith

@@ -1,11 +1,11 @@
 -- What is held of a line that is open, what a scan of it comes to, and what is left where the scan stops before bytes that do not tell.
-use Rattle.py_lines.proofs.Prelude.{◌≡◌, ℕ, ◌+◌, ◌<◌, true, false, None, Some, List, [], ◌∷◌, ◌++◌, length, take, drop, refl, sym, ap, ◌∙◌, subst, arith, append-nil, length-append, encode_utf8_all, IsUtf8, length-take-le, take-append-drop, ◌-◌, ◌≤◌, Bool, append_assoc, length-drop, ◌^◌, Option, Err, ⊎_elim, ◌==◌, StartsWithNoChar, both_ways, eqb-true, cases_lt, Vec, vec_len, encodes-append, nil_from_length, take_all, take-append_seam, drop-append_seam}
+use Rattle.py_lines.proofs.Prelude.{◌≡◌, ℕ, ◌+◌, ◌<◌, true, false, None, Some, List, [], ◌∷◌, ◌++◌, length, take, drop, refl, sym, ap, ◌∙◌, subst, arith, append-nil, length-append, encode_utf8_all, IsUtf8, length-take-le, take-append-drop, ◌-◌, ◌≤◌, Bool, append_assoc, length-drop, ◌^◌, Option, Err, ⊎_elim, ◌==◌, StartsWithNoChar, eqb-true, cases_lt, Vec, vec_len, encodes-append, nil_from_length, take_all, take-append_seam, drop-append_seam}
 use Rattle.py_lines.specs.LogicalLine.{byte_len}
 use Rattle.py_lines.specs.Settled.{IsHopeless}
 use Rattle.py_lines.specs.Private.FieldMachine.{FieldScanned}
 use Rattle.py_lines.specs.Private.Scan.{StandsAs, has_returned}
 use Rattle.py_lines.specs.Private.LineScan.{IsLeft, begins_line, Reached}
-use Rattle.py_lines.specs.Private.Feed.{Mode, Scan, IsHeldOpen, IsOpen, StopsHeld, Stop, Feed, DropsLine, FailsAt, FailsIn, HasRoom, Holds, HoldsAt, IsDecidedAt, IsSoundFeed, IsUnchanged, Meets, StandsSo, WhereHeld, Fault, FaultKind, LexError, ready_of, scanning_of, LineState, LineFault}
+use Rattle.py_lines.specs.Private.Feed.{Mode, Scan, IsHeldOpen, IsOpen, StopsHeld, Stop, Feed, DropsLine, FailsAt, FailsIn, HasRoom, Holds, HoldsAt, IsDecidedAt, IsSoundFeed, IsUnchanged, Meets, WhereHeld, Fault, FaultKind, LexError, scanning_of, LineState, LineFault}
 use Rattle.py_lines.proofs.Text.Utf8Prefixes.{one_decoding}
 use Rattle.py_lines.proofs.LineScan.LineSteps.{rests_end, begun_reached}
 use Rattle.py_lines.specs.Piece.{begins}
@@ -29,10 +29,7 @@ module _ {m : Mode} {whole : List ℕ} {scan : Scan} {read rest : List ℕ} (l :
 
   -- after CR that ended it no byte follows
   pub left_none : has_returned l.way.field ≡ true → rest ≡ []
-  left_none returned = by rest (λ some. left_open some) where
-    by : (r : List ℕ) → (0 < length r → has_returned l.way.field ≡ false) → r ≡ []
-    by [] open_yet = refl
-    by (b ∷ more) open_yet = absurd (both_ways _ (open_yet (omega arith)) returned)
+  left_none returned = grind arith
 
   left_spell : encode_utf8_all l.all.run ++ rest ≡ l.left
   left_spell = ap (λ t. encode_utf8_all l.all.run ++ t) (sym l.rest_is) ∙ l.all.spell
@@ -63,11 +60,7 @@ reached_more f rest bytes o = record {
 
 -- a place in characters that what is held begins with
 pub within_held : (f : Feed) (read rest : List ℕ) → encode_utf8_all read ++ rest ≡ f.held.items → (offset : ℕ) (w : Within read offset) → (offset ≤ length f.held.items) × (take offset f.held.items ≡ encode_utf8_all w.prefix)
-within_held f read rest spelled offset w =
-    let size : byte_len read ≡ byte_len w.prefix + byte_len w.later = ap byte_len (sym w.split) ∙ byte_len-append w.prefix w.later in
-    let spell : f.held.items ≡ encode_utf8_all w.prefix ++ (encode_utf8_all w.later ++ rest) = sym spelled ∙ ap (λ t. encode_utf8_all t ++ rest) (sym w.split) ∙ ap (λ t. t ++ rest) (encodes-append w.prefix w.later) ∙ append_assoc (encode_utf8_all w.prefix) (encode_utf8_all w.later) rest in
-    let taken : take offset f.held.items ≡ encode_utf8_all w.prefix = ap (λ (n : ℕ). take n f.held.items) w.size ∙ ap (take (byte_len w.prefix)) spell ∙ take-append_seam (encode_utf8_all w.prefix) (encode_utf8_all w.later ++ rest) in
-    (omega (arith, size, w.size, ap length (sym spelled), length-append (encode_utf8_all read) rest), taken)
+within_held f read rest spelled offset w = grind (arith, byte_len-append, encodes-append, append_assoc, take-append_seam, length-append)
 
 module _ (f : Feed) (rest : List ℕ) (o : IsOpen f rest) where
   pub open_stop : f.state.scan.stop ≡ byte_len o.read
@@ -124,26 +117,12 @@ fails_later old mid new text is (later, ready, decided) = (holds_on text later i
 -- the state stays sound where more bytes are held
 pub room_more : (old new : Feed) (bytes : List ℕ) {known : Option Fault} → IsSoundFeed old → old.state.place + length old.held.items + length bytes ≤ 2 ^ 62
     → Holds old (old.held.items ++ bytes) known new → HasRoom new 0
-room_more old new bytes s fits more = record {
-  fits = omega (arith, fits, more.place, ap length more.held, length-append old.held.items bytes);
-  few_lines = omega (arith, s.room.few_lines, more.place, more.line);
-}
+room_more old new bytes s fits more = grind (arith, length-append)
 
 -- nothing that a caller sees has changed
 pub runs_out : {old new : Feed} → IsSoundFeed old → old.state.fault ≡ None → old.ready ≡ None → IsUnchanged old new
     → ScannerRunsOut (scanning_of old) (scanning_of new) × IsSoundFeed new
-runs_out {old} {new} sound no_fault ready (same, none, opens) =
-    let is_ready : ready_of new new.ready ≡ ready_of old old.ready = ap (ready_of new) none ∙ sym (ap (ready_of old) ready) in (
-      record {
-        same = λ i. record { place = same.place i; line = same.line i; held = same.held i; ready = is_ready i; ended = same.ended i; fault = same.fault i };
-        none_ready = ap (ready_of old) ready;
-        no_fault = no_fault;
-      },
-      record {
-        room = record { fits = omega (arith, sound.room.fits, same.place, ap length same.held); few_lines = omega (arith, sound.room.few_lines, same.place, same.line) };
-        state = subst (StandsSo new) (sym none) (λ no_more. opens);
-      },
-    )
+runs_out {old} {new} sound no_fault ready (same, none, opens) = grind arith
 
 -- the scan that was begun anew is that of a line of which nothing was read
 pub begun_open : (was : LineState) (new : Feed) → BeginsAnew was new.state → IsOpen new new.held.items
@@ -153,12 +132,7 @@ begun_open was new b = subst (λ (n : ℕ). Reached (first_mode n) new.held.item
 -- nothing that a caller sees has changed then
 pub begun_unchanged : (old new : Feed) (was : LineState) → new.ready ≡ None → Holds old old.held.items old.state.fault (record new { state = was })
     → BeginsAnew was new.state → IsUnchanged old new
-begun_unchanged old new was ready same begins = (
-  subst (λ (s : LineState). Holds old old.held.items old.state.fault (record new { state = s })) (sym begins.same)
-      (record { held = same.held; place = same.place; line = same.line; ended = same.ended; fault = same.fault }),
-  ready,
-  (new.held.items, begun_open was new begins),
-)
+begun_unchanged old new was ready same begins = grind (arith, begun_open)
 
 -- so many bytes stay held, and no line is ready
 pub dropped : (old mid new : Feed) (bytes : List ℕ) {before : ℕ} → Holds old (old.held.items ++ bytes) old.state.fault mid

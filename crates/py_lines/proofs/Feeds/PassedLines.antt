@@ -1,6 +1,6 @@
 -- Lines that a scanner passed over are the next ones of each text that goes on with them.
 use mir.Val.{bool_byte}
-use Rattle.py_lines.proofs.Prelude.{◌≡◌, ℕ, ◌+◌, ◌<◌, ◌≤◌, ◌^◌, ⊎_elim, inl, inr, Bool, true, Option, None, List, [], ◌∷◌, ◌++◌, ◌-◌, eqb, false, length, take, drop, refl, sym, ap, ◌∙◌, subst, append_assoc, append-nil, arith, length-append, encode_utf8_all, flat_map, min, Vec, cases_lt, Decides-eqb, starts_is, ends_with, starts_with, drop-append_seam, take-add, take-append_seam, length-drop, length-take-le, length-take, encodes-append, length-le-encodes}
+use Rattle.py_lines.proofs.Prelude.{◌≡◌, ℕ, ◌+◌, ◌<◌, ◌≤◌, ◌^◌, ⊎_elim, inl, inr, Bool, true, Option, None, List, [], ◌∷◌, ◌++◌, ◌-◌, eqb, length, take, drop, refl, sym, ap, ◌∙◌, subst, append_assoc, append-nil, arith, length-append, encode_utf8_all, flat_map, min, Vec, cases_lt, Decides-eqb, starts_is, ends_with, starts_with, drop-append_seam, take-add, take-append_seam, length-drop, length-take-le, length-take, encodes-append, length-le-encodes}
 use Rattle.py_lines.specs.Character.{is_return}
 use Rattle.py_lines.specs.Piece.{ends}
 use Rattle.py_lines.specs.LogicalLine.{LogicalLine, byte_len, first_or_zero, line_ends, line_of}
@@ -69,18 +69,7 @@ began_with bytes held like begins same is does =
 
 -- no line is passed over
 pub none_found : (s : ScannerState) (bytes : List ℕ) (before : ℕ) → PassesPieceLines s bytes before 0 s
-none_found s bytes before = record {
-  lines = [];
-  texts = refl;
-  ends = omega arith;
-  stands = λ more. absurd (omega (arith, more));
-  began = λ more. absurd (omega (arith, more));
-  held = λ more. absurd (omega (arith, more));
-  scans = λ more. absurd (omega (arith, more));
-  place = omega arith;
-  others = refl;
-  same = λ none. refl;
-}
+none_found s bytes before = grind arith
 
 -- where no line is passed over the scan of the next one begins anew
 module _ (f : Feed) (held : Vec ℕ) (state : LineState) (scan : Scan) (stands : StandsAtLine (scanning_of f)) (kept : held.items ≡ f.held.items) (anew : BeginsAnew (record f.state { scan = scan }) state) where
@@ -122,9 +111,7 @@ module _ (f : Feed) (bytes : List ℕ) (before stop len : ℕ) (stands : StandsA
     returned = is ∙ ends_with_return (take len (take stop bytes))
 
     same : len ≡ 0 → held.items ≡ f.held.items
-    same zero = let none : returns ≡ false = returned ∙ ap (λ (n : ℕ). ends is_return (take n (take stop bytes))) zero in
-        let all : min (length f.held.items) len ≡ 0 = omega (arith, zero) in let size : len + bool_byte returns - len ≡ 0 = omega (arith, ap bool_byte none) in
-        held_is ∙ rw (all, size) (append-nil f.held.items)
+    same zero = grind arith
 
     holds : 0 < len → HoldsAfterLines (take stop bytes) len held.items
     holds some = let more = take (bool_byte returns) (drop len (take stop bytes)) in

@@ -1,5 +1,5 @@
 -- A settled line is released, or the text's last: the lines before it and this one are the first of the whole text.
-use Rattle.py_lines.proofs.Prelude.{◌≡◌, ℕ, ◌+◌, List, [], ◌∷◌, ◌++◌, length, take, drop, refl, sym, ap, ◌∙◌, subst, inr, append_assoc, append-nil, arith, Option, None, Some, length-append, encode_utf8_all, IsSome, take-append-drop, append_cancel_left, drop-drop, encodes-append, encodes_same, both_ways, drop-append_seam}
+use Rattle.py_lines.proofs.Prelude.{◌≡◌, ℕ, ◌+◌, List, [], ◌∷◌, ◌++◌, length, take, drop, refl, sym, ap, ◌∙◌, subst, inr, append_assoc, append-nil, arith, None, Some, length-append, encode_utf8_all, IsSome, take-append-drop, append_cancel_left, drop-drop, encodes-append, encodes_same, drop-append_seam}
 use Rattle.py_lines.specs.Piece.{spelled}
 use Rattle.py_lines.specs.Fields.{AreReadBefore}
 use Rattle.py_lines.specs.Lexed.{IsLexedWhole, IsLexed}
@@ -52,10 +52,7 @@ module _ {text : List ℕ} {place line : ℕ} {lines : List LogicalLine} (first 
 
 -- a line is ready where a caller sees one
 pub ready_from : (f : Feed) → IsSoundFeed f → IsSome (ready_of f f.ready) → (n : ℕ) × (f.ready ≡ Some n) × IsReady f n
-ready_from f sound some = go f.ready refl sound.state some where
-  go : (ready : Option ℕ) → f.ready ≡ ready → StandsSo f ready → IsSome (ready_of f ready) → (n : ℕ) × (f.ready ≡ Some n) × IsReady f n
-  go None is stands some = absurd (both_ways _ refl some)
-  go (Some n) is stands some = (n, is, stands)
+ready_from f sound some = grind arith
 
 module _ (old new : Feed) (n : ℕ) (r : HoldsLine old n) (go : LetsGo old new) where
   abbrev unit : LogicalLine

@@ -1,10 +1,10 @@
 -- The outermost list of pieces, where the machine with fields stands: its finished pieces, and the text after them, which is that of the
 -- piece that is open there. While a field is open, that is the string in whose field all else stands.
 use Rattle.py_lines.proofs.Prelude.{◌≡◌, ℕ, false, Option, None, Some, List, [], ◌∷◌, ◌++◌, refl, sym, ap, ◌∙◌, subst, append_assoc, append-nil, arith}
-use Rattle.py_lines.specs.Piece.{string, operator, line_end, Piece, spelled}
+use Rattle.py_lines.specs.Piece.{string, Piece, spelled}
 use Rattle.py_lines.specs.FieldStrings.{Place, literal, specification}
 use Rattle.py_lines.specs.Private.Machine.{Start, start_of, closed}
-use Rattle.py_lines.specs.Private.FieldMachine.{between, FieldMode, plain, body, FieldMove, closes, breaks, begins_code, Level, FieldScanned, field_state, field_fresh, field_class_of, field_closed, field_pieces, field_move, field_moved, field_started, field_operator, field_step, field_steps_from, after_operator, openers_with, code_operator, opened_level, text_place, before}
+use Rattle.py_lines.specs.Private.FieldMachine.{between, FieldMode, plain, body, FieldMove, closes, breaks, Level, FieldScanned, field_state, field_fresh, field_class_of, field_closed, field_pieces, field_move, field_moved, field_started, field_operator, field_step, field_steps_from, after_operator, openers_with, code_operator, text_place, before}
 use Rattle.py_lines.proofs.Pieces.PieceLists.{piece}
 use Rattle.py_lines.proofs.Machine.EarlierPieces.{closed-after}
 use Rattle.py_lines.proofs.Machine.PieceSteps.{some_is}
@@ -42,11 +42,7 @@ outer_pieces t = field_closed (outer_mode t) (outer_done t) (outer_held t)
 
 -- where no field is open, they are those of the innermost list
 pub outer_alone : (t : FieldScanned) → t.outer ≡ [] → (outer_done t ≡ t.done) × (outer_held t ≡ t.held) × (outer_mode t ≡ t.mode) × (outer_pieces t ≡ field_pieces t)
-outer_alone t none = go t.outer none where
-  go : (outer : List Level) → outer ≡ [] → (outer_list outer t.done ≡ t.done) × (outer_text (text_place t.mode) outer t.done t.held ≡ t.held) × (outer_open outer t.mode ≡ t.mode)
-      × (field_closed (outer_open outer t.mode) (outer_list outer t.done) (outer_text (text_place t.mode) outer t.done t.held) ≡ field_pieces t)
-  go [] is = (refl, refl, refl, refl)
-  go (l ∷ ls) is = absurd (cc)
+outer_alone t none = grind arith
 
 -- together they spell what was read
 text_parts : (place : Place) (outer : List Level) (done : List Piece) (held : List ℕ) → before place outer ++ (spelled done ++ held) ≡ spelled (outer_list outer done) ++ outer_text place outer done held
@@ -91,10 +87,7 @@ IsInField [] breaks = ⊥
 IsInField outer v = Unit {0}
 
 moved_keeps : (outer : List Level) (done : List Piece) (os : List ℕ) (m : FieldMode) (held : List ℕ) (c : ℕ) (v : FieldMove) → IsInField outer v → KeepsList (outer_list outer done) (field_moved (field_state outer done os m held) c v)
-moved_keeps [] done os m held c (begins_code host) inside = started_keeps (opened_level (field_state [] done os m held) host literal held) [] [] [] c (start_of c)
-moved_keeps (l ∷ ls) done os m held c breaks inside = started_keeps l ls (field_closed m done held) os c (start_of c)
-moved_keeps (l ∷ ls) done os m held c (begins_code host) inside = started_keeps (opened_level (field_state (l ∷ ls) done os m held) host literal held) (l ∷ ls) [] [] c (start_of c)
-moved_keeps outer done os m held c v inside = grind arith
+moved_keeps outer done os m held c v inside = grind (arith, started_keeps)
 
 pub outer_steps : (t : FieldScanned) (c : ℕ) (u : FieldScanned) → field_step t c ≡ Some u → OuterStep t c u
 outer_steps t c u step = go t.outer (field_move t.mode t.held c) refl refl where
@@ -113,16 +106,7 @@ StartedIf done None = Unit {0}
 StartedIf done (Some u) = (u.outer ≡ []) × ((ps : List Piece) × (u.done ≡ done ++ ps))
 
 pub started_outer : (done : List Piece) (openers : List ℕ) (c : ℕ) (x : Start) (u : FieldScanned) → field_started [] done openers c x ≡ Some u → (u.outer ≡ []) × ((ps : List Piece) × (u.done ≡ done ++ ps))
-started_outer done openers c x u is = subst (StartedIf done) is (go x) where
-  operator_started : (o : Option (List ℕ)) → StartedIf done (after_operator [] done c o)
-  operator_started None = tt
-  operator_started (Some os) = (refl, (piece operator (c ∷ []) ∷ [], refl))
-
-  go : (y : Start) → StartedIf done (field_started [] done openers c y)
-  go (Start.Open m) = (refl, ([], sym (append-nil done)))
-  go Start.Operator = operator_started (openers_with openers c)
-  go Start.LineEnd = (refl, (piece line_end (c ∷ []) ∷ [], refl))
-  go Start.Nothing = tt
+started_outer done openers c x u is = grind (arith, piece, append-nil)
 
 -- the finished pieces stay, and others may come after them
 pub closed_on : (m : FieldMode) (done : List Piece) (held : List ℕ) → (ps : List Piece) × (field_closed m done held ≡ done ++ ps)

@@ -1,12 +1,12 @@
 -- The machine with fields goes through the text of a piece that has no fields.
-use Rattle.py_lines.proofs.Prelude.{◌≡◌, ℕ, true, false, ◌&&◌, ◌==◌, Some, List, [], ◌∷◌, ◌++◌, length, refl, sym, ap, ◌∙◌, subst, inl, inr, append_assoc, arith, list_all, nat_tests}
+use Rattle.py_lines.proofs.Prelude.{◌≡◌, ℕ, true, false, ◌&&◌, ◌==◌, Some, List, [], ◌∷◌, ◌++◌, length, refl, sym, ap, ◌∙◌, subst, inl, inr, append_assoc, arith, list_all}
 use Rattle.py_lines.specs.Character.{is_word_character, is_word_start, is_quote, is_operator}
 use Rattle.py_lines.specs.Piece.{Class, word, string, operator, line_end, Piece, begins}
 use Rattle.py_lines.specs.PieceGrammar.{is_prefix, IsPrefix, InPlainClass, MayPrecedeIn}
 use Rattle.py_lines.specs.Balance.{is_opening, is_closing}
 use Rattle.py_lines.specs.FieldStrings.{is_field_prefix, Host, with_fields}
 use Rattle.py_lines.specs.Private.Machine.{Spelling, Mode, Start, class_of, start_of, first_spelling, spelling_on}
-use Rattle.py_lines.specs.Private.FieldMachine.{FieldMode, plain, grows, Level, FieldScanned, field_state, field_fresh, plain_move, begins_host, field_pieces, field_closed, field_move, openers_with, after_operator, code_operator, field_operator, field_started, frames}
+use Rattle.py_lines.specs.Private.FieldMachine.{FieldMode, plain, grows, Level, FieldScanned, field_state, field_fresh, plain_move, field_pieces, field_closed, field_move, openers_with, code_operator, field_operator, field_started, frames}
 use Rattle.py_lines.proofs.Pieces.PieceLists.{piece}
 use Rattle.py_lines.proofs.Text.CharacterTests.{prefix_word}
 pub use Rattle.py_lines.proofs.Machine.Starts.{opening_operator}
@@ -34,11 +34,7 @@ abbrev EndsNoPrefix : Class → List ℕ → List ℕ → Type 0
 EndsNoPrefix class text rest = class ≡ word → is_field_prefix text && begins is_quote rest ≡ false
 
 stops_after : (m : Mode) (class : Class) (text rest : List ℕ) → class_of m ≡ class → EndsNoPrefix class text rest → StopsBefore m rest → StopsAt (plain m) text rest
-stops_after m class text [] is none stops = stops
-stops_after m class text (c ∷ cs) is none stops = plain_moves m text c (no_host_after m is) ∙ ap plain_move stops where
-  no_host_after : (n : Mode) → class_of n ≡ class → begins_host n text c ≡ false
-  no_host_after (Mode.Word s) so = none (sym so)
-  no_host_after n so = refl
+stops_after m class text rest is none stops = grind (arith, plain_moves)
 
 ends_no_prefix : (F : Host → List ℕ → Type 0) (class : Class) (text rest : List ℕ) → MayPrecedeIn (with_fields F) class text rest → EndsNoPrefix class text rest
 ends_no_prefix F word text rest before is = (either_prefix (is_prefix text) (is_field_prefix text) (begins is_quote rest) before.1).1
@@ -51,9 +47,7 @@ IsNoColon (level ∷ outer) openers c = (c == 58) && (length openers == 0) ≡ f
 
 pub operator_stays : (outer : List Level) (done : List Piece) (openers after : List ℕ) (c : ℕ) → openers_with openers c ≡ Some after → IsNoColon outer openers c → field_operator outer done openers c ≡ Some (field_fresh outer (done ++ piece operator (c ∷ []) ∷ []) after)
 unfolding code_operator openers_with is_opening is_closing
-operator_stays [] done openers after c h none = ap (after_operator [] done c) h
-operator_stays (level ∷ outer) done (o ∷ os) after c h none = ap (after_operator (level ∷ outer) done c) h
-operator_stays (level ∷ outer) done [] after c h none = grind (arith, nat_tests)
+operator_stays outer done openers after c h none = grind arith
 
 -- the state in which a piece is open after those of another state
 abbrev open_at : FieldScanned → Mode → List ℕ → FieldScanned

@@ -74,12 +74,7 @@ goes-grown Room outer done openers m n held (c ∷ cs) (next, moves, others) =
 
 -- the last character of the open piece
 pub goes-closes : (Room : ℕ → Type 0) (s : FieldScanned) (c : ℕ) → field_move s.mode s.held c ≡ closes → Goes Room s (c ∷ []) (field_fresh s.outer (s.done ++ piece (field_class_of s.mode) (s.held ++ c ∷ []) ∷ []) s.openers)
-goes-closes Room s c move = (
-  field_fresh s.outer (s.done ++ piece (field_class_of s.mode) (s.held ++ c ∷ []) ∷ []) s.openers,
-  ap (field_moved s c) move,
-  subst (HasRoomFor Room (frames s) c) (sym move) tt,
-  refl,
-)
+goes-closes Room s c move = grind arith
 
 -- a character that begins a piece
 pub goes-begins : (Room : ℕ → Type 0) (s next t : FieldScanned) (c : ℕ) (cs : List ℕ) → field_move s.mode s.held c ≡ breaks → field_started s.outer (field_pieces s) s.openers c (start_of c) ≡ Some next → (is_opening c ≡ true → Room (frames s)) → Goes Room next cs t → Goes Room s (c ∷ cs) t

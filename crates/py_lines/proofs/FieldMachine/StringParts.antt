@@ -41,9 +41,7 @@ MayFollow at rest = Unit {0}
 
 goes_on_so : (host : Host) (place : Place) (named : Bool) (at : At) (rest : List ℕ) → MayFollow at rest → MayGoOn host place named at rest
 unfolding body_move escape_move
-goes_on_so host place named after_brace rest may = absurd may
-goes_on_so host place named at [] may = refl
-goes_on_so host place named at (c ∷ cs) may = grind arith
+goes_on_so host place named at rest may = grind arith
 
 pub goes_on : (host : Host) (place : Place) (named : Bool) (rest : List ℕ) → MayGoOn host place named between rest
 goes_on host place named rest = goes_on_so host place named between rest tt

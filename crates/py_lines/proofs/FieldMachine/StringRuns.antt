@@ -3,14 +3,14 @@ use Rattle.py_lines.proofs.Prelude.{◌≡◌, ℕ, Bool, true, false, not, ◌&
 use Rattle.py_lines.specs.Character.{is_word_character, is_word_start, is_quote, is_r}
 use Rattle.py_lines.specs.Piece.{Piece, string, begins}
 use Rattle.py_lines.specs.PieceGrammar.{has_triple, joined, is_prefix, MayPrecedeIn}
-use Rattle.py_lines.specs.FieldStrings.{is_field_prefix, Host, Place, literal, quotes_of, IsPart, bare, slash, escape, escaped_end, name, double, field, named_through, AreParts, IsFieldString, with_fields}
+use Rattle.py_lines.specs.FieldStrings.{is_field_prefix, Host, Place, literal, quotes_of, IsPart, named_through, AreParts, IsFieldString, with_fields}
 use Rattle.py_lines.specs.Private.Machine.{Mode, first_spelling, spelling_on}
-use Rattle.py_lines.specs.Private.FieldMachine.{Level, At, between, after_one, after_two, FieldMode, plain, opened, empty, body, FieldMove, grows, closes, FieldScanned, field_state, field_fresh, host_of, is_after_two, between_move, field_move, field_pieces, field_moved, frames}
+use Rattle.py_lines.specs.Private.FieldMachine.{Level, At, between, after_one, after_two, FieldMode, plain, opened, empty, body, FieldMove, grows, closes, FieldScanned, field_state, field_fresh, host_of, is_after_two, between_move, field_move, field_pieces, field_moved}
 use Rattle.py_lines.proofs.Pieces.PieceLists.{piece}
 use Rattle.py_lines.proofs.Fields.Prefixes.{field_letters}
 use Rattle.py_lines.proofs.Fields.Parts.{BeginOpen, short_part}
 use Rattle.py_lines.proofs.Fields.Elsewhere.{none_false, quotes_begin}
-use Rattle.py_lines.proofs.FieldMachine.Runs.{Goes, HasRoomFor, StopsAt, goes-append, goes-grown, goes-to, goes-grows, goes-closes}
+use Rattle.py_lines.proofs.FieldMachine.Runs.{Goes, StopsAt, goes-append, goes-grown, goes-to, goes-grows, goes-closes}
 use Rattle.py_lines.proofs.FieldMachine.PieceRuns.{FieldFinds, fresh_found, word_goes}
 use Rattle.py_lines.proofs.FieldMachine.StringParts.{settled, quotes_seen, MayGoOn, goes_on, body_moves, quote_grows, goes_on-quotes, FieldsGo, parts_go}
 
@@ -35,13 +35,7 @@ none_before q at h = grind (arith, eq-eqb q q refl)
 
 -- parts aren't empty
 part_begins : (F : Host → List ℕ → Type 0) → BeginOpen F → (host : Host) (place : Place) (named : Bool) (part rest : List ℕ) → IsPart F host place named part rest → (c : ℕ) × (cs : List ℕ) × (part ≡ c ∷ cs)
-part_begins F begin host place named part rest (bare c is a b d) = (c, [], is)
-part_begins F begin host place named part rest (slash s is a b) = (s, [], is)
-part_begins F begin host place named part rest (escape s c is a b d e f) = (s, c ∷ [], is)
-part_begins F begin host place named part rest (escaped_end s r f is a b d e) = (s, r ∷ f ∷ [], is)
-part_begins F begin host place named part rest (name s c b is a d e) = (s, c ∷ b ∷ [], is)
-part_begins F begin host place named part rest (double b c is a d e f) = (b, c ∷ [], is)
-part_begins F begin host place named part rest (field is a b) = let head = begin host part is in (123, head.0 ∷ head.1, head.2)
+part_begins F begin host place named part rest it7 = grind arith
 
 -- the string with this prefix and this quote
 abbrev host_in : ℕ → Bool → List ℕ → Host
@@ -84,12 +78,7 @@ module _ (Room : ℕ → Type 0) (from : FieldScanned) where
       rw (← (append_assoc prefix (q ∷ []) later)) (goes-append Room from (inside (opened (host_of prefix q)) (prefix ++ q ∷ [])) _ (prefix ++ q ∷ []) later (prefix_goes prefix q after is quotes stops) goes)
 
   opened_goes : (host : Host) (held : List ℕ) (c : ℕ) (cs : List ℕ) (t : FieldScanned) → eqb c host.quote ≡ false → Goes Room (inside (body host literal false between) held) (c ∷ cs) t → Goes Room (inside (opened host) held) (c ∷ cs) t
-  opened_goes host held c cs t other (next, step, room, others) = (
-    next,
-    ap (field_moved (inside (opened host) held) c) (opened_moves host held c other) ∙ moved_between from.outer (field_pieces from) from.openers host held c (field_move (body host literal false between) held c) ∙ step,
-    subst (HasRoomFor Room (frames (inside (opened host) held)) c) (sym (opened_moves host held c other)) room,
-    others,
-  )
+  opened_goes host held c cs t other (next, step, room, others) = grind (arith, opened_moves, moved_between)
 
   -- the string is closed
   abbrev closed_at : List ℕ → FieldScanned

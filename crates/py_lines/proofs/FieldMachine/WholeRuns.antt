@@ -1,6 +1,6 @@
 -- The machine with fields, from a text's start: a text is live exactly where it goes through it, with room for each character; and where it
 -- may end, its pieces read the text. It goes through every list of pieces that is read before what follows, and finds those pieces.
-use Rattle.py_lines.proofs.Prelude.{◌≡◌, ℕ, Bool, true, false, Option, None, Some, List, [], ◌∷◌, ◌++◌, refl, sym, ap, ◌∙◌, subst, and_parts, and_from, both_ways}
+use Rattle.py_lines.proofs.Prelude.{◌≡◌, ℕ, Bool, true, false, Option, None, Some, List, [], ◌∷◌, ◌++◌, refl, sym, ap, ◌∙◌, subst, both_ways, arith}
 use Rattle.py_lines.specs.Piece.{Piece, spelled}
 use Rattle.py_lines.specs.Balance.{IsBalanced}
 use Rattle.py_lines.specs.Fields.{AreReadBefore, Fields, IsShallow, ShallowFields}
@@ -9,7 +9,7 @@ use Rattle.py_lines.specs.Reading.{IsBalancedReading}
 use Rattle.py_lines.specs.Faults.{IsLive}
 use Rattle.py_lines.specs.Private.Mode as modes
 use Rattle.py_lines.specs.Private.Machine.{Mode}
-use Rattle.py_lines.specs.Private.FieldMachine.{FieldScanned, field_state, field_text_start, field_pieces, field_step, field_steps_from, has_room, have_room, room_step, roomy, openers_through, IsFieldFinal}
+use Rattle.py_lines.specs.Private.FieldMachine.{FieldScanned, field_state, field_text_start, field_pieces, field_steps_from, have_room, room_step, roomy, openers_through, IsFieldFinal}
 use Rattle.py_lines.specs.Private.LineScan.{begins_line, line_begun}
 use Rattle.py_lines.specs.Private.Scan.{Goes}
 use Rattle.py_lines.proofs.Machine.PieceSteps.{some_is}
@@ -60,14 +60,10 @@ roomy_parts false o t is = absurd (none_some is)
 
 -- a run of one character
 pub runs_one : (s : FieldScanned) (c : ℕ) (t : FieldScanned) → room_step s c ≡ Some t → RunsFrom s (c ∷ []) t
-runs_one s c t step =
-    let (room, is) = roomy_parts (has_room s c) (field_step s c) t step in
-    (ap (λ o. field_steps_from o []) is, and_from _ _ room (ap (λ o. have_room o []) is))
+runs_one s c t step = grind arith
 
 pub one_runs : (s : FieldScanned) (c : ℕ) (t : FieldScanned) → RunsFrom s (c ∷ []) t → room_step s c ≡ Some t
-one_runs s c t runs =
-    let (next, is) = steps_before (field_step s c) [] t runs.0 in
-    ap (λ b. roomy b (field_step s c)) (and_parts _ _ runs.1).0 ∙ is ∙ sym (ap (λ o. field_steps_from o []) is) ∙ runs.0
+one_runs s c t runs = grind arith
 
 -- no text that begins with characters of which the last isn't taken is live
 pub stops_there : (cs : List ℕ) (t : FieldScanned) (c : ℕ) → RunsTo cs t → room_step t c ≡ None → IsLive (cs ++ c ∷ []) → ⊥

@@ -134,10 +134,7 @@ slash_only c is = the_one 92 c is
 
 pub by_part : (P : List ℕ → Type 0) (long : Bool) (q : ℕ) → P [] → P (92 ∷ []) → P (92 ∷ 13 ∷ []) → P (92 ∷ 78 ∷ [])
     → (long ≡ true → P (q ∷ []) × P (q ∷ q ∷ [])) → (run : List ℕ) → is_part_of_text long q run ≡ true → P run
-by_part P long q none slash back name quotes [] part = none
-by_part P long q none slash back name quotes (c ∷ []) part = grind (arith, slash_only c, eqb-true c q)
-by_part P long q none slash back name quotes (c ∷ d ∷ []) part = grind (arith, slash_only c, eqb-true c q, eqb-true d q, eqb-true d 13, eqb-true d 78)
-by_part P long q none slash back name quotes (c ∷ d ∷ e ∷ run) part = absurd (both_ways _ refl part)
+by_part P long q none slash back name quotes run part = grind (arith, slash_only, eqb-true, both_ways)
 
 -- in a short string or a long one
 short_open : (m : Mode) → in_short m ≡ true → is_return_at (plain m) ≡ false → OpenText open_short literal (plain m)
@@ -148,19 +145,11 @@ long_open m other is none = record { is = λ outer openers. rw (other, is) refl;
 
 pub short_part : (q : ℕ) (run : List ℕ) → is_quote q ≡ true → is_part_of_text false q run ≡ true → StaysOpen open_short literal (plain (modes.Inside q)) run
 unfolding field_move move_of short_move is_backslash is_return is_quote
-short_part q run quote part = let other : 92 == q ≡ false = not_quote 92 q quote refl in let inside = short_open (modes.Inside q) refl refl in
-    by_part (StaysOpen open_short literal (plain (modes.Inside q))) false q inside (rw other (tt, short_open (modes.Escape q) refl refl))
-    (rw other (tt, (tt, short_open (modes.EscapeReturn q) refl refl))) (rw other (tt, (tt, inside))) (λ is. absurd (both_ways _ refl is)) run part
+short_part q run quote part = grind arith
 
 pub long_part : (q : ℕ) (run : List ℕ) → is_quote q ≡ true → is_part_of_text true q run ≡ true → StaysOpen open_long literal (plain (modes.Long q)) run
 unfolding field_move move_of long_move is_backslash is_quote
-long_part q run quote part = let other : 92 == q ≡ false = not_quote 92 q quote refl in let same : q == q ≡ true = eq-eqb q q refl in
-    let long = long_open (modes.Long q) refl refl refl in
-    by_part (StaysOpen open_long literal (plain (modes.Long q))) true q long (rw other (tt, long_open (modes.LongEscape q) refl refl refl))
-    (rw other (tt, (tt, long))) (rw other (tt, (tt, long))) (λ is. (
-      rw same (tt, long_open (modes.LongOne q) refl refl refl),
-      rw same (tt, rw same (tt, long_open (modes.LongTwo q) refl refl refl)),
-    )) run part
+long_part q run quote part = grind arith
 
 -- in one with fields
 abbrev pub what_in : Host → Place → Unfinished
@@ -221,9 +210,7 @@ pub lone_is : (bytes : List ℕ) → lone_of bytes ≡ (if length bytes == 1 the
 lone_is bytes = grind arith
 
 only_lone : (run : List ℕ) → 0 < lone_of run → run ≡ lone_of run ∷ []
-only_lone [] some = absurd (omega (arith, some))
-only_lone (c ∷ []) some = refl
-only_lone (c ∷ d ∷ cs) some = absurd (omega (arith, some))
+only_lone run some = grind arith
 
 quote_some : (q : ℕ) → is_quote q ≡ true → 0 < q
 unfolding is_quote
@@ -256,11 +243,7 @@ pub record CodeOver (t u : FieldScanned) (fs : List Frame) (run : List ℕ) : Ty
 module _ (old : Scan) (t u : FieldScanned) (follow : Follows old t) (code : is_text old.mode ≡ false) where
   -- nothing is open that may not end there
   over : (run : List ℕ) (s : FieldScanned) → s ≡ u → EndsMode s.mode → FramesFollow s.outer s.done s.openers old.frames → CodeOver t u old.frames run
-  over run s same ends framed = record {
-    ends = λ no_quote no_slash. subst (λ (x : FieldScanned). EndsCode x old.frames) same
-        (record { code = ends.0 s.outer s.openers; calm = ends.1; frames = framed });
-    open_yet = λ other. ap has_returned (sym same) ∙ ap (λ b. b && (frames s == 0)) ends.2;
-  }
+  over run s same ends framed = grind arith
 
   pub code_over : (run : List ℕ) → is_pending old.mode run ≡ true → Goes t run u → CodeOver t u old.frames run
   unfolding is_backslash

@@ -41,12 +41,7 @@ pub record Opened (fs : List Frame) (n : ℕ) (f : Frame) (old : List Frame) (fi
 
 pub opened : (fs : List Frame) (n : ℕ) (f : Frame) (old : List Frame) (fields : ℕ)
     → (length fs ≡ 200) × (n ≤ 200) × (fields ≡ fields_of (first_frames fs n)) → first_frames fs n ≡ old → (length old ≡ 200 → ⊥) → Opened fs n f old fields
-opened fs n f old fields (size, few, counted) is room =
-    let len : length old ≡ n = ap length (sym is) ∙ first_frames_length fs n size few in
-    let less : n < 200 = omega (arith, few, len, room) in let same : fields ≡ fields_of old = counted ∙ ap fields_of is in
-    let short : length old < 200 = omega (arith, less, len) in let fewer : fields ≤ length old = omega (arith, same, fields_few old) in
-    let first = ap reverse (take_more_set fs n f (omega (arith, less, size))) ∙ reverse-append (take n fs) (f ∷ []) ∙ ap (λ fs. f ∷ fs) is in
-    search (less, short, length-set fs n f ∙ size, same, fewer, first)
+opened fs n f old fields (size, few, counted) is room = grind (arith, first_frames_length, fields_few, take_more_set, reverse-append, length-set)
 
 -- the innermost is taken away
 pub record Taken (fs : List Frame) (n : ℕ) (f : Frame) (old : List Frame) (fields : ℕ) : Type 0 where

@@ -5,7 +5,7 @@ use Rattle.py_lines.specs.Piece.{string, Piece, spelled}
 use Rattle.py_lines.specs.FieldStrings.{Host, Place, literal, specification}
 use Rattle.py_lines.specs.Private.Machine.{Mode, Move, Spelling, Move as moves, Holds, begins_string, closed, class_of, is_field_spelling, is_raw_spelling, long_move, move_of, short_move, spelling_with}
 use Rattle.py_lines.specs.Private.Mode as modes
-use Rattle.py_lines.specs.Private.FieldMachine.{At, Level, between, after_slash, after_return, after_name, after_brace, FieldMode, plain, opened, empty, body, FieldMove, grows, closes, breaks, begins_code, opens_field, ends_field, refused, host_of, long_host, begins_host, plain_move, between_move, escape_move, body_move, is_after_brace, field_move, is_after_two, with_quote, closing_move, opening_move, ending_move, field_closed, field_class_of, text_place}
+use Rattle.py_lines.specs.Private.FieldMachine.{At, Level, between, after_slash, after_brace, FieldMode, plain, opened, empty, body, FieldMove, grows, closes, breaks, begins_code, opens_field, ends_field, refused, host_of, long_host, begins_host, plain_move, between_move, escape_move, body_move, is_after_brace, field_move, is_after_two, with_quote, closing_move, opening_move, ending_move, field_closed, field_class_of, text_place}
 use Rattle.py_lines.specs.Private.Scan.{HoldsCode, HasNoList, NoListAt, is_ending}
 use Rattle.py_lines.proofs.Pieces.PieceLists.{piece, spelled-push}
 use Rattle.py_lines.proofs.Machine.LiveTexts as live
@@ -60,12 +60,7 @@ between_moved host place named a at c = cond_both (c == host.quote) _ _ P
 
 pub body_moved : (host : Host) (place : Place) (named : Bool) (at : At) (held : List ℕ) (c : ℕ) → BodyMoved host place named at c (field_move (body host place named at) held c)
 unfolding field_move body_move escape_move
-body_moved host literal named after_slash held c = grind (arith, between_moved host literal named after_slash between c)
-body_moved host specification named after_slash held c = grind (arith, between_moved host specification named after_slash between c)
-body_moved host place named after_return held c = grind (arith, between_moved host place named after_return between c)
-body_moved host place named after_name held c = grind (arith, between_moved host place named after_name between c)
-body_moved host place named after_brace held c = grind arith
-body_moved host place named at held c = between_moved host place named at at c
+body_moved host place named at held c = grind (arith, between_moved)
 
 -- a piece that grows stays where it is, and its text stays as its mode has it
 pub record GrowsTo (m n : FieldMode) (text : List ℕ) : Type 0 where
@@ -151,9 +146,7 @@ said m held c v holds is = subst (Says m held c) is (says m held c holds)
 -- no list stands in a specification that goes on
 pub list_at : (m n : FieldMode) (outer : List Level) (done : List Piece) (openers : List ℕ) → text_place n ≡ text_place m
     → HasNoList m outer done openers → HasNoList n outer done openers
-list_at (body h specification b a) (body host specification named at) outer done openers same none = none
-list_at m (body host specification named at) outer done openers same none = absurd (cc)
-list_at m n outer done openers same none = tt
+list_at m n outer done openers same none = grind arith
 
 pub bare_in : (m : FieldMode) (outer : List Level) (done : List Piece) (openers : List ℕ) → text_place m ≡ specification
     → HasNoList m outer done openers → NoListAt specification outer done openers

@@ -112,10 +112,7 @@ module _ (t : FieldScanned) (host : Host) (room : nat_lt (frames t) 200 ≡ true
 
 -- the sign with which bytes begin
 first_sign : (d : ℕ) (bytes : List ℕ) → d < 128 → begins (λ c. c == d) bytes ≡ true → BeginsWith bytes d
-first_sign d [] low is = absurd (both_ways _ refl is)
-first_sign d (b ∷ rest) low is =
-    let spell = ap (λ x. x ++ drop (len_utf8 d) (b ∷ rest)) (encode_ascii d low) ∙ ap (λ n. d ∷ drop n (b ∷ rest)) (len_utf8_ascii d low) ∙ ap (λ x. x ∷ rest) (sym (eqb-true b d is)) in
-    search (low_scalar d (omega (arith, low)), spell)
+first_sign d bytes low is = grind (arith, both_ways, encode_ascii, len_utf8_ascii, eqb-true, low_scalar)
 
 -- a field is opened in a text of such a place
 module _ (old : Scan) (t : FieldScanned) (follow : Follows old t) (host : StringWithFields) (region : Region) (is : mode_from old.mode ≡ body (host_in host) (region_in region) false between) where

@@ -21,7 +21,7 @@ use Rattle.py_lines.specs.Private.Machine.{start_of, Bracket, brackets_of, Start
 use Rattle.py_lines.specs.Private.FieldMachine.{between, body, breaks, Level, FieldScanned, field_state, field_fresh, field_closed, field_move, field_started, field_operator, code_operator, openers_with, field_ended, before, frames, has_room_at, room_step, text_place}
 use Rattle.py_lines.specs.Private.FieldFaults.{cause_in, cause_place, here}
 use Rattle.py_lines.specs.Private.Frames.{IsClosedBy, IsInnermostFrame, OpensFrame}
-use Rattle.py_lines.specs.Private.Scan.{region_in, bracket_openers, Follows, FramesFollow, IsFieldFault, TakesOne, ended_in, mode_from, passed, with_bytes, wrong_here}
+use Rattle.py_lines.specs.Private.Scan.{bracket_openers, Follows, FramesFollow, IsFieldFault, TakesOne, ended_in, mode_from, passed, with_bytes, wrong_here}
 use Rattle.py_lines.proofs.Machine.Starts.{start-operator}
 use Rattle.py_lines.proofs.LineScan.AsciiRuns.{operator-no_break}
 use Rattle.py_lines.proofs.Text.CharacterTests.{each_of, none_of}
@@ -47,10 +47,7 @@ cause_here t c = grind arith
 
 -- what is wrong there
 pub fault_in_code : (old : Scan) (t : FieldScanned) (c : ℕ) (kind : FaultKind) → Follows old t → text_place t.mode ≡ literal → is_break c ≡ false → kind_of_cause (code_cause c) ≡ kind → IsFieldFault t c (record { kind = kind; place = old.stop })
-fault_in_code old t c kind follow place none is =
-    let cause : code_cause c ≡ cause_in (frames t) t.mode c =
-    sym (cause_of old.mode (frames t) c (ap text_place follow.mode ∙ place) none) ∙ ap (λ m. cause_in (frames t) m c) follow.mode in
-    (sym is ∙ ap kind_of_cause cause, follow.stop ∙ cause_here t c ∙ ap (cause_place t) cause)
+fault_in_code old t c kind follow place none is = grind arith
 
 opening-not-closing : (c : ℕ) → is_opening c ≡ true → is_closing c ≡ false
 unfolding is_opening is_closing
@@ -95,9 +92,7 @@ in_field scan t f there = specified_field t.outer t.done t.openers scan.frames (
 
 -- the scan is back in the string of a field that has ended
 pub resumed : (old : Scan) (outer : List Level) (openers : List ℕ) (field : OpenField) (others : List Frame) (i : InnermostField outer openers field others) (text : List ℕ) → old.stop + 1 ≡ byte_len (before i.level.place i.outside ++ (spelled i.level.done ++ text)) → Follows (ended_in old field others) (field_ended i.level i.outside text)
-resumed old outer openers field others i text stop =
-    let mode = ap (λ h. body h (region_in field.region) false between) i.at.host ∙ ap (λ p. body i.level.host p false between) i.at.region in
-    search (mode, ap (λ (h : Host). is_quote h.quote) i.at.host ∙ i.at.quote, i.at, stop)
+resumed old outer openers field others i text stop = grind arith
 
 -- a character that ends the open piece of code, and is an operator
 module _ (old : Scan) (c : ℕ) (t : FieldScanned) (follow : Follows old t) (is : field_move t.mode t.held c ≡ breaks) (operates : is_operator c ≡ true) where

@@ -1,5 +1,5 @@
 -- The machine is as many bytes further after characters as they have.
-use Rattle.py_lines.proofs.Prelude.{◌≡◌, ℕ, ◌+◌, Bool, false, Option, None, Some, List, [], ◌∷◌, ◌++◌, refl, sym, ap, ◌∙◌, subst, append_assoc, append-nil, arith, ◌==◌, len_utf8, byte, both_ways, cond_both}
+use Rattle.py_lines.proofs.Prelude.{◌≡◌, ℕ, ◌+◌, Bool, false, Option, None, Some, List, [], ◌∷◌, ◌++◌, refl, sym, ap, ◌∙◌, subst, append_assoc, append-nil, arith, len_utf8, both_ways, cond_both}
 use Rattle.py_lines.specs.FieldStrings.{Host, Place, literal, specification}
 use Rattle.py_lines.specs.LogicalLine.{byte_len}
 use Rattle.py_lines.specs.Piece.{Class, Piece, line_end, operator, spelled}
@@ -9,7 +9,7 @@ use Rattle.py_lines.specs.declared.mode.Mode.TheVariants as opens
 use Rattle.py_lines.specs.declared.scan.Scan.{Scan}
 use Rattle.py_lines.specs.Private.Machine.{Start, long_move, move_of, short_move, start_of, Start as starts}
 use Rattle.py_lines.specs.Private.FieldFaults.{here}
-use Rattle.py_lines.specs.Private.FieldMachine.{At, after_brace, between_move, FieldMode, FieldMove, FieldScanned, Level, after_operator, before, begins_code, between, body, body_move, breaks, closes, code_operator, ends_field, field_class_of, field_closed, field_ended, field_fresh, field_move, field_moved, field_operator, field_started, field_step, grows, has_room, is_after_brace, opened_level, openers_with, opens_field, refused, specification_ended, text_place}
+use Rattle.py_lines.specs.Private.FieldMachine.{At, after_brace, between_move, FieldMode, FieldMove, FieldScanned, Level, after_operator, before, begins_code, between, body, body_move, breaks, closes, code_operator, ends_field, field_class_of, field_closed, field_ended, field_fresh, field_move, field_moved, field_operator, field_started, field_step, grows, has_room, is_after_brace, opened_level, opens_field, refused, specification_ended, text_place}
 use Rattle.py_lines.specs.Private.Scan.{Follows, FramesFollow, Goes, HasNoList, HoldsCode, NoListAt, host_in, mode_from, region_in}
 use Rattle.py_lines.proofs.FieldScans.Bytes.{byte_len-more, push_three, push_two}
 use Rattle.py_lines.proofs.FieldScans.Moves.{BodyMoved, bare_in, body_moved, holds_plain, list_at, said}
@@ -76,11 +76,7 @@ fresh_laid outer done openers bare = record { holds = refl; no_list = tt; whole 
 
 piece_at : (outer : List Level) (done : List Piece) (openers : List ℕ) (class : Class) (c : ℕ) → AreBare outer
     → IsAt (byte_len (before literal outer ++ spelled done) + len_utf8 c) (Some (field_fresh outer (done ++ piece class (c ∷ []) ∷ []) openers))
-piece_at outer done openers class c bare = (
-  ap (λ x. byte_len (before literal outer ++ x)) (append-nil (spelled (done ++ piece class (c ∷ []) ∷ [])) ∙ spelled-push done class (c ∷ []))
-      ∙ push_two (before literal outer) (spelled done) c,
-  fresh_laid outer (done ++ piece class (c ∷ []) ∷ []) openers bare,
-)
+piece_at outer done openers class c bare = grind (arith, append-nil, piece, spelled-push, push_two, fresh_laid)
 
 -- back in the string of a field
 ended_at : (level : Level) (outer : List Level) (text : List ℕ) → AreBare (level ∷ outer) → IsLaidOut (field_ended level outer text)
@@ -99,13 +95,7 @@ code_text level outer done c = ap byte_len (simp append_assoc) ∙ push_two (bef
 operator_at : (outer : List Level) (done : List Piece) (openers : List ℕ) (c : ℕ) → AreBare outer
     → IsAt (byte_len (before literal outer ++ spelled done) + len_utf8 c) (field_operator outer done openers c)
 unfolding code_operator
-operator_at [] done openers c bare = after_at [] done c (openers_with openers c) bare
-operator_at (level ∷ outer) done (o ∷ os) c bare = after_at (level ∷ outer) done c (openers_with (o ∷ os) c) bare
-operator_at (level ∷ outer) done [] c bare =
-    let far : ℕ = byte_len (before literal (level ∷ outer) ++ spelled done) + len_utf8 c in
-    cond_both (c == byte "}") _ _ (IsAt far) (λ h. (code_text level outer done c, ended_at level outer _ bare))
-    (λ h. cond_both (c == byte ":") _ _ (IsAt far) (λ k. (ap byte_len (append_assoc (before level.place outer) (spelled level.done) (level.front ++ (spelled done ++ c ∷ []))) ∙ code_text level outer done c, record { holds = tt; no_list = (refl, refl, λ none. absurd (cc)); whole = refl; bare = bare }))
-    (λ k. after_at (level ∷ outer) done c (openers_with [] c) bare))
+operator_at outer done openers c bare = grind (arith, after_at, cond_both, code_text, ended_at, append_assoc)
 
 -- another piece
 started_at : (outer : List Level) (done : List Piece) (openers : List ℕ) (c : ℕ) (x : Start) → StartHolds c x → AreBare outer
@@ -119,12 +109,7 @@ started_at outer done openers c starts.Nothing holds bare = tt
 -- the end of a specification
 specified_at : (outer : List Level) (done : List Piece) (held : List ℕ) (c : ℕ) → done ≡ [] → AreBare outer
     → IsAt (byte_len (before specification outer ++ (spelled done ++ held)) + len_utf8 c) (specification_ended outer (held ++ c ∷ []))
-specified_at [] done held c none bare = tt
-specified_at (level ∷ outer) done held c none bare = (
-  sym (ap byte_len (append_assoc (before level.place outer) (spelled level.done) (held ++ c ∷ []))) ∙ push_two (before specification (level ∷ outer)) held c
-      ∙ ap (λ ps. byte_len (before specification (level ∷ outer) ++ (spelled ps ++ held)) + len_utf8 c) (sym none),
-  ended_at level outer _ bare,
-)
+specified_at outer done held c none bare = grind (arith, append_assoc, push_two, ended_at)
 
 whole_brace : (host : Host) (place : Place) (named : Bool) → IsWhole (body host place named after_brace) → place ≡ literal
 whole_brace host literal named whole = refl

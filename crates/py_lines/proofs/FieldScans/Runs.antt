@@ -1,6 +1,6 @@
 -- What is held in one step: characters that leave the open piece as it is, simple text of a string with fields, and words, spaces and
 -- signs of a field's code up to the last sign.
-use Rattle.py_lines.proofs.Prelude.{◌≡◌, ℕ, zero, suc, ◌+◌, ◌<◌, ◌≤◌, Bool, true, false, ◌&&◌, ◌==◌, List, [], ◌∷◌, ◌++◌, length, take, drop, refl, sym, ap, ◌∙◌, subst, append_assoc, append-nil, arith, take-append-drop, transport, Some, encode_utf8_all, len_utf8, list_all, all_scalars, and_parts, and_right, length-take-le, take-take}
+use Rattle.py_lines.proofs.Prelude.{◌≡◌, ℕ, zero, suc, ◌+◌, ◌<◌, ◌≤◌, Bool, true, false, ◌&&◌, ◌==◌, List, [], ◌∷◌, ◌++◌, length, take, drop, refl, sym, ap, ◌∙◌, subst, append_assoc, append-nil, arith, take-append-drop, Some, encode_utf8_all, len_utf8, list_all, all_scalars, and_parts, and_right, length-take-le, take-take}
 use Rattle.py_lines.specs.Character.{is_quote}
 use Rattle.py_lines.specs.FieldStrings.{literal}
 use Rattle.py_lines.specs.LogicalLine.{byte_len}
@@ -12,9 +12,8 @@ use Rattle.py_lines.specs.declared.mode.Mode.{Mode as OpenMode}
 use Rattle.py_lines.specs.declared.mode.Mode.TheVariants as opens
 use Rattle.py_lines.specs.declared.mode.Spelling.TheVariants as spellings
 use Rattle.py_lines.specs.declared.scan.Scan.{Scan}
-use Rattle.py_lines.specs.Private.Mode as modes
 use Rattle.py_lines.specs.Private.Machine.{long_move, move_of, short_move, spelling_with}
-use Rattle.py_lines.specs.Private.FieldMachine.{FieldMode, FieldScanned, Level, before, between, body, field_move, field_moved, field_state, frames, grows, has_room_at, levels_open, plain, room_step, roomy, text_place}
+use Rattle.py_lines.specs.Private.FieldMachine.{FieldMode, FieldScanned, Level, before, between, body, field_move, field_moved, field_state, frames, grows, has_room_at, levels_open, room_step, roomy, text_place}
 use Rattle.py_lines.specs.Private.FieldFaults.{here}
 use Rattle.py_lines.specs.Private.Scan.{Follows, Goes, HoldsCode, HoldsField, HasQuote, KeepsOpen, ends_line, is_line_ending, is_shut, mode_from, host_in, passed, region_in, with_bytes}
 use Rattle.py_lines.specs.Private.FieldText.{HasText}
@@ -157,13 +156,7 @@ holds_text scan h bytes n mode quotes room text =
 
 -- where no piece is open, none begins before where the scan stops
 pub free_start : (scan : Scan) (t : FieldScanned) → Follows scan t → scan.mode ≡ opens.Free → Follows (passed scan 0) t
-free_start scan t follows free =
-    let mode : plain modes.Free ≡ t.mode = ap mode_from (sym free) ∙ follows.mode in
-    let none : t.held ≡ [] = subst (λ (m : FieldMode). HoldsCode m t.held) (sym mode) follows.holds in let far : scan.stop ≡ scan.stop + 0 = omega arith in
-    let start : scan.start ≡ scan.stop + 0 =
-    follows.start ∙ ap byte_len (sym (append-nil (before (text_place t.mode) t.outer ++ spelled t.done)) ∙ append_assoc _ (spelled t.done) [])
-    ∙ ap (λ h. byte_len (before (text_place t.mode) t.outer ++ (spelled t.done ++ h))) (sym none) ∙ sym follows.stop ∙ far in
-    transport (λ i. Follows (record scan { mode = free i; start = start i; stop = far i }) t) follows
+free_start scan t follows free = grind (arith, append-nil, append_assoc)
 
 -- code of a field: its first bytes, up to a sign
 pub holds_code : (first : Scan) (bytes : List ℕ) (all len : ℕ) → first.mode ≡ opens.Free → has_field first.frames ≡ true

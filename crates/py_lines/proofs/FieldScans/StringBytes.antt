@@ -1,5 +1,5 @@
 -- What the bytes with which a string's text goes on do to it, item after item.
-use Rattle.py_lines.proofs.Prelude.{◌≡◌, ℕ, ◌<◌, ◌≤◌, Bool, true, false, not, ◌&&◌, ◌==◌, Option, None, Some, List, [], ◌∷◌, ◌++◌, ◌+◌, length, drop, slice_index, refl, sym, ap, ◌∙◌, subst, arith, append_assoc, append-nil, inl, inr, ◌⊎◌, encode_utf8, encode_utf8_all, nat_lt, if◌then◌else◌, list_all, len_utf8, StartsWithNoChar, drop-append_seam, drop-cons, drop_all, length_push, and_from, cond_both, both_ways, eq-eqb, eqb-true, ltb-true, ltb-false, or_right, encode_ascii, len_utf8_ascii, len_utf8_bounds}
+use Rattle.py_lines.proofs.Prelude.{◌≡◌, ℕ, ◌<◌, ◌≤◌, Bool, true, false, not, ◌&&◌, ◌==◌, Option, None, Some, List, [], ◌∷◌, ◌++◌, ◌+◌, length, drop, slice_index, refl, sym, ap, ◌∙◌, subst, arith, append-nil, inl, inr, ◌⊎◌, encode_utf8, encode_utf8_all, nat_lt, if◌then◌else◌, list_all, len_utf8, StartsWithNoChar, drop-append_seam, drop-cons, drop_all, and_from, cond_both, both_ways, eq-eqb, eqb-true, ltb-true, ltb-false, or_right, encode_ascii, len_utf8_ascii, len_utf8_bounds}
 use Rattle.py_lines.specs.Character.{is_backslash, is_brace, is_break, is_quote, is_return}
 use Rattle.py_lines.specs.FieldStrings.{literal}
 use Rattle.py_lines.specs.declared.host.StringWithFields.{StringWithFields}
@@ -41,10 +41,7 @@ first_byte_at (c ∷ cs) b is some = ap (λ (x : ℕ). x ∷ cs) (sym is)
 
 -- quotes with which a string would close
 closes_by : (m to : FieldMode) (q : ℕ) (run rest : List ℕ) → is_quote q ≡ true → (run ≡ []) ⊎ (run ≡ q ∷ q ∷ []) → TextGoes m run to → IsAtQuote m q to → QuotesInText m (run ++ q ∷ rest) (length run + 1) (closing_move (text_place m))
-closes_by m to q run rest quotes low goes here =
-    let after : drop (length run + 1) (run ++ q ∷ rest) ≡ rest =
-    ap (λ t. drop (length run + 1) t) (sym (append_assoc run (q ∷ []) rest)) ∙ ap (λ n. drop n ((run ++ q ∷ []) ++ rest)) (sym (length_push run q)) ∙ drop-append_seam (run ++ q ∷ []) rest in
-    search (quotes, ap (λ t. run ++ q ∷ t) after, low, goes, here)
+closes_by m to q run rest quotes low goes here = grind arith
 
 -- a quote of a short string
 pub first_is : (bytes : List ℕ) (c : ℕ) → c < 128 → BeginsWith bytes c → c ∷ drop 1 bytes ≡ bytes

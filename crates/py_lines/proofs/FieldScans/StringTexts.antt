@@ -1,13 +1,13 @@
 -- What a character does to the text of a string: its own quote, a backslash and what it escapes, and any other character.
-use Rattle.py_lines.proofs.Prelude.{◌≡◌, ℕ, ◌<◌, ◌≤◌, Bool, true, false, not, ◌&&◌, ◌==◌, List, [], ◌∷◌, ◌++◌, drop, slice_index, refl, sym, ap, ◌∙◌, subst, arith, ⊎_elim, len_utf8, and_left, both_ways, cases_Bool, cases_lt, eq-eqb, ne_eqb, or_from, encode_ascii}
+use Rattle.py_lines.proofs.Prelude.{◌≡◌, ℕ, ◌<◌, ◌≤◌, Bool, true, false, not, ◌&&◌, ◌==◌, List, [], ◌∷◌, slice_index, refl, sym, ap, ◌∙◌, subst, arith, ⊎_elim, and_left, both_ways, cases_Bool, cases_lt, eq-eqb, ne_eqb, or_from, encode_ascii}
 use Rattle.py_lines.specs.Character.{is_backslash, is_brace, is_break, is_line_feed, is_quote, is_return}
 use Rattle.py_lines.specs.FieldStrings.{Host, Place, literal, specification, names}
 use Rattle.py_lines.specs.declared.mode.Mode.{Mode as OpenMode}
 use Rattle.py_lines.specs.declared.mode.Mode.TheVariants as opens
 use Rattle.py_lines.specs.Private.Mode as modes
 use Rattle.py_lines.specs.Private.Machine.{Mode, class_of, is_after_backslash, long_move, move_of, short_move}
-use Rattle.py_lines.specs.Private.FieldMachine.{At, FieldMode, after_name, after_one, after_open_backslash, after_return, after_slash, after_two, between, between_move, body, body_move, closing_move, escape_move, field_move, grows, is_after_brace, is_barred_escape, plain, refused, text_place, with_quote}
-use Rattle.py_lines.specs.Private.FieldFaults.{cause_in, is_waiting, quotes_specification}
+use Rattle.py_lines.specs.Private.FieldMachine.{At, FieldMode, after_name, after_open_backslash, after_return, after_slash, between, between_move, body, body_move, closing_move, escape_move, field_move, grows, is_after_brace, is_barred_escape, plain, refused, text_place, with_quote}
+use Rattle.py_lines.specs.Private.FieldFaults.{is_waiting, quotes_specification}
 use Rattle.py_lines.specs.Private.Run.{BeginsWith}
 use Rattle.py_lines.specs.Private.Scan.{HasQuote, IsFirstByte, IsTextAt, TextAlike, TextAs, is_part_of_text, is_pending, is_specification, is_text, mode_from}
 use Rattle.py_lines.proofs.Text.CharacterTests.{break-not-others, not_quote}
@@ -48,10 +48,7 @@ waits_not host place named at none = grind arith
 
 pub body_alike : (b : ℕ) (host : Host) (place : Place) (named : Bool) (at : At) → is_after_brace at ≡ false → ((c : ℕ) → IsFirstByte b c → body_move host place named at c ≡ body_move host place named between c) → TextAlike b (body host place named at) (body host place named between)
 unfolding field_move
-body_alike b host place named at none move = record { place = refl; class = refl; move = move; cause = λ c depth first. go c depth place } where
-  go : (c depth : ℕ) (p : Place) → cause_in depth (body host p named at) c ≡ cause_in depth (body host p named between) c
-  go c depth literal = rw (waits_not host literal named at none) refl
-  go c depth specification = refl
+body_alike b host place named at none move = grind arith
 
 pub text_as-self : (rest : List ℕ) (m : FieldMode) → TextAs rest m m
 text_as-self [] m = refl
@@ -63,19 +60,11 @@ text_mode (opens.Short q) quote long c at quotes = (refl, ap is_quote at.0 ∙ q
 text_mode m quote long c at quotes = grind arith
 
 pub pending_text : (mode : OpenMode) (m : FieldMode) (quote : ℕ) (long : Bool) (c : ℕ) (run : List ℕ) → IsTextAt m quote long c → is_part_of_text long quote run ≡ true → mode_from mode ≡ m → is_pending mode run ≡ true
-pending_text mode m quote long c run at part same = go mode (subst (λ x. IsTextAt x quote long c) (sym same) at) where
-  go : (mode : OpenMode) → IsTextAt (mode_from mode) quote long c → is_pending mode run ≡ true
-  go other at = grind arith
+pending_text mode m quote long c run at part same = grind arith
 
 -- what holds of the first byte holds of the character
 pub text_at : (m : FieldMode) (quote : ℕ) (long : Bool) (bytes : List ℕ) (c : ℕ) → BeginsWith bytes c → IsTextAt m quote long (slice_index bytes 0) → IsTextAt m quote long c
-text_at m quote long bytes c next at = ⊎_elim (λ (low : c < 128). subst (λ (b : ℕ). IsTextAt m quote long b) (first low) at) (high m at) (cases_lt c 128) where
-  first : c < 128 → slice_index bytes 0 ≡ c
-  first low = sym (ap (λ t. slice_index t 0) (ap (λ t. t ++ drop (len_utf8 c) bytes) (sym (encode_ascii c low)) ∙ next.spell))
-
-  high : (m : FieldMode) → IsTextAt m quote long (slice_index bytes 0) → 128 ≤ c → IsTextAt m quote long c
-  high (body host place named between) at is = grind (arith, high_apart c is, high_other c 125 is, high_other c 123 is)
-  high m at is = grind arith
+text_at m quote long bytes c next at = grind (arith, cases_lt, encode_ascii, high_apart, high_other)
 
 -- after one quote more of a long string
 abbrev pub with_one : FieldMode → FieldMode
@@ -93,8 +82,6 @@ pub record IsAtQuote (m : FieldMode) (quote : ℕ) (is : FieldMode) : Type 0 whe
 
 pub quote_closes : (m : FieldMode) (q : ℕ) → IsTextAt m q false q → IsAtQuote m q m
 unfolding field_move move_of body_move between_move
-quote_closes (plain (modes.Inside p)) q at = grind (arith, eq-eqb q p)
-quote_closes (body host place named between) q at = grind (arith, eq-eqb q host.quote)
 quote_closes m q at = grind arith
 
 pub record TakesQuotes (m : FieldMode) (quote : ℕ) : Type 0 where
@@ -104,22 +91,12 @@ pub record TakesQuotes (m : FieldMode) (quote : ℕ) : Type 0 where
 
 pub quotes_long : (m : FieldMode) (q : ℕ) → IsTextAt m q true q → TakesQuotes m q
 unfolding field_move move_of body_move between_move
-quotes_long (plain (modes.Long p)) q at = grind (arith, eq-eqb q p)
-quotes_long (body host place named between) q at = grind (arith, eq-eqb q host.quote)
 quotes_long m q at = grind arith
 
 -- before another byte than the quote they are as if they weren't there
 pub quotes_apart : (m : FieldMode) (q b : ℕ) → IsTextAt m q true q → is_quote q ≡ true → b == q ≡ false → TextAlike b (with_one m) m × TextAlike b (with_one (with_one m)) m
 unfolding field_move move_of body_move between_move
-quotes_apart (plain (modes.Long p)) q b at quotes other =
-    let none : (c : ℕ) → IsFirstByte b c → c == p ≡ false = λ c first. ap (λ (x : ℕ). c == x) at.0 ∙ first_other b c q first (quote_ascii q quotes) other in (
-      plain_alike b (modes.LongOne p) (modes.Long p) refl refl (λ c first. rw (none c first)),
-      plain_alike b (modes.LongTwo p) (modes.Long p) refl refl (λ c first. rw (none c first)),
-    )
-quotes_apart (body host place named between) q b at quotes other =
-    let none : (c : ℕ) → IsFirstByte b c → c == host.quote ≡ false = λ c first. ap (λ (x : ℕ). c == x) at.0 ∙ first_other b c q first (quote_ascii q quotes) other in
-    (body_alike b host place named after_one refl (λ c first. rw (none c first)), body_alike b host place named after_two refl (λ c first. rw (none c first)))
-quotes_apart m q b at quotes other = grind arith
+quotes_apart m q b at quotes other = grind (arith, first_other, quote_ascii, plain_alike, body_alike)
 
 -- another character than quote, backslash and line end
 pub other_grows : (m : FieldMode) (q : ℕ) (long : Bool) (c : ℕ) → IsTextAt m q long c → c == q ≡ false → is_backslash c ≡ false → is_break c && not long ≡ false → field_move m [] c ≡ grows m

@@ -26,7 +26,7 @@ use Rattle.py_lines.proofs.Machine.Starts.{StartsSo, starts_so, opens_no, start-
 use Rattle.py_lines.proofs.FieldMachine.Runs.{room_grows, room_closes}
 use Rattle.py_lines.proofs.FieldScans.Bytes.{byte_len-one, push_two, push_three}
 use Rattle.py_lines.proofs.FieldScans.Frames.{frames_alike}
-use Rattle.py_lines.proofs.FieldScans.Moves.{EndsBefore, ending_before, list_at, said}
+use Rattle.py_lines.proofs.FieldScans.Moves.{EndsBefore, ending_before, said}
 use Rattle.py_lines.specs.Faults.{kind_of_cause}
 
 -- what the scan keeps count of is never the CR of a line end
@@ -40,9 +40,7 @@ follows_open scan t follows = ap (λ b. b && (frames t == 0)) (ap is_return_at (
 ends_free : (b : ℕ) (outer : List Level) (done : List Piece) (openers : List ℕ) (m : FieldMode) (held : List ℕ) → m ≡ plain modes.Free → outer ≡ []
     → EndsThere b (field_state outer done openers m held) (field_state outer done openers m held)
 unfolding field_move move_of
-ends_free b outer done openers m held is none =
-    subst (λ x. EndsThere b (field_state outer done openers x held) (field_state outer done openers x held)) (sym is)
-    (record { outside = none; pieces = refl; ends = λ c first. refl; ending = refl })
+ends_free b outer done openers m held is none = grind arith
 
 -- a state is as good as itself
 pub alike_self : (b : ℕ) (t : FieldScanned) → has_returned t ≡ false → GoAlike b t t
@@ -272,10 +270,7 @@ stands_at scan t follow place = let ends = follow.stop ∙ ap (λ p. byte_len (b
 -- the scan that follows there
 pub follows_at : (t : FieldScanned) (fs : List Frame) (start stop : ℕ) (code : OpenMode) → StandsAt t fs start stop → mode_from code ≡ t.mode → HoldsCode t.mode t.held → HasQuote code
     → Follows (record { mode = code; start = start; frames = fs; stop = stop }) t
-follows_at t fs start stop code at mode holds quote =
-    let begins = at.begins ∙ ap (λ p. byte_len (before p t.outer ++ spelled t.done)) (sym at.place) in
-    let ends = at.ends ∙ ap (λ p. byte_len (before p t.outer ++ (spelled t.done ++ t.held))) (sym at.place) in
-    search (mode, holds, quote, at.frames, list_at (plain modes.Free) t.mode t.outer t.done t.openers at.place tt, begins, ends)
+follows_at t fs start stop code at mode holds quote = grind arith
 
 module _ (t : FieldScanned) (fs : List Frame) (start stop : ℕ) (at : StandsAt t fs start stop) (c : ℕ) where
   -- the open piece grows
@@ -354,10 +349,7 @@ IsTaken other = ⊥
 
 pub break_starts : (c : ℕ) → is_break c ≡ true → IsTaken (start_of c) × (is_opening c ≡ false)
 unfolding is_break is_line_feed is_return
-break_starts c h = each_of (λ x. IsTaken (start_of x) × (is_opening x ≡ false)) (10 ∷ 13 ∷ []) c (
-  (subst IsTaken (sym (start-feed 10 refl)) tt, opens_no 10 starts.LineEnd (start-feed 10 refl) (λ is. cc)),
-  ((subst IsTaken (sym (start-return 13 refl)) tt, opens_no 13 (starts.Open modes.Return) (start-return 13 refl) (λ is. cc)), tt),
-) h
+break_starts c h = grind (arith, each_of, start-feed, opens_no, start-return)
 
 taken_some : (outer : List Level) (done : List Piece) (openers : List ℕ) (c : ℕ) (x : Start) → IsTaken x → field_started outer done openers c x ≡ None → ⊥
 taken_some outer done openers c x taken none = grind arith

@@ -97,10 +97,7 @@ text_stays (plain (modes.LongEscape q)) c in_text = (tt, refl)
 text_stays m c in_text = absurd in_text
 
 no_break : (m : FieldMode) (held : List ℕ) (c : ℕ) → InText m → is_break_move (field_move m held c) ≡ false
-no_break m held c in_text = ap is_break_move (held_nothing m held c in_text) ∙ by (field_move m [] c) (text_stays m c in_text) where
-  by : (v : FieldMove) → StaysText (text_place m) v → is_break_move v ≡ false
-  by breaks none = absurd none
-  by v stays = refl
+no_break m held c in_text = grind (arith, held_nothing, text_stays)
 
 item_on : (t u : FieldScanned) (c : ℕ) (cs : List ℕ) → room_step t c ≡ Some u → InText u.mode → IsOneItem u cs → IsOneItem t (c ∷ cs)
 item_on t u c [] step in_text one = tt
@@ -141,9 +138,7 @@ module _ (outer : List Level) (done : List Piece) (openers : List ℕ) (m n : Fi
   T x = field_state outer done openers x held
 
   moved_alike : (c : ℕ) (v : FieldMove) → IsTextMode m → IsTextMode n → field_moved (T m) c v ≡ field_moved (T n) c v
-  moved_alike c closes one other = rw (one.class, other.class)
-  moved_alike c breaks one other = rw (one.closed done held, other.closed done held)
-  moved_alike c v one other = refl
+  moved_alike c v one other = grind arith
 
   here_alike : text_place m ≡ text_place n → here (T m) ≡ here (T n)
   here_alike same = ap (λ p. byte_len (before p outer ++ (spelled done ++ held))) same
@@ -224,15 +219,7 @@ module _ (old : Scan) (t : FieldScanned) (follow : Follows old t) (is : is_text 
 
   text_follows : (mode : OpenMode) (run : List ℕ) (len : ℕ) → is_text mode ≡ true → HasQuote mode → text_place (mode_from mode) ≡ text_place t.mode → byte_len run ≡ len
       → Follows (record old { mode = mode; stop = old.stop + len }) (with_run (mode_from mode) run)
-  text_follows mode run len text quote place size = record {
-    mode = refl;
-    holds = text_holds (mode_from mode) (t.held ++ run) (text_mode mode text);
-    no_list = list_at t.mode (mode_from mode) t.outer t.done t.openers place follow.no_list;
-    quote = quote;
-    start = follow.start ∙ ap (λ p. byte_len (before p t.outer ++ spelled t.done)) (sym place);
-    frames = follow.frames;
-    stop = more_bytes (before (text_place t.mode) t.outer) (spelled t.done) t.held run old.stop len follow.stop size ∙ ap (λ p. byte_len (before p t.outer ++ (spelled t.done ++ (t.held ++ run)))) (sym place);
-  }
+  text_follows mode run len text quote place size = grind (arith, text_holds, text_mode, list_at, more_bytes)
 
   -- it goes on
   pub grows_over : (bytes : List ℕ) (mode : OpenMode) (len : ℕ) (new : Scan) → GrowsInText t.mode bytes mode len → new ≡ record old { mode = mode; stop = old.stop + len } → GoesOver t bytes len new

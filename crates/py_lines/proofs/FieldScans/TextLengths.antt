@@ -8,7 +8,7 @@ use Rattle.py_lines.specs.Private.FieldText.{AtBrace, AtCode, HasCode, HasSimple
 use Rattle.py_lines.specs.Private.Run.{BeginsPlainString, IsRunOf, IsWholePlainString, is_ascii_word, is_code_byte, is_literal_byte}
 use Rattle.py_lines.proofs.LineScan.AsciiRuns.{all_pass, quote-no_word}
 use Rattle.py_lines.proofs.LineScan.PlainStrings.{text_size}
-use Rattle.py_lines.proofs.PassedPieces.FirstBytes.{bytes_from, taken_one, taken_two}
+use Rattle.py_lines.proofs.PassedPieces.FirstBytes.{bytes_from, taken_one}
 use Rattle.py_lines.proofs.FieldScans.Texts.{Spot, leads_to_code, passing, brace_leads, ends_in_word, string_leads, closing_leads, code_after, codes_lead, field_ends, leads-append, open_leads, opening_leads, specification_begins, specification_ends, specifications_lead, texts_lead}
 
 -- the bytes after the first ones, as a slice has them
@@ -158,9 +158,7 @@ brace_part quote bytes some is = one_part 125 bytes some is (brace_leads quote)
 
 pub two_part : (quote a b : ℕ) (bytes : List ℕ) → 1 < length bytes → slice_index bytes 0 ≡ a → slice_index bytes 1 ≡ b
     → Leads quote InText (a ∷ b ∷ []) InText → LeadsBy quote InText bytes 2 InText
-two_part quote a b bytes some one two leads =
-    let taken = taken_two bytes some ∙ ap (λ (x : ℕ). x ∷ slice_index bytes 1 ∷ []) one ∙ ap (λ (x : ℕ). a ∷ x ∷ []) two in
-    (omega (arith, some), subst (λ run. Leads quote InText run InText) (sym taken) leads)
+two_part quote a b bytes some one two leads = grind arith
 
 pub field_part : (quote : ℕ) (bytes : List ℕ) (n : ℕ) → 0 < length bytes → slice_index bytes 0 ≡ 123
     → LeadsBy quote AtBrace (rest_of bytes 1) n InText → LeadsBy quote InText bytes (1 + n) InText

@@ -7,7 +7,7 @@ use Rattle.py_lines.specs.FieldStrings.{Host, Place, literal, specification}
 use Rattle.py_lines.specs.Private.Machine.{Mode, Move as moves, Start as starts, IsFull, closed, short_move, move_of, start_of, first_spelling}
 use Rattle.py_lines.specs.Private.Mode as modes
 use Rattle.py_lines.specs.Private.FieldMachine.{At, FieldMode, between, after_brace, after_slash, plain, body, FieldMove, grows, closes, breaks, begins_code, ends_field, Level, FieldScanned, field_state, field_fresh, field_ended, begins_host, plain_move, between_move, body_move, field_move, field_moved, field_started, field_step, code_operator, openers_with, levels_open, frames, has_room, has_room_at, room_step}
-use Rattle.py_lines.specs.Private.Scan.{Goes, KeepsOpen, has_returned, is_return_at, is_shut}
+use Rattle.py_lines.specs.Private.Scan.{Goes, KeepsOpen, is_return_at, is_shut}
 use Rattle.py_lines.specs.Private.FieldText.{is_apart_mode, is_escaped, InText, AtBrace, AtCode, InCode, StandsInCode, AtSpecification, Leads, level_after, is_code_mode, is_code_bracket}
 use Rattle.py_lines.specs.Private.Marks.{is_plain}
 use Rattle.py_lines.specs.Private.Run.{is_ascii_word, is_text_byte, is_body_byte, is_line_byte, is_literal_byte, is_code_sign, is_code_byte}
@@ -41,10 +41,7 @@ GoesOpen t run u = Goes t run u × KeepsOpen t run
 one_step : (t next : FieldScanned) (c : ℕ) (v : FieldMove) → is_return_at t.mode ≡ false → is_break c ≡ false → field_move t.mode t.held c ≡ v
     → has_room_at (frames t) c v ≡ true → field_moved t c v ≡ Some next → (next.outer ≡ [] → is_shut next.mode ≡ false) → GoesOpen t (c ∷ []) next
 unfolding is_break is_line_feed
-one_step t next c v apart none is room comes still =
-    let open_yet : has_returned t ≡ false = ap (λ b. b && (frames t == 0)) apart in let step = steps t c v is next room comes in
-    let on = no_line_end t.mode v c (λ shuts return. both_ways _ apart (ap is_return_at return)) (λ ends. grind arith) in
-    ((open_yet, next, step, goes_on t c v is on, refl), (next, step, still, tt))
+one_step t next c v apart none is room comes still = grind (arith, steps, no_line_end, both_ways, goes_on)
 
 -- one by which the text of a string grows
 grows_to : (t : FieldScanned) (c : ℕ) (m : FieldMode) → is_return_at t.mode ≡ false → is_break c ≡ false → (t.outer ≡ [] → is_shut m ≡ false)

@@ -1,5 +1,5 @@
 -- What each character does in a string with fields, at each place in it: how the string grows, in its literal part and in specifications, and how it ends.
-use Rattle.py_lines.proofs.Prelude.{◌≡◌, ◌==◌, ℕ, Bool, true, false, not, ◌||◌, ◌&&◌, List, [], ◌∷◌, ◌++◌, refl, sym, ap, ◌∙◌, subst, inl, inr, ◌⊎◌, ⊎_elim, append_assoc, append-nil, if◌then◌else◌, byte, list_any, and-true, cond_both, and_parts, and_from, or_cases, eqb-true, both_ways, not_from_false, and_left, and_right, or_right, not-true}
+use Rattle.py_lines.proofs.Prelude.{◌≡◌, ◌==◌, ℕ, Bool, true, false, not, ◌||◌, ◌&&◌, List, [], ◌∷◌, ◌++◌, refl, sym, ap, ◌∙◌, subst, inl, inr, ◌⊎◌, ⊎_elim, append_assoc, append-nil, if◌then◌else◌, byte, list_any, and-true, cond_both, and_parts, and_from, or_cases, eqb-true, both_ways, not_from_false, and_left, and_right, or_right, not-true, arith}
 use Rattle.py_lines.specs.Character.{is_quote, is_return, is_break, is_backslash, is_brace, is_barred, is_line_feed}
 use Rattle.py_lines.specs.Piece.{string, Piece}
 use Rattle.py_lines.specs.PieceGrammar.{is_prefix, IsNoneOr, is_bare, joined, has_triple, InClassIn, MayPrecedeIn}
@@ -48,10 +48,7 @@ unfolding is_brace
 no_brace c one two = rw (one, two)
 
 ordinary_character : (place : Place) (named : Bool) (c : ℕ) → (c == 123) && not named ≡ false → c == 125 ≡ false → is_ordinary place named c ≡ true
-ordinary_character literal true c h k = refl
-ordinary_character specification true c h k = refl
-ordinary_character literal false c h k = not_from_false _ (plain_one (c == 123) h)
-ordinary_character specification false c h k = not_from_false _ (no_brace c (plain_one (c == 123) h) k)
+ordinary_character place named c h k = grind (arith, not_from_false, plain_one, no_brace)
 
 stands : (long : Bool) (q c : ℕ) → is_break c && not long ≡ false → c == q ≡ false → long || not (is_barred q c) ≡ true
 stands true q c h other = refl
@@ -179,18 +176,7 @@ module _ (limit : Limit) (outer : List Level) (depth : ℕ) (host : Host) where
 
   -- the quotes that close the string
   pub whole_string : (named : Bool) (text more : List ℕ) → quotes_of host ≡ host.quote ∷ more → (own : HoldsParts limit outer depth host literal named text (host.quote ∷ [])) → has_triple host.quote (own.parts ++ (host.quote ∷ []) ∷ (host.quote ∷ []) ∷ []) ≡ false → IsFieldString (limit.FieldsAt depth) (text ++ host.quote ∷ more)
-  whole_string named text more quotes own apart = record {
-    prefix = own.opens_with.prefix;
-    host = host;
-    parts = own.parts;
-    spell = ap (λ t. t ++ host.quote ∷ more) (own.spell ∙ ap (λ t. t ++ joined own.parts) own.opens_with.spell) ∙ (simp append_assoc)
-        ∙ ap (λ t. own.opens_with.prefix ++ (quotes_of host ++ (joined own.parts ++ t))) (sym quotes);
-    begun = own.opens_with.begun;
-    raw = own.opens_with.raw;
-    opens = own.quotes;
-    each = subst (AreParts (limit.FieldsAt depth) host literal false own.parts) (sym quotes) (own.fit more);
-    first = apart;
-  }
+  whole_string named text more quotes own apart = grind arith
 
   -- with them a literal part ends the string, which is no empty one; in a specification they may not stand
   closes_at : (waits : Bool) (place : Place) (named : Bool) (held text more : List ℕ) (c : ℕ) → held ++ c ∷ [] ≡ text ++ host.quote ∷ more → quotes_of host ≡ host.quote ∷ more → c ≡ host.quote → (h : HoldsBetween limit outer depth host place named text (host.quote ∷ [])) → (place ≡ literal → (r : ℕ) → more ++ (joined h.all.parts ++ host.quote ∷ more) ≡ r ∷ [] → ⊥) → Moved place waits held c (closing_move place)
@@ -223,11 +209,7 @@ module _ (limit : Limit) (outer : List Level) (depth : ℕ) (host : Host) where
       (λ at r one. absurd (cc)))
 
 may_stand_escaped : (host : Host) (place : Place) (c : ℕ) → is_barred_escape host place c ≡ false → may_be_escaped host place c ≡ true
-may_stand_escaped host literal c h = refl
-may_stand_escaped host specification c h = go host.is_long h where
-  go : (long : Bool) → is_break c && not long ≡ false → long || not (is_break c) ≡ true
-  go true e = refl
-  go false e = not_from_false _ (plain_one (is_break c) e)
+may_stand_escaped host place c h = grind arith
 
 barred_short : (host : Host) (place : Place) (c : ℕ) → is_barred_escape host place c ≡ true → (is_break c ≡ true) × (host.is_long ≡ false)
 barred_short host literal c h = absurd (both_ways _ refl h)

@@ -14,7 +14,7 @@ use Rattle.py_lines.proofs.Pieces.PieceLists.{piece}
 use Rattle.py_lines.proofs.Text.CharacterTests.{not_quote, quote-not-start}
 use Rattle.py_lines.proofs.Machine.Starts.{StartsSo, starts_so}
 use Rattle.py_lines.proofs.Machine.Soundness.{StartHolds, start_holds, MoveHolds, move_holds}
-use Rattle.py_lines.proofs.FieldSoundness.OpenLists.{OpensIf, opens-operator, opens-depth, balanced_at}
+use Rattle.py_lines.proofs.FieldSoundness.OpenLists.{OpensIf, opens-operator, opens-depth}
 use Rattle.py_lines.proofs.FieldSoundness.Holds.{BeginsPlain, Limit, OpensSpecification, HoldsParts, HoldsBetween, IsSingle, HoldsLevel, HoldsLevels, Stands, AtStart, IsFieldSound, HoldsMode}
 use Rattle.py_lines.proofs.FieldSoundness.BodyMoves.{no_parts, longer_next, push_between}
 use Rattle.py_lines.proofs.FieldSoundness.Lists.{FieldSoundIf, not_specification, no_pieces, sound_in, list_more, levels_more, adds_neutral, fresh_sound, stands_at, stands_more, stands_push}
@@ -56,9 +56,7 @@ Ready limit outer done openers read c = Stands limit literal outer done openers 
 
 -- the pieces of a field that ends there
 inside_is : (limit : Limit) (level : Level) (outer : List Level) (done : List Piece) (read : List ℕ) (c : ℕ) → Ready limit (level ∷ outer) done [] read c → AreInside fielded done (c ∷ [])
-inside_is limit level outer done read c ready =
-    let own = ready.list.in_field level outer refl in
-    record { fit = ready.list.fit []; unmarked = own.0; balanced = balanced_at [] done refl ready.list.opens; colon = own.1 }
+inside_is limit level outer done read c ready = grind arith
 
 -- an operator that neither ends a field nor opens its specification
 after_sound : (limit : Limit) (outer : List Level) (done : List Piece) (openers read : List ℕ) (c : ℕ) → Ready limit outer done openers read c → (is_opening c ≡ true → limit.Room (length openers + levels_open outer)) → is_operator c ≡ true → ((l : Level) (ls : List Level) → outer ≡ l ∷ ls → (c == 58) && (depth_through 0 done == 0) ≡ false) → FieldSoundIf limit (after_operator outer done c (openers_with openers c)) (read ++ c ∷ [])
@@ -153,15 +151,7 @@ specification_ends limit (level ∷ outer) openers host held read c none is h le
 
 -- a text whose first quote comes after no prefix of a string with fields stays so where it goes on
 pub begins_plain-more : (text : List ℕ) (c : ℕ) → BeginsPlain text → BeginsPlain (text ++ c ∷ [])
-begins_plain-more text c is = record {
-  prefix = is.prefix;
-  quote = is.quote;
-  body = is.body ++ c ∷ [];
-  spell = ap (λ t. t ++ c ∷ []) is.spell ∙ append_assoc is.prefix (is.quote ∷ is.body) (c ∷ []);
-  none = is.none;
-  opens = is.opens;
-  plain = is.plain;
-}
+begins_plain-more text c is = grind (arith, append_assoc)
 
 -- what may open at a character that does this, where so many brackets and fields are open before it
 abbrev pub HasRoom : Limit → ℕ → ℕ → FieldMove → Type 0
@@ -218,17 +208,11 @@ apart class told = (λ at. both_ways _ (ap is_told_at_once at) told, λ at. both
 -- no character closes a word, nor what stands after no piece
 closes_class : (m : Mode) (c : ℕ) → move_of m c ≡ moves.Closes → (class_of m ≡ operator → ⊥) × (class_of m ≡ word → ⊥)
 unfolding move_of
-closes_class modes.Free c h = absurd (cc)
-closes_class (modes.Word s) c h =
-    let P : Move → Type 0 = λ v. v ≡ moves.Closes → ⊥ in
-    absurd (cond_both (is_word_character c) _ _ P (λ k at. cc) (λ k. cond_both (is_prefix_spelling s && is_quote c) _ _ P (λ l at. cc) (λ l at. cc)) h)
-closes_class m c h = apart (class_of m) refl
+closes_class m c h = grind arith
 
 -- what keeps an open piece from being part of a string with fields
 pub plain_text : (class : Class) (text rest : List ℕ) → (class ≡ string → BeginsPlain text) → (class ≡ word → is_field_prefix text && begins is_quote rest ≡ false) → IsPlainText class text rest
-plain_text word text rest one two = two refl
-plain_text string text rest one two = one refl
-plain_text other text rest one two = tt
+plain_text class text rest one two = grind arith
 
 word_host : (m : Mode) (held : List ℕ) (c : ℕ) → begins_host m held c ≡ false → class_of m ≡ word → is_field_prefix held && is_quote c ≡ false
 word_host (modes.Word s) held c h at = h
@@ -244,9 +228,7 @@ pub data Ends (m : Mode) : Type 0 where
   something : ((done : List Piece) (held : List ℕ) → closed m done held ≡ done ++ piece (class_of m) held ∷ []) → (class_of m ≡ operator → ⊥) → is_mark_class (class_of m) ≡ false → Ends m
 
 pub ends_of : (m : Mode) → Ends m
-ends_of modes.Start = nothing (λ done held. refl) (λ held holds. holds.1)
-ends_of modes.Free = nothing (λ done held. refl) (λ held holds. holds)
-ends_of m = something (λ done held. refl) (λ h. absurd (cc)) refl
+ends_of m = grind arith
 
 module _ (limit : Limit) (outer : List Level) (done : List Piece) (openers : List ℕ) (m : Mode) (held read : List ℕ) (c : ℕ) (sound : IsFieldSound limit (field_state outer done openers (plain m) held) read) (other : begins_host m held c ≡ false) where
   -- the piece ends before it

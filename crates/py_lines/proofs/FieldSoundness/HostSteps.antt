@@ -1,5 +1,5 @@
 -- What each character does in strings with fields, and so what any text does.
-use Rattle.py_lines.proofs.Prelude.{◌≡◌, ◌==◌, ℕ, ◌+◌, Bool, true, false, Option, None, Some, List, [], ◌∷◌, ◌++◌, length, refl, sym, ap, ◌∙◌, subst, inl, inr, append_assoc, append-nil, arith, cond_both, both_ways, eqb-true, eq-eqb}
+use Rattle.py_lines.proofs.Prelude.{◌≡◌, ◌==◌, ℕ, ◌+◌, Bool, true, false, Option, None, Some, List, [], ◌∷◌, ◌++◌, length, refl, sym, ap, ◌∙◌, subst, inl, inr, append_assoc, append-nil, arith, cond_both, both_ways, eq-eqb}
 use Rattle.py_lines.specs.Character.{is_quote}
 use Rattle.py_lines.specs.Piece.{Class, string, spelled, Piece}
 use Rattle.py_lines.specs.PieceGrammar.{MayPrecedeIn}
@@ -7,20 +7,14 @@ use Rattle.py_lines.specs.Fields.{fielded}
 use Rattle.py_lines.specs.FieldStrings.{Host, Place, literal, specification, quotes_of, IsFieldString}
 use Rattle.py_lines.specs.Private.FieldMachine.{text_place, before, between, FieldMode, plain, opened, empty, body, FieldMove, grows, closes, breaks, begins_code, opens_field, ends_field, refused, Level, FieldScanned, field_state, field_fresh, field_text_start, begins_host, long_host, is_after_brace, field_move, body_move, field_moved, field_step, field_steps_from, field_class_of, levels_open, frames}
 use Rattle.py_lines.proofs.Pieces.PieceLists.{piece}
-use Rattle.py_lines.proofs.Fields.Prefixes.{field_letters, first_quote}
 use Rattle.py_lines.proofs.FieldSoundness.Holds.{Limit, OpensHost, HoldsMode, HoldsLevel, HoldsLevels, IsFieldSound}
-use Rattle.py_lines.proofs.FieldSoundness.BodyMoves.{no_parts, quoted_prefix, short_quotes, whole_string, Moved, between_moves, body_moves}
+use Rattle.py_lines.proofs.FieldSoundness.BodyMoves.{no_parts, short_quotes, Moved, between_moves, body_moves}
 use Rattle.py_lines.proofs.FieldSoundness.Lists.{FieldSoundIf, no_pieces, stands_at, stands_more}
 use Rattle.py_lines.proofs.FieldSoundness.CodeSteps.{start_sound, specification_ends, HasRoom, grew, closes_with, ends_before, plain_sound, begins_sound}
 
 -- one more quote of an opening
 more_quotes : (host : Host) (quotes held : List ℕ) (c : ℕ) → c == host.quote ≡ true → OpensHost host quotes held → OpensHost host (quotes ++ host.quote ∷ []) (held ++ c ∷ [])
-more_quotes host quotes held c same h = record {
-  prefix = h.prefix;
-  spell = ap (λ t. t ++ c ∷ []) h.spell ∙ append_assoc h.prefix quotes (c ∷ []) ∙ ap (λ (d : ℕ). h.prefix ++ (quotes ++ d ∷ [])) (eqb-true c host.quote same);
-  begun = h.begun;
-  raw = h.raw;
-}
+more_quotes host quotes held c same h = grind arith
 
 -- one quote opens a short string
 pub short_opens : (host : Host) (held : List ℕ) → host.is_long ≡ false → OpensHost host (host.quote ∷ []) held → OpensHost host (quotes_of host) held
@@ -34,16 +28,10 @@ opened_moves limit outer depth host held c (opens, quotes, short) other =
 
 -- two quotes are an empty string, unless a third one follows
 pub empty_string : (limit : Limit) (outer : List Level) (depth : ℕ) (host : Host) (held : List ℕ) → OpensHost host (host.quote ∷ host.quote ∷ []) held → is_quote host.quote ≡ true → host.is_long ≡ false → IsFieldString (limit.FieldsAt depth) held
-empty_string limit outer depth host held h quotes short =
-    let text = h.prefix ++ host.quote ∷ [] in
-    let opens = short_opens host text short (record { prefix = h.prefix; spell = refl; begun = h.begun; raw = h.raw }) in
-    subst (IsFieldString (limit.FieldsAt depth)) (append_assoc h.prefix (host.quote ∷ []) (host.quote ∷ []) ∙ sym h.spell)
-    (whole_string limit outer depth host false text [] (short_quotes host short) (no_parts limit outer depth host literal text (host.quote ∷ []) opens quotes) refl)
+empty_string limit outer depth host held h quotes short = grind arith
 
 pub empty_before : (host : Host) (held : List ℕ) (c : ℕ) (more : List ℕ) → OpensHost host (host.quote ∷ host.quote ∷ []) held → is_quote host.quote ≡ true → c == host.quote ≡ false → MayPrecedeIn fielded string held (c ∷ more)
-empty_before host held c more h quotes other prefix r spell begun also =
-    let cut = first_quote h.prefix prefix (host.quote ∷ []) (r ∷ []) host.quote r (field_letters h.prefix h.begun).quotes (quoted_prefix prefix begun) quotes also (sym h.spell ∙ spell) in
-    let both : host.quote ∷ host.quote ∷ [] ≡ r ∷ r ∷ [] = cut.1 in let one : host.quote ≡ r = cc in subst (λ (d : ℕ). c == d ≡ false) one other
+empty_before host held c more h quotes other prefix r spell begun also = grind arith
 
 module _ (limit : Limit) (outer : List Level) (done : List Piece) (openers : List ℕ) (m : FieldMode) (held read : List ℕ) (c : ℕ) (sound : IsFieldSound limit (field_state outer done openers m held) read) where
   abbrev depth : ℕ

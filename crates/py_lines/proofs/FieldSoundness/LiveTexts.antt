@@ -1,13 +1,13 @@
 -- Some text that begins with these characters is read with fields exactly where the machine with fields goes through them, and
 -- each of them has room: from wherever it has come, the open piece, brackets and fields can be closed, and nothing more opens.
-use Rattle.py_lines.proofs.Prelude.{◌≡◌, ◌==◌, ℕ, Bool, true, false, Some, List, [], ◌∷◌, ◌++◌, refl, sym, ap, ◌∙◌, subst, ◌&&◌, Option, None, all_scalars, and_from, both_ways, eq-eqb, and_parts, and_right, false_from_ne_true, and_assoc}
+use Rattle.py_lines.proofs.Prelude.{◌≡◌, ◌==◌, ℕ, Bool, true, false, Some, List, [], ◌∷◌, ◌++◌, refl, sym, ap, ◌∙◌, subst, ◌&&◌, Option, None, all_scalars, and_from, both_ways, eq-eqb, and_parts, and_right, false_from_ne_true, and_assoc, arith}
 use Rattle.py_lines.specs.Character.{is_quote, is_line_feed, is_return, is_break, is_backslash, is_brace}
 use Rattle.py_lines.specs.Piece.{operator, Piece, spelled, comment, line_end}
 use Rattle.py_lines.specs.Balance.{is_opening, is_closing, closing_of}
 use Rattle.py_lines.specs.FieldStrings.{Host, Place, literal, specification}
 use Rattle.py_lines.specs.Private.Mode as modes
 use Rattle.py_lines.specs.Private.Machine.{move_of, Holds, is_final, Mode}
-use Rattle.py_lines.specs.Private.FieldMachine.{At, between, after_one, after_two, after_slash, after_brace, FieldMode, plain, body, FieldMove, grows, closes, breaks, ends_field, Level, FieldScanned, field_state, field_fresh, between_move, escape_move, body_move, field_move, after_operator, field_operator, field_ended, field_started, field_moved, field_closed, may_end, frames, IsFieldFinal, opened, empty, field_text_start, begins_host, host_of, plain_move, field_step, field_steps_from, field_pieces, have_room, has_room}
+use Rattle.py_lines.specs.Private.FieldMachine.{At, between, after_one, after_two, after_brace, FieldMode, plain, body, FieldMove, grows, closes, breaks, ends_field, Level, FieldScanned, field_state, field_fresh, between_move, escape_move, body_move, field_move, after_operator, field_operator, field_ended, field_started, field_moved, field_closed, may_end, frames, IsFieldFinal, opened, empty, field_text_start, begins_host, host_of, plain_move, field_step, field_steps_from, field_pieces, have_room, has_room}
 use Rattle.py_lines.proofs.Text.CharacterTests.{not_quote}
 use Rattle.py_lines.proofs.Text.Utf8Prefixes.{all_scalars-append}
 use Rattle.py_lines.proofs.Pieces.PieceLists.{piece}
@@ -143,10 +143,7 @@ literal_readies Room outer done openers host named held quotes = go host.is_long
 -- a letter, and `}`, in a string
 letter_moves : (host : Host) (place : Place) (named : Bool) (at : At) (held : List ℕ) → is_quote host.quote ≡ true → (at ≡ after_brace → ⊥) → field_move (body host place named at) held 97 ≡ grows (body host place named between)
 unfolding field_move body_move between_move escape_move is_line_feed is_backslash is_break is_quote is_brace is_return
-letter_moves host literal named after_slash held quotes other = refl
-letter_moves host specification named after_slash held quotes other = refl
-letter_moves host place named after_brace held quotes other = absurd (other refl)
-letter_moves host place named at held quotes other = rw (not_quote 97 host.quote quotes refl)
+letter_moves host place named at held quotes other = grind (arith, not_quote)
 
 name_ends : (host : Host) (place : Place) (held : List ℕ) → is_quote host.quote ≡ true → field_move (body host place true between) held 125 ≡ grows (body host place false between)
 unfolding field_move body_move between_move is_backslash is_break is_quote

@@ -1,11 +1,11 @@
 -- Where the machine with fields may end, its pieces read the text, those of the innermost list with the open one. They are shallow if each character had room.
-use Rattle.py_lines.proofs.Prelude.{◌≡◌, ℕ, ◌+◌, true, false, List, [], ◌∷◌, ◌++◌, length, refl, sym, ap, ◌∙◌, subst, inr, append-nil, ◌<◌, Option, None, Some, nat_lt, arith, and_left, and_right, both_ways, and_parts, cond_both, ltb-true}
+use Rattle.py_lines.proofs.Prelude.{◌≡◌, ℕ, ◌+◌, true, false, List, [], ◌∷◌, ◌++◌, length, refl, sym, ap, ◌∙◌, subst, inr, append-nil, ◌<◌, Option, None, Some, arith, and_left, and_right, both_ways, and_parts}
 use Rattle.py_lines.specs.Piece.{Class, string, operator, Piece, is_mark_class, begins_marked, spelled}
 use Rattle.py_lines.specs.PieceGrammar.{InClassIn, MayPrecedeIn, AreReadPlain, AreReadIn}
 use Rattle.py_lines.specs.Fields.{HasNoColon, Fields, fielded, IsShallow, AnyPieces, ShallowFields}
 use Rattle.py_lines.specs.FieldStrings.{literal, with_fields}
 use Rattle.py_lines.specs.Private.Machine.{closed, class_of}
-use Rattle.py_lines.specs.Private.FieldMachine.{text_place, FieldMode, plain, empty, body, Level, field_state, field_closed, levels_open, may_end, before, FieldMove, breaks, begins_code, opens_field, FieldScanned, field_text_start, field_move, field_step, field_steps_from, field_pieces, frames, has_room, has_room_at, have_room, IsFieldFinal}
+use Rattle.py_lines.specs.Private.FieldMachine.{text_place, FieldMode, plain, empty, body, Level, field_state, field_closed, levels_open, may_end, before, FieldMove, breaks, FieldScanned, field_text_start, field_move, field_step, field_steps_from, field_pieces, frames, has_room, has_room_at, have_room, IsFieldFinal}
 use Rattle.py_lines.proofs.Pieces.PieceLists.{piece, spelled-push, AreReadIn-push, follows_any}
 use Rattle.py_lines.proofs.Fields.Nesting.{class_map, field_is, shallow_is, shallow_fields}
 use Rattle.py_lines.proofs.Fields.Elsewhere.{IsPlainText, plain_class, plain_precede}
@@ -15,7 +15,7 @@ use Rattle.py_lines.proofs.FieldSoundness.Holds.{Limit, IsFieldSound}
 use Rattle.py_lines.proofs.FieldSoundness.Lists.{neutral, passes-push, colon-push, marked-push}
 use Rattle.py_lines.proofs.FieldSoundness.CodeSteps.{plain_text, Ends, nothing, something, ends_of, HasRoom}
 use Rattle.py_lines.proofs.FieldSoundness.HostSteps.{empty_string, HaveRoom, sound_at}
-use Rattle.py_lines.specs.Balance.{is_opening, is_opener, depth_after, depth_through}
+use Rattle.py_lines.specs.Balance.{is_opener, depth_after, depth_through}
 use Rattle.py_lines.specs.Reading.{IsBalancedReading}
 
 -- the pieces are read to the text's end, and these brackets are open in them
@@ -109,13 +109,7 @@ any_rooms (Some s) (c ∷ cs) = (any_room (frames s) c (field_move s.mode s.held
 -- and where the machine says so
 pub room_at : (depth c : ℕ) (v : FieldMove) → has_room_at depth c v ≡ true → HasRoom two_hundred depth c v
 unfolding has_room_at
-room_at depth c breaks h = λ opens. ltb-true depth 200 (rw opens at h)
-room_at depth c (begins_code host) h = (
-  cond_both (is_opening c) (depth + 1) depth (λ (n : ℕ). nat_lt n 200 ≡ true → depth < 200) (λ opens k. let less = ltb-true (depth + 1) 200 k in omega (arith, less)) (λ other k. ltb-true depth 200 k) h,
-  λ opens. ltb-true (depth + 1) 200 (rw opens at h),
-)
-room_at depth c (opens_field host) h = ltb-true depth 200 h
-room_at depth c v h = tt
+room_at depth c v h = grind arith
 
 pub rooms_at : (o : Option FieldScanned) (cs : List ℕ) → have_room o cs ≡ true → HaveRoom two_hundred o cs
 rooms_at None cs h = tt

@@ -1,5 +1,5 @@
 -- A text that has no string with fields reads the same with them and without.
-use Rattle.py_lines.proofs.Prelude.{◌≡◌, ℕ, Bool, true, false, ◌||◌, ◌&&◌, List, [], ◌∷◌, ◌++◌, refl, sym, ap, ◌∙◌, subst, inl, inr, ⊎_elim, append_assoc, append-nil, and-true, cond_both, and_parts, and_right, or_parts, or_from, or_cases, both_ways, false_from_ne_true, list_any}
+use Rattle.py_lines.proofs.Prelude.{◌≡◌, ℕ, Bool, true, false, ◌||◌, ◌&&◌, List, [], ◌∷◌, ◌++◌, refl, sym, ap, ◌∙◌, subst, inl, inr, ⊎_elim, append_assoc, append-nil, and-true, cond_both, and_parts, and_right, or_parts, or_from, or_cases, both_ways, false_from_ne_true, list_any, arith}
 use Rattle.py_lines.specs.Character.{is_quote, is_r, is_f, is_t}
 use Rattle.py_lines.specs.Piece.{Class, word, string, Piece, begins, spelled}
 use Rattle.py_lines.specs.PieceGrammar.{is_prefix, IsNoneOr, InPlainClass, InClassIn, MayPrecedePlain, MayPrecedeIn, AreReadPlain, AreReadIn, ReadsPlain, ReadsIn, joined}
@@ -109,10 +109,7 @@ unfielded_in F (p ∷ ps) rest h =
     (λ is. has_prefix F p.text (spelled ps ++ rest) here, unfielded_in F ps rest (later p.text (spelled ps ++ rest) here))
 
 class_without : (F : Host → List ℕ → Type 0) (class : Class) (text : List ℕ) → (class ≡ string → ¬ (IsFieldString F text)) → InClassIn (with_fields F) class text → InPlainClass class text
-class_without F string text none (inl (inl short)) = inl short.0
-class_without F string text none (inl (inr long)) = inr long.0
-class_without F string text none (inr is) = absurd (none refl is)
-class_without F class text none is = is
+class_without F class text none is = grind arith
 
 -- and what it may precede
 pub either_prefix : (x y z : Bool) → (x || y) && z ≡ false → (x && z ≡ false) × (y && z ≡ false)
@@ -124,9 +121,7 @@ more_prefixes prefix (inl none) = inl none
 more_prefixes prefix (inr some) = inr (ap (λ b. b || is_field_prefix prefix) some)
 
 pub precede_without : (F : Host → List ℕ → Type 0) (class : Class) (text rest : List ℕ) → MayPrecedeIn (with_fields F) class text rest → MayPrecedePlain class text rest
-precede_without F word text rest before = (before.0, (either_prefix (is_prefix text) (is_field_prefix text) (begins is_quote rest) before.1).0)
-precede_without F string text rest before = λ prefix q is begun quotes. before prefix q is (more_prefixes prefix begun) quotes
-precede_without F class text rest before = before
+precede_without F class text rest before = grind arith
 
 -- so all pieces of the text
 pub read_with : (F : Host → List ℕ → Type 0) (ps : List Piece) (rest : List ℕ) → may_have_fields (spelled ps ++ rest) ≡ false → AreReadPlain ps rest → AreReadIn (with_fields F) ps rest

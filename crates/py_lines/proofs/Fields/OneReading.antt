@@ -1,21 +1,20 @@
 -- A text has one reading with fields: the machine with fields goes over one piece, and then over no other.
-use Rattle.py_lines.proofs.Prelude.{◌≡◌, ℕ, true, false, ◌&&◌, Option, None, Some, List, [], ◌∷◌, ◌++◌, refl, sym, ap, ◌∙◌, subst, inl, inr, append_assoc, append-nil, arith, and_right, both_ways, false_from_ne_true, append_cancel_left, chars, chars-encodes}
-use Rattle.py_lines.specs.Character.{is_mark, is_operator, is_quote, is_return, is_line_feed}
-use Rattle.py_lines.specs.Piece.{Class, mark, space, word, string, operator, comment, join, line_end, Piece, ends, spelled}
-use Rattle.py_lines.specs.PieceGrammar.{feed, return_feed, return, Grammar, InClassIn, MayPrecedeIn, AreReadIn, ReadsIn}
+use Rattle.py_lines.proofs.Prelude.{◌≡◌, ℕ, true, false, Option, None, Some, List, [], ◌∷◌, ◌++◌, refl, sym, ap, ◌∙◌, subst, append_assoc, append-nil, arith, and_right, both_ways, false_from_ne_true, append_cancel_left, chars, chars-encodes}
+use Rattle.py_lines.specs.Character.{is_mark, is_operator}
+use Rattle.py_lines.specs.Piece.{Class, operator, Piece, spelled}
+use Rattle.py_lines.specs.PieceGrammar.{Grammar, InClassIn, MayPrecedeIn, AreReadIn, ReadsIn}
 use Rattle.py_lines.specs.LogicalLine.{LogicalLine, lines_of}
 use Rattle.py_lines.specs.Reading.{IsBalancedReading}
 use Rattle.py_lines.specs.Lexed.{IsLexedWhole}
 use Rattle.py_lines.specs.Fields.{ReadsText, Fields, fielded}
 use Rattle.py_lines.specs.FieldStrings.{Host, with_fields}
 use Rattle.py_lines.specs.Private.Machine.{start_of}
-use Rattle.py_lines.specs.Private.FieldMachine.{FieldScanned, field_state, field_text_start, openers_with, after_operator, field_started, field_moved, field_step, field_steps_from, field_pieces}
+use Rattle.py_lines.specs.Private.FieldMachine.{FieldScanned, field_state, field_text_start, field_started, field_moved, field_step, field_steps_from, field_pieces}
 use Rattle.py_lines.proofs.Pieces.PieceLists.{piece, spelled-append, AreReadIn-second}
 use Rattle.py_lines.proofs.Text.CharacterTests.{none_of}
 use Rattle.py_lines.proofs.Text.Decoding.{decoded}
 use Rattle.py_lines.proofs.Text.Splits.{Either, either}
 use Rattle.py_lines.proofs.Machine.Starts.{start-operator}
-use Rattle.py_lines.proofs.Fields.Elsewhere.{first_quote_at}
 use Rattle.py_lines.proofs.Fields.Prefixes.{Compared, same, longer, shorter, compared_more}
 use Rattle.py_lines.proofs.Fields.Parts.{not_nothing, begins_same}
 use Rattle.py_lines.proofs.FieldMachine.Runs.{NoLimit, StopsAt, steps_of}
@@ -27,15 +26,7 @@ use Rattle.py_lines.proofs.FieldMachine.OuterLists.{outer_done, outer_alone, sta
 
 -- what follows pieces counts by its first character
 precede_before : (grammar : Grammar) (class : Class) (text x : List ℕ) (c : ℕ) (r s : List ℕ) → MayPrecedeIn grammar class text (x ++ c ∷ r) → MayPrecedeIn grammar class text (x ++ c ∷ s)
-precede_before grammar mark text x c r s before = before
-precede_before grammar space text x c r s before = sym (begins_same _ x c r s) ∙ before
-precede_before grammar word text x c r s before = (sym (begins_same _ x c r s) ∙ before.0, ap (λ b. grammar.is_prefix text && b) (sym (begins_same is_quote x c r s)) ∙ before.1)
-precede_before grammar string text x c r s before = λ prefix q is begun quotes. sym (begins_same _ x c r s) ∙ before prefix q is begun quotes
-precede_before grammar operator text x c r s before = before
-precede_before grammar comment text x c r s (inl none) = absurd (not_nothing x c r none)
-precede_before grammar comment text x c r s (inr broken) = inr (sym (begins_same _ x c r s) ∙ broken)
-precede_before grammar join text x c r s before = ap (λ b. ends is_return text && b) (sym (begins_same is_line_feed x c r s)) ∙ before
-precede_before grammar line_end text x c r s before = ap (λ b. ends is_return text && b) (sym (begins_same is_line_feed x c r s)) ∙ before
+precede_before grammar class text x c r s before = grind (arith, begins_same, not_nothing)
 
 pub read_before : (grammar : Grammar) (ps : List Piece) (c : ℕ) (r s : List ℕ) → AreReadIn grammar ps (c ∷ r) → AreReadIn grammar ps (c ∷ s)
 read_before grammar [] c r s fit = tt
@@ -56,11 +47,7 @@ BeginIf first None = Unit {0}
 BeginIf first (Some s) = (ps : List Piece) × (outer_done s ≡ first ++ ps)
 
 started_begin : (first ps : List Piece) (c : ℕ) → BeginIf first (field_started [] (first ++ ps) [] c (start_of c))
-started_begin first ps c = go (field_started [] (first ++ ps) [] c (start_of c)) refl where
-  go : (o : Option FieldScanned) → field_started [] (first ++ ps) [] c (start_of c) ≡ o → BeginIf first o
-  go None is = tt
-  go (Some u) is = let (outside, (qs, more)) = started_outer (first ++ ps) [] c (start_of c) u is in
-      (ps ++ qs, (outer_alone u outside).0 ∙ more ∙ append_assoc first ps qs)
+started_begin first ps c = grind (arith, started_outer, outer_alone, append_assoc)
 
 -- the machine goes over a piece, and may stop there; or the piece is an operator
 data IsAlone (class : Class) (text rest : List ℕ) : Type 0 where
@@ -99,12 +86,7 @@ unfolding is_operator is_mark
 operator-not-mark c is = false_from_ne_true _ (λ marks. both_ways _ (none_of is_operator (65279 ∷ []) c refl marks) is)
 
 operator_first : (c : ℕ) → is_operator c ≡ true → BeginIf (piece operator (c ∷ []) ∷ []) (field_step field_text_start c)
-operator_first c is =
-    subst (BeginIf (piece operator (c ∷ []) ∷ [])) (sym (ap (field_moved field_text_start c) (start_breaks c (operator-not-mark c is)) ∙ ap (field_started [] [] [] c) (start-operator c is))) (go (openers_with [] c))
-  where
-    go : (o : Option (List ℕ)) → BeginIf (piece operator (c ∷ []) ∷ []) (after_operator [] [] c o)
-    go None = tt
-    go (Some os) = ([], refl)
+operator_first c is = grind (arith, piece, start_breaks, operator-not-mark, start-operator)
 
 after_operator_piece : (c : ℕ) (q : Piece) (t r u : List ℕ) → is_operator c ≡ true → FieldFinds NoLimit field_text_start t (q ∷ []) [] u → c ∷ r ≡ t ++ u → piece operator (c ∷ []) ≡ q
 after_operator_piece c q [] r u is two at = let none : [] ≡ q ∷ [] = ap field_pieces two.goes ∙ two.pieces_are in absurd (cc)
@@ -143,13 +125,7 @@ compare_pieces (p ∷ ps) (q ∷ qs) r u one two at =
 
 -- no piece is empty
 pub full : (F : Host → List ℕ → Type 0) (class : Class) (text : List ℕ) → InClassIn (with_fields F) class text → text ≡ [] → ⊥
-full F string text (inl (inl short)) none = not_nothing short.0.prefix short.0.quote _ (sym short.0.spell ∙ none)
-full F string text (inl (inr long)) none = not_nothing long.0.prefix long.0.quote _ (sym long.0.spell ∙ none)
-full F string text (inr is) none = not_nothing is.prefix is.host.quote _ (sym (first_quote_at F text is) ∙ none)
-full F line_end text (feed is) none = cc
-full F line_end text (return_feed is) none = cc
-full F line_end text (return is) none = cc
-full F class text is none = cc
+full F class text is none = grind arith
 
 first_empty : (x y : List ℕ) → x ++ y ≡ [] → x ≡ []
 first_empty [] y h = refl
@@ -163,14 +139,7 @@ ends_there ps qs zs y fit is at =
 
 -- two readings of a text are the same
 pub one_fielded_reading : (pieces others : List Piece) (characters : List ℕ) → ReadsIn fielded pieces characters → ReadsIn fielded others characters → pieces ≡ others
-one_fielded_reading pieces others characters one two = go (compare_pieces pieces others [] [] one.fit two.fit (ap (λ t. t ++ []) at)) where
-  at : spelled pieces ≡ spelled others
-  at = one.spell ∙ sym two.spell
-
-  go : Compared Piece pieces others → pieces ≡ others
-  go (same is) = is
-  go (longer y zs is) = absurd (ends_there pieces others zs y one.fit is at)
-  go (shorter y zs is) = absurd (ends_there others pieces zs y two.fit is (sym at))
+one_fielded_reading pieces others characters one two = grind (arith, compare_pieces, same, longer, ends_there, shorter)
 
 pub one_fielded_reading_of_text : (pieces others : List Piece) (text : List ℕ) → ReadsText pieces text → ReadsText others text → pieces ≡ others
 one_fielded_reading_of_text pieces others text first second =

@@ -1,5 +1,5 @@
 -- Lists of which one begins with the other, and the prefixes of strings before their quotes.
-use Rattle.py_lines.proofs.Prelude.{◌≡◌, ℕ, Bool, true, false, ◌||◌, ◌&&◌, List, [], ◌∷◌, ◌++◌, refl, sym, ap, ◌∙◌, ⊎_elim, inl, inr, codes, if◌then◌else◌, append_cancel_left, list_all, list_any, and_parts, and_from, or_parts, or_from, or_left, or_cases, both_ways}
+use Rattle.py_lines.proofs.Prelude.{◌≡◌, ℕ, Bool, true, false, ◌||◌, List, [], ◌∷◌, ◌++◌, refl, sym, ap, ◌∙◌, ⊎_elim, codes, if◌then◌else◌, append_cancel_left, list_all, list_any, and_parts, and_from, or_parts, or_from, or_cases, both_ways, arith}
 use Rattle.py_lines.specs.Character.{is_quote, is_r, is_f, is_t, is_word_start, is_word_character, is_digit}
 use Rattle.py_lines.specs.PieceGrammar.{IsPrefix}
 use Rattle.py_lines.specs.FieldStrings.{is_field_prefix}
@@ -35,9 +35,7 @@ abbrev IsLetter : ℕ → Type 0
 IsLetter c = is_r c || is_f c || is_t c ≡ true
 
 letters : (a b : ℕ) → is_field_prefix (a ∷ b ∷ []) ≡ true → IsLetter a × IsLetter b
-letters a b h = ⊎_elim (λ one. let parts = and_parts _ _ one in (or_left _ _ (or_left _ _ parts.0), third_of (is_r b) (is_f b) (is_t b) parts.1))
-    (λ two. let parts = and_parts _ _ two in (third_of (is_r a) (is_f a) (is_t a) parts.0, or_left _ _ (or_left _ _ parts.1)))
-    (or_cases (is_r a && (is_f b || is_t b)) ((is_f a || is_t a) && is_r b) h)
+letters a b h = grind arith
 
 -- a prefix: its first letter begins a word, the others continue it, and none is a quote
 pub record IsLetters (prefix : List ℕ) : Type 0 where
@@ -67,11 +65,7 @@ pub word_quotes : (cs : List ℕ) → list_all is_word_character cs ≡ true →
 word_quotes cs h = none_in is_word_character is_quote quote-not-word cs h
 
 pub plain_quotes : (prefix : List ℕ) → IsPrefix prefix → list_any is_quote prefix ≡ false
-plain_quotes [] h = refl
-plain_quotes (a ∷ bs) (inl none) = absurd (cc)
-plain_quotes (a ∷ bs) (inr is) =
-    let letters = prefix_word a bs is in
-    or_from _ _ (excluded is_word_start is_quote a (quote-not-start a) letters.0) (word_quotes bs letters.1)
+plain_quotes prefix h = grind (arith, letters, prefix_word, or_from, excluded, quote-not-start, word_quotes)
 
 -- what stands before the first quote of a text
 abbrev pub before_quote : List ℕ → List ℕ

@@ -110,11 +110,7 @@ begins_with pieces others after rest fit reading read spell few = go (either (sp
   before_mid (c ∷ cs) is = read_before fielded pieces c (cs ++ rest) cs (subst (AreReadBefore pieces) is fit)
 
   by : (mid : List ℕ) → spelled pieces ++ mid ≡ spelled others → Compared Piece pieces others → (more : List Piece) × (others ≡ pieces ++ more)
-  by mid at (Compared.same is) = ([], sym is ∙ sym (append-nil pieces))
-  by mid at (Compared.shorter x xs is) = (x ∷ xs, is)
-  by mid at (Compared.longer y ys is) =
-      let nothing : mid ≡ [] = nil_from_length mid (omega (arith, ap length at, length-append (spelled pieces) mid, ap length (ap spelled is ∙ spelled-append others (y ∷ ys)), length-append (spelled others) (spelled (y ∷ ys)))) in
-      absurd (ends_there pieces others ys y reading.reads.fit is (sym (append-nil (spelled pieces)) ∙ ap (λ t. spelled pieces ++ t) (sym nothing) ∙ at))
+  by mid at it2 = grind (arith, append-nil, nil_from_length, length-append, spelled-append, ends_there)
 
   go : Either (spelled pieces) (spelled others) rest → (more : List Piece) × (others ≡ pieces ++ more)
   go (Either.shorter mid at) =
@@ -165,11 +161,7 @@ first_reading text place line lines f = ended_reading f.pieces f.rest f.fit f.ba
 
 -- where nothing follows them, or they reach to the text's end, they are all its lines
 all_before : (text : List ℕ) (place line : ℕ) (lines : List LogicalLine) (f : AreFirstLines text place line lines) → f.rest ++ f.tail ≡ [] → IsLexed text lines None
-all_before text place line lines f none = let parts = none_both f.rest f.tail none in search (
-  f,
-  subst (λ t. Decodes text f.characters t) parts.1 f.decodes,
-  subst (IsBalancedReading f.pieces) (sym (append-nil (spelled f.pieces)) ∙ ap (λ t. spelled f.pieces ++ t) (sym parts.0) ∙ f.spell) (first_reading text place line lines f),
-)
+all_before text place line lines f none = grind (arith, none_both, append-nil, first_reading)
 
 pub all_first : (text : List ℕ) (place line : ℕ) (lines : List LogicalLine) → AreFirstLines text place line lines → place ≡ length text → IsLexed text lines None
 all_first text place line lines f ends = all_before text place line lines f (nil_from_length (f.rest ++ f.tail)
@@ -177,10 +169,7 @@ all_first text place line lines f ends = all_before text place line lines f (nil
 
 -- of two prefixes of a text, the one of no more bytes has no more characters
 fewer : (xs ys zs ws : List ℕ) → xs ++ ys ≡ zs ++ ws → byte_len xs ≤ byte_len zs → length xs ≤ length zs
-fewer xs ys zs ws same few = go (either xs ys zs ws same) where
-  go : Either xs zs ws → length xs ≤ length zs
-  go (Either.shorter k one) = omega (arith, ap length one, length-append xs k)
-  go (Either.longer c k after one two) = absurd (omega (arith, few, ap byte_len one, byte_len-append zs (c ∷ k), length-le-encodes (c ∷ k)))
+fewer xs ys zs ws same few = grind (arith, either, length-append, byte_len-append, length-le-encodes)
 
 -- lines that end a line begin all lines of their text that go as far
 module _ (text : List ℕ) (place line : ℕ) (lines : List LogicalLine) (f : AreFirstLines text place line lines) (ended : EndsLine f.pieces) where

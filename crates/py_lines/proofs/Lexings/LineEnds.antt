@@ -1,5 +1,5 @@
 -- Pieces that end a line: what they are read before, how deep they are, and how long.
-use Rattle.py_lines.proofs.Prelude.{◌≡◌, ℕ, ◌+◌, List, [], ◌∷◌, ◌++◌, length, refl, sym, ap, ◌∙◌, subst, inl, inr, length-append, Bool, true, false, ◌&&◌, append-nil, both_ways, and_right, and_from, eq-eqb}
+use Rattle.py_lines.proofs.Prelude.{◌≡◌, ℕ, ◌+◌, List, [], ◌∷◌, ◌++◌, length, refl, sym, ap, ◌∙◌, subst, inl, inr, length-append, Bool, true, false, ◌&&◌, append-nil, both_ways, and_right, and_from, eq-eqb, arith}
 use Rattle.py_lines.specs.Piece.{line_end, Piece, spelled, ends, begins, is_mark_class}
 use Rattle.py_lines.specs.Balance.{IsBalanced, depth_after, depth_through}
 use Rattle.py_lines.specs.Fields.{fielded, InClass, AreReadBefore, IsShallow}
@@ -15,9 +15,7 @@ use Rattle.py_lines.proofs.Fields.OneReading.{read_before, read_nothing}
 
 -- a line end has a first character
 pub line_text : (text : List ℕ) → IsLineEnd text → (c : ℕ) × (cs : List ℕ) × (text ≡ c ∷ cs)
-line_text text (feed same) = (10, [], same)
-line_text text (return_feed same) = (13, 10 ∷ [], same)
-line_text text (return same) = (13, [], same)
+line_text text it1 = grind arith
 
 -- the last characters of a text are those of its second part
 pub ends-append : (p : ℕ → Bool) (xs : List ℕ) (c : ℕ) (ys : List ℕ) → ends p (xs ++ c ∷ ys) ≡ ends p (c ∷ ys)

@@ -1,10 +1,8 @@
 -- What the machine with fields has found of the outermost list of a text: these pieces spell what was read, and finished ones stay.
-use Rattle.py_lines.proofs.Prelude.{◌≡◌, ℕ, Some, List, [], ◌∷◌, ◌++◌, sym, ap, ◌∙◌, append-nil, append_assoc, false}
+use Rattle.py_lines.proofs.Prelude.{◌≡◌, ℕ, Some, List, [], ◌∷◌, ◌++◌, ap, ◌∙◌, append-nil, append_assoc, false, arith}
 use Rattle.py_lines.specs.Piece.{string, Piece, spelled}
 use Rattle.py_lines.specs.FieldStrings.{Host, Place}
-use Rattle.py_lines.specs.Private.Mode as modes
-use Rattle.py_lines.specs.Private.Machine.{class_of}
-use Rattle.py_lines.specs.Private.FieldMachine.{between, FieldMode, plain, body, Level, FieldScanned, field_state, field_closed, field_steps_from}
+use Rattle.py_lines.specs.Private.FieldMachine.{between, FieldMode, body, Level, FieldScanned, field_state, field_closed, field_steps_from}
 use Rattle.py_lines.proofs.Pieces.PieceLists.{spelled-push}
 use Rattle.py_lines.proofs.FieldSoundness.Holds.{Limit, HoldsMode, IsFieldSound}
 use Rattle.py_lines.proofs.FieldMachine.OuterLists.{outer_open, outer_done, outer_held, outer_mode, outer_pieces, outer_spell, outer_runs, closed_on}
@@ -19,10 +17,7 @@ found_on cs t u steps =
 -- the open piece spells the text after the finished ones
 pub closed_spells : (limit : Limit) (outer : List Level) (depth : ℕ) (m : FieldMode) (done : List Piece) (held : List ℕ)
     → HoldsMode limit outer depth m held → spelled (field_closed m done held) ≡ spelled done ++ held
-closed_spells limit outer depth (plain modes.Start) done held holds = sym (append-nil (spelled done)) ∙ ap (λ t. spelled done ++ t) (sym holds.0.1)
-closed_spells limit outer depth (plain modes.Free) done held holds = sym (append-nil (spelled done)) ∙ ap (λ t. spelled done ++ t) (sym holds.0)
-closed_spells limit outer depth (plain m) done held holds = spelled-push done (class_of m) held
-closed_spells limit outer depth m done held holds = spelled-push done string held
+closed_spells limit outer depth m done held holds = grind (arith, append-nil, spelled-push)
 
 string_spells : (outer : List Level) (host : Host) (place : Place) (done : List Piece) (held : List ℕ)
     → spelled (field_closed (outer_open outer (body host place false between)) done held) ≡ spelled done ++ held

@@ -115,11 +115,7 @@ longest_exists EndSo decide characters none =
 
 -- and it is one
 pub one_longest : (EndSo : List Piece → List ℕ → Type 0) (pieces others : List Piece) (characters : List ℕ) → IsLongest EndSo pieces characters → IsLongest EndSo others characters → pieces ≡ others
-one_longest EndSo pieces others characters one two =
-    let shorter = one.longest others two.rest two.spell two.reading two.ended in
-    let longer = two.longest pieces one.rest one.spell one.reading one.ended in
-    let cut = same_prefix (spelled pieces) (spelled others) one.rest two.rest (one.spell ∙ sym two.spell) (omega (arith, shorter, longer)) in
-    one_fielded_reading pieces others (spelled others) (subst (λ t. IsBalancedReading pieces t) cut.0 one.reading).reads two.reading.reads
+one_longest EndSo pieces others characters one two = grind (arith, same_prefix, one_fielded_reading)
 
 -- so a text has logical lines, and then its end or its fault
 pub some_lexing_of : (text : List ℕ) → (lines : List LogicalLine) × (end : Option Fault) × IsLexed text lines end

@@ -46,9 +46,7 @@ all_pass passes (b ∷ bs) (suc n) within each = and_from (passes b) (list_all p
 
 -- which holds some
 pub full_take : (bytes : List ℕ) (n : ℕ) → 1 ≤ n → n < length bytes → IsFull (take n bytes)
-full_take bytes zero some within = absurd (omega (arith, some))
-full_take [] (suc n) some within = absurd (omega (arith, within))
-full_take (b ∷ bs) (suc n) some within = tt
+full_take bytes n some within = grind arith
 
 -- the characters of a run of bytes
 pub low_encodes : (passes : ℕ → Bool) (run : List ℕ) → ((c : ℕ) → passes c ≡ true → c < 128) → list_all passes run ≡ true

@@ -76,9 +76,7 @@ both_ends held c is feeds =
 
 -- where a line begins, nothing is read, and the scan stands before all of it
 begun_follows : (m : Mode) → begins_line m ≡ true → Follows (opened_at (first_open m)) (line_begun m)
-begun_follows modes.Start start = record { mode = refl; holds = refl; no_list = tt; quote = tt; start = refl; frames = ([], refl, refl, refl); stop = refl }
-begun_follows modes.Free start = record { mode = refl; holds = refl; no_list = tt; quote = tt; start = refl; frames = ([], refl, refl, refl); stop = refl }
-begun_follows m start = absurd (both_ways _ refl start)
+begun_follows m start = grind arith
 
 pub begun_reached : {m : Mode} {scan : Scan} → HasBegun m scan → begins_line m ≡ true → (text : List ℕ) → Reached m text scan text
 begun_reached {m} {scan} begun start text = record {
@@ -183,9 +181,7 @@ abbrev pub EndsSo : ℕ → FieldMode → FieldMove → Type 0
 EndsSo c n v = ((n ≡ plain modes.Return) × (v ≡ closes)) ⊎ ((v ≡ breaks) × (is_line_feed c ≡ true))
 
 pub ends_so : (c : ℕ) (n : FieldMode) (v : FieldMove) → is_line_ending n v c ≡ true → EndsSo c n v
-ends_so c (plain modes.Return) closes is = inl (refl, refl)
-ends_so c n breaks is = inr (refl, sym (line_ending_breaks n c) ∙ is)
-ends_so c n v is = absurd (both_ways _ refl is)
+ends_so c n v is = grind arith
 
 -- the pieces of the line that it ends
 record LineWith (m : FieldMode) (next : FieldScanned) : Type 0 where

@@ -1,5 +1,5 @@
 -- Characters whose bytes leave the open piece as it is.
-use Rattle.py_lines.proofs.Prelude.{take, ◌≡◌, ℕ, ◌+◌, ◌<◌, ◌≤◌, true, false, ◌==◌, List, [], ◌∷◌, ◌++◌, length, slice_index, refl, sym, ap, ◌∙◌, subst, arith, ⊎_elim, length-append, encode_utf8_all, encode_utf8, list_all, nat_tests, and_from, cases_lt, get_or-append-add, get_or-take, length-take-le, length-encode, len_utf8_bounds, char_from_byte, byte_from_char}
+use Rattle.py_lines.proofs.Prelude.{take, ◌≡◌, ℕ, ◌+◌, ◌<◌, ◌≤◌, true, false, ◌==◌, List, [], ◌∷◌, ◌++◌, length, slice_index, refl, sym, subst, arith, ⊎_elim, length-append, encode_utf8_all, encode_utf8, list_all, nat_tests, and_from, cases_lt, get_or-append-add, get_or-take, length-take-le, length-encode, len_utf8_bounds, char_from_byte, byte_from_char}
 use Rattle.py_lines.specs.Character.{is_break, is_backslash, is_quote, is_space}
 use Rattle.py_lines.specs.declared.mode.Mode.{Mode as OpenMode}
 use Rattle.py_lines.specs.declared.mode.Mode.TheVariants as opens
@@ -36,8 +36,4 @@ characters_stay m (c ∷ cs) quote each =
 -- the characters of bytes that stay
 pub stay_spelled : (m : OpenMode) (bytes : List ℕ) (k : ℕ) → HasQuote m → k ≤ length bytes → ((i : ℕ) → i < k → stays m (slice_index bytes i) ≡ true)
     → (run : List ℕ) → encode_utf8_all run ≡ take k bytes → list_all (stays m) run ≡ true
-stay_spelled m bytes k quote within each run spell =
-    let size : length (encode_utf8_all run) ≡ k = ap length spell ∙ length-take-le k bytes within in
-    characters_stay m run quote (λ i less.
-    let short : i < k = omega (arith, less, size) in
-    ap (λ (t : List ℕ). stays m (slice_index t i)) spell ∙ ap (stays m) (get_or-take k bytes i 0 short) ∙ each i short)
+stay_spelled m bytes k quote within each run spell = grind (arith, length-take-le, characters_stay, get_or-take)

@@ -1,5 +1,5 @@
 -- Whole characters that leave the open piece as it is.
-use Rattle.py_lines.proofs.Prelude.{◌≡◌, ℕ, ◌<◌, ◌≤◌, Bool, true, List, length, take, slice_index, sym, ap, ◌∙◌, subst, arith, length-take, IsUtf8, length-take-le, get_or-take, take-take, All-from_get_or, IsUtf8-from_ascii, IsAscii-from_all}
+use Rattle.py_lines.proofs.Prelude.{◌≡◌, ℕ, ◌<◌, Bool, true, List, length, take, slice_index, sym, subst, arith, length-take, IsUtf8, length-take-le, get_or-take, take-take, All-from_get_or, IsUtf8-from_ascii, IsAscii-from_all}
 use Rattle.py_lines.specs.Private.Run.{IsRunOf, Spans}
 
 -- a run of ASCII
@@ -17,9 +17,4 @@ low_spans passes runs bytes n is low = record {
 -- the text that a run begins with
 pub text_spans : (passes : ℕ → Bool) (bytes text : List ℕ) (r : ℕ) → IsRunOf passes bytes r → text ≡ take (length text) (take r bytes) → IsUtf8 text
     → Spans passes bytes (length text)
-text_spans passes bytes text r run prefix utf8 =
-    let size : length text ≤ r = omega (arith, ap length prefix, length-take (length text) (take r bytes), length-take r bytes) in
-    record {
-      run = record { within = omega (arith, size, run.within); each = λ i less. run.each i (omega (arith, less, size)) };
-      utf8 = subst IsUtf8 (prefix ∙ take-take (length text) r bytes size) utf8;
-    }
+text_spans passes bytes text r run prefix utf8 = grind (arith, length-take, take-take)

@@ -41,8 +41,4 @@ base_of n base rest fit (inr (body, last, is, class, level)) size =
 
 -- a line after others begins with no mark
 pub follows_base : (n : ℕ) (base u : List Piece) → Base n base → (first_mode n ≡ modes.Free → begins_marked u ≡ false) → MayFollow base u
-follows_base n base u (Base.bare none mode) unmarked = subst (λ l. MayFollow l u) (sym none) tt
-follows_base n base u (Base.lined body last is class any mode) unmarked = subst (λ l. MayFollow l u) (sym is) (any_follow body last) where
-  any_follow : (ps : List Piece) (p : Piece) → MayFollow (ps ++ p ∷ []) u
-  any_follow [] p = unmarked mode
-  any_follow (q ∷ qs) p = unmarked mode
+follows_base n base u it3 unmarked = grind arith

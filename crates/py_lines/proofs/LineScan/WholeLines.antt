@@ -160,10 +160,7 @@ pub record HasPassedLines (bytes : List ℕ) (fs : List Frame) (at : ℕ) (p : P
 -- the line ends of the lines that were passed are all that were counted, but for those of the next line
 pub ends_of_lines : {bytes : List ℕ} {fs : List Frame} {at : ℕ} {p : Passing} → HasPassedLines bytes fs at p → (last : ℕ)
     → last + line_ends (drop (p.all - p.lines) (drop p.lines bytes)) ≡ line_ends (drop p.lines bytes) → p.ends ≡ line_ends (take p.lines bytes) + last
-ends_of_lines {bytes} {p = p} on last is =
-    let there : p.lines + (p.all - p.lines) ≡ p.all = omega (arith, on.have.before) in
-    let rest = ap line_ends (drop-drop (p.all - p.lines) p.lines bytes ∙ ap (λ n. drop n bytes) there) in
-    omega (arith, on.counted, is, rest, lines_parted bytes p.lines on.have.are)
+ends_of_lines {bytes} {p = p} on last is = grind (arith, drop-drop, lines_parted)
 
 -- where something is not passed, all is as before
 pub unpassed : {bytes : List ℕ} {fs c : List Frame} {at : ℕ} {p q : Passing} → HasPassedLines bytes fs at p → (q ≡ p) × (c ≡ fs) → HasPassedLines bytes c at q
@@ -246,10 +243,7 @@ module _ {bytes : List ℕ} {fs : List Frame} {at : ℕ} {p : Passing} (on : Has
     end_within is so = (omega (arith, begun, so.further), (items_end is so).lines.within)
 
     pub items_within : {new : Scan} → ComesToCode rest old new → (p.all ≤ lines + new.stop) × (lines + new.stop ≤ length bytes)
-    items_within so = let size = ap length (take_rest bytes (p.all + k)) ∙ length-drop (p.all + k) bytes in (
-      omega (arith, begun, so.stop),
-      omega (arith, begun, so.stop, so.some, so.within, size),
-    )
+    items_within so = grind (arith, take_rest, length-drop)
 
     pub passes_end : {new : Scan} {stop : Stop} {len : ℕ} {c : List Frame} {q : Passing} → stop ≡ stops.LineEnd len
         → StopsSo rest old stop new → c ≡ [] → q ≡ passed_to p (lines + new.stop) q.ends q.marks → IsCounted bytes q

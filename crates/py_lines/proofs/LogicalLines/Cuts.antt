@@ -111,10 +111,7 @@ put_line p d [] last vs = put_cut p d last [] vs
 put_line p d (q ∷ body) last vs = put_cut p d q (body ++ last ∷ []) vs
 
 pub line_depth : (p : Piece) (d : ℕ) → is_line_end_class p.class ≡ true → depth_after d p ≡ d
-line_depth p d h = go p.class p.text h where
-  go : (class : Class) (text : List ℕ) → is_line_end_class class ≡ true → depth_after d (record { class = class; text = text }) ≡ d
-  go line_end text k = refl
-  go class text k = absurd (both_ways _ refl k)
+line_depth p d h = grind arith
 
 -- the cut after a line end at depth 0
 cut-line : (body : List Piece) (last : Piece) (qs : List Piece) (d : ℕ) → last.class ≡ line_end → depth_through d body ≡ 0 → cut d (body ++ last ∷ qs) ≡ cut d (body ++ last ∷ []) ++ cut 0 qs

@@ -1,10 +1,8 @@
 -- The tokens of a logical line say what its pieces say.
-use Rattle.py_lines.proofs.Prelude.{◌≡◌, ℕ, ◌+◌, ◌-◌, List, [], ◌∷◌, ◌++◌, map, length, length-append, take, drop, refl, sym, ap, ◌∙◌, append_assoc, arith, encode_utf8_all, slice_range, if◌then◌else◌, drop-append_seam, take-append_seam, map-append, encodes-append}
-use Rattle.py_lines.specs.Character.{is_digit}
-use Rattle.py_lines.specs.Piece.{Class, word, string, operator, comment, Piece, begins, spelled}
-use Rattle.py_lines.specs.LogicalLine.{byte_len, line_ends, first_or_zero, tokens_of_piece, tokens_from}
+use Rattle.py_lines.proofs.Prelude.{◌≡◌, ℕ, ◌+◌, ◌-◌, List, [], ◌∷◌, ◌++◌, map, length, length-append, take, drop, refl, sym, ap, ◌∙◌, append_assoc, arith, encode_utf8_all, slice_range, drop-append_seam, take-append_seam, map-append, encodes-append}
+use Rattle.py_lines.specs.Piece.{Class, word, Piece, spelled}
+use Rattle.py_lines.specs.LogicalLine.{byte_len, line_ends, tokens_of_piece, tokens_from}
 use Rattle.py_lines.specs.Words.{word_in, words_of_piece, words_of, extent_of}
-use Rattle.py_lines.specs.declared.token.TokKind.TheVariants as kind
 
 slice_seam : (b x c : List ℕ) → slice_range (b ++ (x ++ c)) (length b) (length b + length x) ≡ x
 slice_seam b x c =
@@ -12,11 +10,7 @@ slice_seam b x c =
     ap (λ (n : ℕ). take n (drop (length b) (b ++ (x ++ c)))) e ∙ ap (λ (t : List ℕ). take (length x) t) (drop-append_seam b (x ++ c)) ∙ take-append_seam x c
 
 one_word : (b c : List ℕ) (line : ℕ) (class : Class) (text : List ℕ) → map (word_in (b ++ (encode_utf8_all text ++ c))) (tokens_of_piece (length b) (length b + byte_len text) line class text) ≡ words_of_piece class text
-one_word b c line word text = λ i. record { kind = if begins is_digit text then kind.Number else kind.Name; bytes = slice_seam b (encode_utf8_all text) c i } ∷ []
-one_word b c line string text = λ i. record { kind = kind.Str; bytes = slice_seam b (encode_utf8_all text) c i } ∷ []
-one_word b c line operator text = λ i. record { kind = kind.Op (first_or_zero text); bytes = slice_seam b (encode_utf8_all text) c i } ∷ []
-one_word b c line comment text = λ i. record { kind = kind.Remark; bytes = slice_seam b (encode_utf8_all text) c i } ∷ []
-one_word b c line class text = refl
+one_word b c line class text = grind (arith, slice_seam)
 
 pub words_after : (b : List ℕ) (line : ℕ) (ps : List Piece) → map (word_in (b ++ encode_utf8_all (spelled ps))) (tokens_from (length b) line ps) ≡ words_of ps
 words_after b line [] = refl

@@ -1,5 +1,5 @@
 -- What the open piece spells in each mode of the machine, and how it grows.
-use Rattle.py_lines.proofs.Prelude.{◌≡◌, ℕ, Bool, true, false, ◌==◌, eqb, List, [], ◌∷◌, ◌++◌, refl, sym, ap, ◌∙◌, subst, append_assoc, append-nil, list_all, list_any, list_all-append, list_any-append, and_from, or_from, eqb-true, both_ways, false_from_ne_true, not_from_false}
+use Rattle.py_lines.proofs.Prelude.{◌≡◌, ℕ, Bool, true, false, ◌==◌, eqb, List, [], ◌∷◌, ◌++◌, refl, sym, ap, ◌∙◌, subst, append_assoc, append-nil, list_all, list_any, list_all-append, list_any-append, and_from, or_from, eqb-true, both_ways, false_from_ne_true, not_from_false, arith}
 use Rattle.py_lines.specs.Character.{is_quote, is_backslash}
 use Rattle.py_lines.specs.Piece.{string}
 use Rattle.py_lines.specs.PieceGrammar.{IsPrefix, is_item, is_bare, is_short_item, joined, has_triple, IsShortString, IsLongString, MayPrecedePlain}
@@ -46,15 +46,7 @@ long_something prefix body q text rest is begun opens other r spell also quotes 
 
 -- more items
 items_push : (quotes : List ℕ) (MayHold MayGoOn : List (List ℕ) → Type 0) (q : ℕ) (held : List ℕ) (more : List (List ℕ)) → ((items : List (List ℕ)) → MayHold items → MayGoOn (items ++ more)) → HoldsItems quotes MayHold q held → HoldsItems quotes MayGoOn q (held ++ joined more)
-items_push quotes MayHold MayGoOn q held more may before = record {
-  prefix = before.prefix;
-  items = before.items ++ more;
-  spell = ap (λ t. t ++ joined more) before.spell ∙ append_assoc before.prefix (quotes ++ joined before.items) (joined more)
-      ∙ ap (λ t. before.prefix ++ t) (append_assoc quotes (joined before.items) (joined more) ∙ ap (λ t. quotes ++ t) (sym (joined-append before.items more)));
-  begun = before.begun;
-  opens = before.opens;
-  holds = may before.items before.holds;
-}
+items_push quotes MayHold MayGoOn q held more may before = grind (arith, append_assoc, joined-append)
 
 -- one more item of a short string
 pub short_push : (q : ℕ) (held item : List ℕ) → HoldsShort q held → is_short_item q item ≡ true → IsFull (joined (item ∷ [])) → HoldsSome q (held ++ joined (item ∷ []))
@@ -102,12 +94,7 @@ none_yet quotes MayHold q held may opened =
     record { prefix = opened.prefix; items = []; spell = opened.spell ∙ ap (λ t. opened.prefix ++ t) (sym (append-nil quotes)); begun = opened.begun; opens = opened.opens; holds = may }
 
 pub one_more_quote : (quotes : List ℕ) (q : ℕ) (held : List ℕ) (c : ℕ) → eqb c q ≡ true → HoldsQuotes quotes q held → HoldsQuotes (quotes ++ q ∷ []) q (held ++ c ∷ [])
-one_more_quote quotes q held c same before = record {
-  prefix = before.prefix;
-  spell = ap (λ t. t ++ c ∷ []) before.spell ∙ append_assoc before.prefix quotes (c ∷ []) ∙ ap (λ (d : ℕ). before.prefix ++ (quotes ++ d ∷ [])) (eqb-true c q same);
-  begun = before.begun;
-  opens = before.opens;
-}
+one_more_quote quotes q held c same before = grind arith
 
 -- the closing quote of a short string
 unfoldable pub short_string : (q : ℕ) (held : List ℕ) (c : ℕ) → eqb c q ≡ true → HoldsShort q held → IsShortString (held ++ c ∷ [])

@@ -1,5 +1,5 @@
 -- What is open where the machine stands: a short string, a long string, or a backslash; and the other way round.
-use Rattle.py_lines.proofs.Prelude.{◌≡◌, ℕ, true, false, List, [], ◌∷◌, ◌++◌, refl, sym, ap, ◌∙◌, subst, inl, inr, append_assoc, append-nil, arith, list_all, both_ways, false_from_ne_true}
+use Rattle.py_lines.proofs.Prelude.{◌≡◌, ℕ, true, false, List, [], ◌∷◌, ◌++◌, refl, sym, ◌∙◌, subst, inl, inr, append-nil, arith, list_all, both_ways, false_from_ne_true}
 use Rattle.unicode_ident.proofs.Computing.{unicode_ident}
 use Rattle.py_lines.specs.Character.{is_mark, is_quote, is_word_start, is_digit, is_backslash}
 use Rattle.py_lines.specs.Piece.{Piece, begins}
@@ -14,17 +14,7 @@ use Rattle.py_lines.proofs.Machine.Soundness.{returned_items}
 
 -- whole items, with nothing after them, or a backslash
 still_open : (opening : ℕ → List ℕ) (MayHold : ℕ → List (List ℕ) → Type 0) (q : ℕ) (text before last : List ℕ) → text ≡ before ++ last → HoldsItems (opening q) (MayHold q) q before → IsUnescaped last → IsOpenPrefix opening MayHold text
-still_open opening MayHold q text before last is held escapes = record {
-  prefix = held.prefix;
-  quote = q;
-  items = held.items;
-  last = last;
-  spell = is ∙ ap (λ t. t ++ last) held.spell ∙ append_assoc held.prefix (opening q ++ joined held.items) last;
-  begun = held.begun;
-  opens = held.opens;
-  holds = held.holds;
-  escapes = escapes;
-}
+still_open opening MayHold q text before last is held escapes = grind arith
 
 pub short_held : (m : Mode) (done : List Piece) (held : List ℕ) → Holds m done held → in_short m ≡ true → IsShortPrefix held
 short_held (Mode.Opened q) done held holds is = still_open _ _ q held held [] (sym (append-nil held)) (none_yet (q ∷ []) _ q held refl holds) (inl refl)

@@ -1,5 +1,5 @@
 -- The machine goes through the text of a space, a word, a comment, a join or a line end: how each begins, grows and ends.
-use Rattle.py_lines.proofs.Prelude.{◌≡◌, ℕ, Bool, true, false, ◌&&◌, List, [], ◌∷◌, ◌++◌, refl, sym, ap, ◌∙◌, subst, inl, inr, append_assoc, ◌⊎◌, list_all, list_any, and_parts, or_parts}
+use Rattle.py_lines.proofs.Prelude.{◌≡◌, ℕ, Bool, true, false, ◌&&◌, List, [], ◌∷◌, ◌++◌, refl, sym, ap, ◌∙◌, subst, inl, inr, append_assoc, ◌⊎◌, list_all, list_any, and_parts, or_parts, arith}
 pub use Rattle.std.proofs.lemmas.Option.{same_Some as some_is}
 use Rattle.py_lines.specs.Character.{is_space, is_word_character, is_quote, is_line_feed, is_return, is_break}
 use Rattle.py_lines.specs.Piece.{Class, space, word, comment, join, line_end, Piece, begins, ends}
@@ -96,9 +96,7 @@ stops-word s (c ∷ cs) h k = rw (h, k)
 
 stops-comment : (rest : List ℕ) → (rest ≡ []) ⊎ (begins is_break rest ≡ true) → StopsBefore Mode.Comment rest
 unfolding move_of
-stops-comment [] h = refl
-stops-comment (c ∷ cs) (inl none) = absurd (cc)
-stops-comment (c ∷ cs) (inr ends) = rw ends
+stops-comment rest h = grind arith
 
 pub is_read : (class : Class) (text rest : List ℕ) → IsPlainClass class → InPlainClass class text → MayPrecedePlain class text rest → IsRead class text rest
 unfolding move_of is_line_feed is_return

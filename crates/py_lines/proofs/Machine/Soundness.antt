@@ -140,8 +140,4 @@ move_holds Mode.Return held c (r, is, returns) =
 
 -- and at the text's end
 pub end_holds : (m : Mode) (held : List ℕ) → Holds m [] held → is_final m ≡ true → AreReadPlain (closed m [] held) []
-end_holds (Mode.Word s) held (first, others, is, opens, run, so) may = ((first, others, is, opens, run), (refl, and_right _ _ refl), refl, tt)
-end_holds (Mode.Empty q) held holds may = (empty_string q held holds, λ prefix r spell begun quotes. refl, refl, tt)
-end_holds Mode.JoinReturn held (slash, r, is, slashes, returns) may = ((slash, r ∷ [], is, slashes, return (ap (λ d. d ∷ []) (return_is r returns))), and_right _ _ refl, refl, tt)
-end_holds Mode.Return held (r, is, returns) may = (return (is ∙ ap (λ d. d ∷ []) (return_is r returns)), and_right _ _ refl, refl, tt)
-end_holds m held holds may = grind arith
+end_holds m held holds may = grind (arith, and_right, empty_string, return_is)

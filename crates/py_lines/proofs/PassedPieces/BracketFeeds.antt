@@ -70,10 +70,7 @@ module _ (old scan : Scan) (bytes : List ℕ) (outside : has_field scan.frames �
 module _ (old scan : Scan) (bytes : List ℕ) (at to : ℕ) (p q r : Passing) (c : List Frame) (on : HasPassed old bytes at scan p)
     (so : PassesSo bytes at (scan.stop + at) p scan.frames q c) (finds : FindsSpecial bytes c q to r) where
   pub finds_further : (at < to) × (to ≤ length bytes)
-  finds_further = elim finds.passes [
-    | inl same ↦ (omega (arith, ap (λ (r : Passing). r.all) same, so.further, finds.next.after), finds.next.within)
-    | inr (ends, more, same) ↦ (omega (arith, ends.further, so.further, finds.next.after), finds.next.within)
-  ]
+  finds_further = grind arith
 
   pub passes_feeds : length c == 0 ≡ false → IsCounted bytes q → HasPassed old bytes to (with_frames scan c) r × IsCounted bytes r
   passes_feeds some counted =

@@ -1,5 +1,5 @@
 -- Line ends in bytes that are passed, by those of the bytes from there on.
-use Rattle.py_lines.proofs.Prelude.{◌≡◌, ℕ, ◌+◌, ◌-◌, ◌<◌, ◌≤◌, Bool, true, false, List, [], ◌∷◌, ◌++◌, length, take, drop, slice_index, refl, sym, ap, ◌∙◌, subst, arith, inl, inr, length-drop, get_or-drop, take-append-drop, codes, list_all, list_any, and_from, and_parts, ne_eqb, drop-drop}
+use Rattle.py_lines.proofs.Prelude.{◌≡◌, ℕ, ◌+◌, ◌-◌, ◌<◌, ◌≤◌, Bool, true, false, List, [], ◌∷◌, ◌++◌, length, take, drop, slice_index, refl, sym, ap, ◌∙◌, subst, arith, length-drop, get_or-drop, take-append-drop, codes, list_all, list_any, and_from, and_parts, drop-drop}
 use Rattle.py_lines.specs.Character.{is_backslash, is_break, is_line_feed, is_quote, is_return, is_space, is_operator}
 use Rattle.py_lines.specs.Balance.{is_closing, is_opening}
 use Rattle.py_lines.specs.declared.passing.Passing.{Passing}
@@ -67,10 +67,7 @@ line_counts = run_counts is_line_byte refl
 -- a line end
 outer_counts : (text after : List ℕ) → IsOuterEnd text after → 1 + line_ends after ≡ line_ends (text ++ after)
 unfolding is_line_feed is_return
-outer_counts text after (inl (true, is)) = rw is (omega arith)
-outer_counts text after (inl (false, is)) = rw is (omega arith)
-outer_counts text [] (inr (is, other)) = absurd other
-outer_counts text (c ∷ cs) (inr (is, other)) = rw (is, ne_eqb c 10 other) (omega arith)
+outer_counts text after it2 = grind arith
 
 pub end_counts : (bytes : List ℕ) (at len : ℕ) → BeginsOuterEnd (drop at bytes) len → CountsTo bytes at (at + len) 1
 end_counts bytes at len begins =

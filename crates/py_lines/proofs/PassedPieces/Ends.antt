@@ -1,23 +1,18 @@
 -- A piece that ends before the next byte is passed with the bytes before it.
-use Rattle.py_lines.proofs.Prelude.{◌≡◌, ℕ, ◌+◌, ◌<◌, true, false, List, [], ◌∷◌, ◌++◌, length, drop, refl, sym, ap, ◌∙◌, subst, arith, append-nil, encode_utf8_all, and_parts, both_ways, not-true, drop-append_seam}
+use Rattle.py_lines.proofs.Prelude.{◌≡◌, ℕ, ◌+◌, ◌<◌, true, false, List, [], ◌∷◌, ◌++◌, length, drop, refl, sym, ap, ◌∙◌, subst, arith, append-nil, encode_utf8_all, both_ways, drop-append_seam}
 use Rattle.py_lines.specs.LogicalLine.{byte_len}
-use Rattle.py_lines.specs.declared.mode.Mode.{Mode as OpenMode}
 use Rattle.py_lines.specs.declared.mode.Mode.TheVariants as opens
 use Rattle.py_lines.specs.declared.scan.Scan.{Scan}
 use Rattle.py_lines.specs.Private.FieldMachine.{FieldMode, FieldScanned, field_move, text_place}
 use Rattle.py_lines.specs.Private.Frames.{has_field}
-use Rattle.py_lines.specs.Private.Scan.{ComesOver, Follows, IsFirstByte, Rests, Takes, ends_before, is_ending, is_free_mode, is_in_code, is_text, mode_from, passed}
+use Rattle.py_lines.specs.Private.Scan.{ComesOver, Follows, IsFirstByte, Rests, Takes, ends_before, is_ending, is_in_code, is_text, mode_from, passed}
 use Rattle.py_lines.proofs.FieldScans.LineEnds.{breaks_mode, code_place}
 use Rattle.py_lines.proofs.FieldScans.Runs.{free_start}
 use Rattle.py_lines.proofs.FieldScans.Taking.{follows_open, free_at, rests_ended, stands_at}
 
 -- in code no piece is open and no field
 pub in_code : (scan : Scan) → is_in_code scan ≡ true → (scan.mode ≡ opens.Free) × (has_field scan.frames ≡ false)
-in_code scan code = let parts = and_parts (is_free_mode scan.mode) _ code in (free scan.mode parts.0, not-true _ parts.1)
-  where
-    free : (m : OpenMode) → is_free_mode m ≡ true → m ≡ opens.Free
-    free opens.Free is = refl
-    free m is = absurd (both_ways _ refl is)
+in_code scan code = grind arith
 
 -- where no piece is open, none is passed
 pub passes_none : (old : Scan) (bytes : List ℕ) → old.mode ≡ opens.Free → Takes old bytes 0 (passed old 0)

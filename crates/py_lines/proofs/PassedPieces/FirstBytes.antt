@@ -20,10 +20,7 @@ taken_two (b ∷ bs) within = ap (λ t. b ∷ t) (taken_one bs (omega (arith, wi
 
 -- so many quotes are some of the bytes
 pub quotes_fit : (bytes : List ℕ) (n : ℕ) → Some n ≡ quotes_in bytes → (0 < n) × (n ≤ length bytes)
-quotes_fit [] n is = absurd (cc)
-quotes_fit (q ∷ []) n is = absurd (cc)
-quotes_fit (q ∷ c ∷ []) n is = grind arith
-quotes_fit (q ∷ c ∷ d ∷ rest) n is = grind arith
+quotes_fit bytes n is = grind arith
 
 -- bytes that begin with CR or LF, and with no line end that is known, are CR alone
 pub no_outer_end : (bytes : List ℕ) → (slice_index bytes 0 ≡ 10 → ⊥) → (1 < length bytes → slice_index bytes 0 ≡ 13 → ⊥) → HasOuterEnd bytes None

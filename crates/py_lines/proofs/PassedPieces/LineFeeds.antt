@@ -30,12 +30,7 @@ base_kept bytes from fs old new (inr (to, feeds, passes, is)) = passes.base
 -- other bytes before them are passed too
 ends_later : {bytes : List ℕ} {b to : ℕ} (a : ℕ) → a ≤ b
     → ((i : ℕ) → a ≤ i → i < b → (is_plain (slice_index bytes i) || is_line_feed (slice_index bytes i)) ≡ true) → EndInFeed bytes b to → EndInFeed bytes a to
-ends_later {b = b} a more before ends = record {
-  further = omega (arith, more, ends.further);
-  within = ends.within;
-  each = λ i from less. elim (cases_lt i b) [ inl low ↦ before i from low | inr high ↦ ends.each i high less ];
-  last = ends.last;
-}
+ends_later {b = b} a more before ends = grind arith
 
 -- plain bytes follow plain ones
 pub plain_on : (bytes : List ℕ) (a b c : ℕ) → ArePlain bytes a b → ArePlain bytes b c → ArePlain bytes a c
@@ -91,10 +86,7 @@ module _ {bytes : List ℕ} {fs : List Frame} {old mid : Passing} (come : ComesT
 
   -- with other marks
   other_marks : (marks : Marks) → PassesLineFeeds bytes fs old (record mid { marks = marks })
-  other_marks marks = elim come.passes [
-    | inl is ↦ inl (ap (λ (p : Passing). record p { marks = marks }) is)
-    | inr (ends, counted, is) ↦ inr (ends, counted, ap (λ (p : Passing). record p { marks = marks }) is)
-  ]
+  other_marks marks = grind arith
 
   -- to the next block
   pub block_next : (marks : Marks) → Advances bytes mid.marks true marks → ComesTo bytes fs old (record mid { marks = marks })

@@ -12,7 +12,7 @@ use Rattle.py_lines.specs.Private.Marks.{FindsNext, is_plain}
 use Rattle.py_lines.specs.Private.Passing.{EndsAfter, EndsLineSo, PassesSo, StandsFree, tail_of, with_frames}
 use Rattle.py_lines.specs.Private.Run.{is_ascii_word}
 use Rattle.py_lines.specs.declared.scan.Progress.TheVariants as progress
-use Rattle.py_lines.specs.Private.Scan.{IsFirstByte, Steps, Takes, ends_before, is_ending, is_text, mode_from, passed}
+use Rattle.py_lines.specs.Private.Scan.{IsFirstByte, Steps, Takes, ends_before, passed}
 use Rattle.py_lines.specs.Private.TakenPieces.{IsOperatorEnd, IsWordStart, TakesOn}
 use Rattle.py_lines.proofs.FieldScans.PlainCode.{over_code, over_operator}
 use Rattle.py_lines.proofs.FieldScans.Takes.{takes_on}
@@ -40,12 +40,7 @@ no_space opens.Space b c tail other first =
 no_space m b c tail other first = absurd tail
 
 ends_there : (scan : Scan) (b : ℕ) → IsTail None scan.mode → is_space b ≡ false → EndsBefore scan b
-ends_there scan b tail other = record { code = (by scan.mode tail).0; may = (by scan.mode tail).1; ends = λ c first. no_space scan.mode b c tail other first }
-  where
-    by : (m : OpenMode) → IsTail None m → (is_text m ≡ false) × (is_ending (mode_from m) ≡ true)
-    by opens.Free tail = (refl, refl)
-    by opens.Space tail = (refl, refl)
-    by m tail = absurd tail
+ends_there scan b tail other = grind (arith, no_space)
 
 -- The scan, which stood before the bytes, has passed pieces of them, and the next byte that isn't plain stands at `at`. Only its frames are
 -- kept.

@@ -1,5 +1,5 @@
 -- Plain bytes of a line, as the scan would take them byte by byte, and what is open after them.
-use Rattle.py_lines.proofs.Prelude.{◌≡◌, ℕ, zero, suc, ◌+◌, ◌<◌, Bool, true, false, Option, None, Some, List, [], ◌∷◌, ◌++◌, length, slice_index, refl, sym, ap, ◌∙◌, subst, arith, length-append, list_all, and_parts, both_ways, or_parts, encode_ascii, take-append_seam, low_scalar}
+use Rattle.py_lines.proofs.Prelude.{◌≡◌, ℕ, zero, suc, ◌+◌, ◌<◌, Bool, true, false, Option, None, Some, List, [], ◌∷◌, ◌++◌, length, slice_index, refl, sym, ap, ◌∙◌, subst, arith, length-append, list_all, and_parts, or_parts, encode_ascii, take-append_seam, low_scalar}
 use Rattle.py_lines.specs.Character.{is_space}
 use Rattle.py_lines.specs.declared.mode.Mode.{Mode as OpenMode}
 use Rattle.py_lines.specs.declared.mode.Mode.TheVariants as opens
@@ -22,10 +22,7 @@ IsTail None opens.Space = Unit {0}
 IsTail None other = ⊥
 
 tail_is : (m : OpenMode) → is_code_open m ≡ true → IsTail (word_open m) m
-tail_is opens.Free code = tt
-tail_is opens.Space code = tt
-tail_is (opens.Word s) code = refl
-tail_is m code = absurd (both_ways _ refl code)
+tail_is m code = grind arith
 
 -- the scan goes over these bytes so, whatever follows them
 pub record PlainTo (old : Scan) (run : List ℕ) : Type 0 where

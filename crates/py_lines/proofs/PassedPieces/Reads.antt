@@ -1,5 +1,5 @@
 -- Bytes that are read from one that isn't plain to the next, up to the end of a string or a comment.
-use Rattle.py_lines.proofs.Prelude.{◌≡◌, ℕ, ◌+◌, ◌-◌, ◌<◌, ◌==◌, not, nat_lt, true, false, List, Some, [], ◌∷◌, ◌++◌, length, take, drop, slice_index, refl, sym, ap, ◌∙◌, subst, arith, length-drop, get_or-drop, ◌≤◌, codes, list_all, and_from, and_parts, both_ways, eqb-true, false_from_ne_true, ltb-true, ne_eqb, not-true, or_parts, nat_tests, transport, take-add, drop-drop}
+use Rattle.py_lines.proofs.Prelude.{◌≡◌, ℕ, ◌+◌, ◌-◌, ◌<◌, ◌==◌, not, nat_lt, true, false, List, Some, [], ◌∷◌, ◌++◌, length, take, drop, slice_index, refl, sym, ap, ◌∙◌, subst, arith, length-drop, get_or-drop, ◌≤◌, codes, list_all, and_from, and_parts, both_ways, eqb-true, false_from_ne_true, ltb-true, ne_eqb, not-true, or_parts, transport, take-add, drop-drop}
 use Rattle.py_lines.specs.Balance.{is_closing, is_opening}
 use Rattle.py_lines.specs.Character.{is_backslash, is_break, is_hash, is_one_of, is_operator, is_quote, is_space}
 use Rattle.py_lines.specs.declared.frames.Frame.{Frame}
@@ -35,10 +35,7 @@ between-append bytes a b c first second =
 
 -- one byte
 pub one_between : (bytes : List ℕ) (end : ℕ) → end < length bytes → between bytes end (end + 1) ≡ slice_index bytes end ∷ []
-one_between bytes end within =
-    let one : end + 1 - end ≡ 1 = omega arith in
-    ap (λ (n : ℕ). take n (drop end bytes)) one ∙ taken_one (drop end bytes) (omega (arith, within, length-drop end bytes))
-    ∙ ap (λ (c : ℕ). c ∷ []) (first_later bytes end)
+one_between bytes end within = grind (arith, taken_one, length-drop, first_later)
 
 -- a plain byte is no backslash and no line end
 plain_whole : (c : ℕ) → is_plain c ≡ true → is_one_of (codes "\\\n\r") c ≡ false
@@ -133,17 +130,11 @@ reads_on {m} {bytes} {at} {end} {to} {next_marks = next_marks} reads item next =
 
 -- two bytes
 two_between : (bytes : List ℕ) (end : ℕ) → end + 1 < length bytes → between bytes end (end + 2) ≡ slice_index bytes end ∷ slice_index bytes (end + 1) ∷ []
-two_between bytes end within =
-    let two : end + 2 - end ≡ 2 = omega arith in
-    ap (λ (n : ℕ). take n (drop end bytes)) two ∙ taken_two (drop end bytes) (omega (arith, within, length-drop end bytes))
-    ∙ (λ i. first_later bytes end i ∷ get_or-drop end bytes 1 0 i ∷ [])
+two_between bytes end within = grind (arith, taken_two, length-drop, first_later, get_or-drop)
 
 -- of two quotes the second is as the first
 pub second_quote : (bytes : List ℕ) → Some 2 ≡ quotes_in bytes → (1 < length bytes) × (slice_index bytes 1 ≡ slice_index bytes 0)
-second_quote [] two = absurd (cc)
-second_quote (q ∷ []) two = absurd (cc)
-second_quote (q ∷ c ∷ []) two = grind (arith, eqb-true c q)
-second_quote (q ∷ c ∷ d ∷ rest) two = grind (arith, eqb-true c q)
+second_quote bytes two = grind arith
 
 -- a comment
 abbrev pub ReadsComment : List ℕ → ℕ → ℕ → Marks → Type 0
@@ -213,9 +204,7 @@ module _ (q : ℕ) (quote : is_quote q ≡ true) {bytes : List ℕ} {end : ℕ} 
 
 -- text isn't empty between quotes of which the first stands alone
 full_between : (q : ℕ) (text rest : List ℕ) → Some 1 ≡ quotes_in (q ∷ (text ++ q ∷ rest)) → IsFull text
-full_between q [] [] one = grind (arith, nat_tests)
-full_between q [] (c ∷ cs) one = grind (arith, nat_tests)
-full_between q (c ∷ cs) rest one = tt
+full_between q text rest one = grind arith
 
 module _ (bytes : List ℕ) (at end : ℕ) {marks : Marks} (reads : ReadsText (slice_index bytes at) bytes at end marks) (within : end < length bytes)
     (quote : is_quote (slice_index bytes at) ≡ true) (closes : slice_index bytes end ≡ slice_index bytes at) (alone : Some 1 ≡ quotes_in (drop at bytes)) where

@@ -1,5 +1,5 @@
 -- Brackets in pairs, their depth, and the stack of open ones: balanced pieces leave it as it was.
-use Rattle.py_lines.proofs.Prelude.{◌≡◌, ℕ, suc, ◌<◌, Bool, true, false, ◌==◌, Option, None, Some, List, [], ◌∷◌, ◌++◌, length, nat_lt, refl, sym, ap, ◌∙◌, subst, append_assoc, append-nil, add-one, arith, cond_both, or_parts, both_ways, lt-ltb}
+use Rattle.py_lines.proofs.Prelude.{◌≡◌, ℕ, suc, ◌<◌, Bool, true, false, ◌==◌, Option, None, Some, List, [], ◌∷◌, ◌++◌, length, refl, sym, ap, ◌∙◌, subst, append_assoc, append-nil, add-one, arith, or_parts, both_ways, lt-ltb}
 use Rattle.py_lines.specs.Piece.{Class, operator, Piece, begins, spelled}
 use Rattle.py_lines.specs.Balance as balance
 use Rattle.py_lines.specs.Balance.{is_opening, is_closing, closing_of, is_operator_that, is_opener, is_closer, ArePair, IsBalanced, depth_after, depth_through, EachAtDepth, OpensShallow, IsShallowPlain}
@@ -105,11 +105,7 @@ some_before f none (Some a) b is = (a, refl)
 
 -- the stack after one more piece
 pub stack_push : (done : List Piece) (p : Piece) (st : List Bracket) → brackets_of done ≡ Some st → brackets_of (done ++ p ∷ []) ≡ brackets_after st (byte_len (spelled done)) p
-stack_push done p st stack = through-append (Some []) [] done (p ∷ []) ∙ ap (λ o. brackets_through o done (p ∷ [])) stack ∙ go (brackets_after st (byte_len (spelled done)) p)
-  where
-    go : (o : Option (List Bracket)) → brackets_through o (done ++ p ∷ []) [] ≡ o
-    go None = refl
-    go (Some bs) = refl
+stack_push done p st stack = grind (arith, through-append)
 
 -- where the brackets after pieces are known, they are after the first of them
 through_parts : (st after : List Bracket) (done ps qs : List Piece) → brackets_through (Some st) done (ps ++ qs) ≡ Some after
@@ -126,9 +122,7 @@ top_at done p = record { opener = first_or_zero p.text; place = byte_len (spelle
 opened_is : (st mid : List Bracket) (done : List Piece) (p : Piece) → is_opener p ≡ true → brackets_through (Some st) done (p ∷ []) ≡ Some mid
     → mid ≡ top_at done p ∷ st
 unfolding brackets_after
-opened_is st mid done p opens is =
-    let P : Option (List Bracket) → Type 0 = λ o. brackets_through o (done ++ p ∷ []) [] ≡ Some mid → mid ≡ top_at done p ∷ st in
-    cond_both (nat_lt (length st) 200) (Some (top_at done p ∷ st)) None P (λ room same. (cc)) (λ full none. absurd (cc)) (rw (opens, brackets_through) at is)
+opened_is st mid done p opens is = grind arith
 
 some_same : (after st : List Bracket) → Some after ≡ Some st → after ≡ st
 some_same after st same = cc

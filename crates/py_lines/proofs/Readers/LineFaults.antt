@@ -1,15 +1,15 @@
 -- The machine goes through a whole text as it goes through the line that stands last in it, with the pieces of the lines before among those
 -- of its outermost list. So the fault that the scan of a line names is that of the whole text, and it stands in the line.
-use Rattle.py_lines.proofs.Prelude.{◌≡◌, ℕ, ◌<◌, ◌==◌, ◌&&◌, true, false, None, Some, List, [], ◌∷◌, ◌++◌, refl, sym, ap, ◌∙◌, subst, append-nil, arith, zero, suc, ◌+◌, ◌-◌, ◌||◌, not, Bool, Option, inl, inr, length, append_assoc, length-append, if◌then◌else◌, same_from_push, append_cancel_left, both_ways, cond_both, length-le-encodes}
+use Rattle.py_lines.proofs.Prelude.{◌≡◌, ℕ, ◌<◌, ◌==◌, ◌&&◌, true, false, None, Some, List, [], ◌∷◌, ◌++◌, refl, sym, ap, ◌∙◌, subst, append-nil, arith, zero, suc, ◌+◌, ◌-◌, Bool, length, append_assoc, length-append, if◌then◌else◌, same_from_push, append_cancel_left, both_ways, cond_both, length-le-encodes}
 use Rattle.py_lines.specs.Character.{is_line_feed, is_break, is_return}
 use Rattle.py_lines.specs.Piece.{line_end, Piece, spelled}
 use Rattle.py_lines.specs.Balance.{IsBalanced, depth_through, is_opening, is_closing}
 use Rattle.py_lines.specs.Fields.{AreReadBefore, IsShallow}
-use Rattle.py_lines.specs.Faults.{IsLive, Cause, breaks_string, closes_wrong, opens_too_deep, begins_nothing, kind_of_cause, Unfinished, open_brace, open_short, open_long, open_join, open_bracket, open_inside, kind_of_unfinished, IsCharacterFault, IsEndFault, at_end}
-use Rattle.py_lines.specs.LogicalLine.{byte_len, is_line_end_class}
-use Rattle.py_lines.specs.Private.Machine.{Mode, move_of, start_of, in_short, in_long, is_after_backslash, is_final, Bracket, brackets_of}
+use Rattle.py_lines.specs.Faults.{IsLive, Cause, breaks_string, closes_wrong, opens_too_deep, begins_nothing, kind_of_cause, Unfinished, open_brace, open_bracket, open_inside, kind_of_unfinished, IsCharacterFault, IsEndFault, at_end}
+use Rattle.py_lines.specs.LogicalLine.{byte_len}
+use Rattle.py_lines.specs.Private.Machine.{Mode, move_of, start_of, Bracket, brackets_of}
 use Rattle.py_lines.specs.Private.Mode as modes
-use Rattle.py_lines.specs.Private.FieldMachine.{FieldMode, FieldScanned, IsFieldFinal, Level, before, between, body, breaks, closes, field_class_of, field_closed, field_move, field_moved, field_pieces, field_started, field_state, field_text_start, frames, has_room_at, levels_open, plain, room_step, roomy, empty, field_step, has_room, text_place, after_open_backslash, may_end}
+use Rattle.py_lines.specs.Private.FieldMachine.{FieldMode, FieldScanned, IsFieldFinal, Level, before, between, body, breaks, field_closed, field_move, field_moved, field_pieces, field_started, field_state, field_text_start, frames, has_room_at, levels_open, plain, room_step, roomy, text_place, after_open_backslash, may_end}
 use Rattle.py_lines.specs.Private.LineScan.{EndsNoLine, IsUnderWay, begins_line, line_begun}
 use Rattle.py_lines.specs.Private.LineState.{first_mode}
 use Rattle.py_lines.specs.Private.Scan.{Goes, has_returned, is_return_at, IsFieldEnd, IsFieldFault, IsUnfinishedAt}
@@ -24,14 +24,13 @@ use Rattle.py_lines.proofs.FieldSoundness.WholeTexts.{code_at_end, list_ends, tw
 use Rattle.py_lines.proofs.LineScan.LineSteps.{way_one_line, way_sound, way_here, closed_one_line}
 use Rattle.py_lines.proofs.LineScan.TextSteps.{Base, begun_sound}
 use Rattle.py_lines.specs.Balance as balance
-use Rattle.py_lines.specs.FieldStrings.{Place, literal, specification}
+use Rattle.py_lines.specs.FieldStrings.{Place, literal}
 use Rattle.py_lines.specs.PieceGrammar.{feed}
 use Rattle.py_lines.specs.declared.fault.FaultKind.{FaultKind}
 use Rattle.py_lines.specs.declared.scan.LineFault.{LineFault}
-use Rattle.py_lines.specs.Private.FieldFaults.{is_waiting, quotes_specification, cause_in, cause_place, here, field_start, unfinished_code, unfinished_literal, unfinished_in, unfinished_at}
+use Rattle.py_lines.specs.Private.FieldFaults.{is_waiting, quotes_specification, cause_in, cause_place, here, field_start, unfinished_code, unfinished_in, unfinished_at}
 use Rattle.py_lines.proofs.LogicalLines.Cuts.{byte_len-append}
 use Rattle.py_lines.proofs.Faults.CharacterFaults.{IsStuck, IsShortHere, cause_fits, short_here}
-use Rattle.py_lines.proofs.Faults.EndFaults.{final_by}
 use Rattle.py_lines.proofs.Faults.Ends.{StandsThere, text_is, unfinished_fits}
 use Rattle.py_lines.proofs.Faults.FaultPrefixes.{PrefixTo, explained, field_fault_prefix}
 use Rattle.py_lines.proofs.Text.Splits.{Either, either}
@@ -49,12 +48,7 @@ IsBetweenLines other = ⊥
 -- so where the machine stands after pieces that end a line
 ended_mode : (m : FieldMode) (done : List Piece) (held : List ℕ) (front : List Piece) (last : Piece) → field_closed m done held ≡ front ++ last ∷ []
     → last.class ≡ line_end → IsBetweenLines m
-ended_mode (plain modes.Start) done held front last is class = tt
-ended_mode (plain modes.Free) done held front last is class = tt
-ended_mode (plain modes.Return) done held front last is class = tt
-ended_mode m done held front last is class =
-    let parts = same_from_push done front (piece (field_class_of m) held) last is in
-    absurd (both_ways _ refl (ap is_line_end_class (ap (λ (p : Piece). p.class) parts.1 ∙ class)))
+ended_mode m done held front last is class = grind (arith, same_from_push, piece, both_ways)
 
 -- how the machine stands in the text, after pieces that end a line: as in the line, if something of it was read
 abbrev pub StandsAfter : List Piece → List ℕ → FieldScanned → FieldScanned → Type 0
@@ -166,9 +160,7 @@ ends_as_read t read sound final =
 -- after CR LF is taken
 pub feed_taken : (t : FieldScanned) (c : ℕ) → t.mode ≡ plain modes.Return → is_line_feed c ≡ true → room_step t c ≡ None → ⊥
 unfolding field_move move_of has_room_at
-feed_taken t c is feeds none =
-    let move : field_move t.mode t.held c ≡ closes = ap (λ m. field_move m t.held c) is ∙ (rw feeds) in
-    let taken : room_step t c ≡ field_moved t c closes = ap (λ v. roomy (has_room_at (frames t) c v) (field_moved t c v)) move in absurd (cc)
+feed_taken t c is feeds none = grind arith
 
 -- in a field no CR is open
 in_string : (l : Level) (ls : List Level) (m : FieldMode) → is_return_at (outer_open (l ∷ ls) m) ≡ false
@@ -197,10 +189,7 @@ module _ (base : List Piece) where
   code_same outer os = refl
 
   open_same : (outer : List Level) (os : List ℕ) (m : FieldMode) → unfinished_in (levels_after base outer) os m ≡ unfinished_in outer os m
-  open_same outer os (plain m) = ap (λ x. if in_short m then Some open_short else (if in_long m then Some open_long else (if is_after_backslash m then Some open_join else x))) (code_same outer os)
-  open_same outer os (empty h) = code_same outer os
-  open_same outer os (body h literal named at) = ap (λ n. Some (unfinished_literal h at (length os + n))) (levels_same base outer)
-  open_same outer os m = refl
+  open_same outer os m = grind (arith, levels_same)
 
   field_after : (outer : List Level) → (outer ≡ [] → ⊥)
       → byte_len (before literal (levels_after base outer)) ≡ byte_len (spelled base) + byte_len (before literal outer)
@@ -216,9 +205,7 @@ field_full limit p (l ∷ ls) text holds some =
 
 -- a specification is that of a field
 quoted_inside : (limit : Limit) (m : FieldMode) (outer : List Level) (text : List ℕ) (c : ℕ) → HoldsLevels limit (text_place m) outer text → quotes_specification m c ≡ true → outer ≡ [] → ⊥
-quoted_inside limit (body host specification named at) [] text c holds quotes none = holds
-quoted_inside limit (body host specification named at) (l ∷ ls) text c holds quotes none = cc
-quoted_inside limit m outer text c holds quotes none = both_ways _ refl quotes
+quoted_inside limit m outer text c holds quotes none = grind arith
 
 -- The machine with fields stands in the whole text as in the line, for this character: the cause is the same, and its place so many
 -- bytes further.
@@ -263,24 +250,15 @@ abbrev between_cause : ℕ → Cause
 between_cause c = if is_break c then breaks_string else (if is_closing c then closes_wrong else (if is_opening c then opens_too_deep else begins_nothing))
 
 between_is : (m : FieldMode) (depth c : ℕ) → IsBetweenLines m → cause_in depth m c ≡ between_cause c
-between_is (plain modes.Start) depth c is = refl
-between_is (plain modes.Free) depth c is = refl
-between_is (plain modes.Return) depth c is = refl
-between_is m depth c is = absurd is
+between_is m depth c is = grind arith
 
 -- at the character itself
 between_place : (t : FieldScanned) (c : ℕ) → (is_break c ≡ true → ⊥) → cause_place t (between_cause c) ≡ here t
-between_place t c other =
-    let P : Cause → Type 0 = λ cause. cause_place t cause ≡ here t in
-    cond_both (is_break c) _ _ P (λ h. absurd (other h)) (λ h. cond_both (is_closing c) _ _ P (λ i. refl) (λ i. cond_both (is_opening c) _ _ P (λ l. refl) (λ l. refl)))
+between_place t c other = grind arith
 
 -- no short string is open, in which a line end is refused
 not_short : (m : FieldMode) → IsBetweenLines m → IsShortHere m → ⊥
-not_short (plain modes.Start) is (inl short) = both_ways _ refl short
-not_short (plain modes.Free) is (inl short) = both_ways _ refl short
-not_short (plain modes.Return) is (inl short) = both_ways _ refl short
-not_short (plain m) is (inr (host, at, short)) = at
-not_short m is short = is
+not_short m is short = grind arith
 
 not_waiting : (m : FieldMode) → IsBetweenLines m → is_waiting m ≡ false
 not_waiting (plain m) is = refl
@@ -292,10 +270,7 @@ first_between (suc n) = tt
 
 -- a character that isn't taken stops the machine
 stuck_by : (t : FieldScanned) (c : ℕ) → room_step t c ≡ None → IsStuck t c
-stuck_by t c none = by (has_room t c) (field_step t c) refl refl none where
-  by : (b : Bool) (o : Option FieldScanned) → has_room t c ≡ b → field_step t c ≡ o → roomy b o ≡ None → IsStuck t c
-  by false o room step refuses = inr room
-  by true o room step refuses = inl (step ∙ refuses)
+stuck_by t c none = grind arith
 
 -- a place in what was scanned
 pub record Within (read : List ℕ) (offset : ℕ) : Type 0 where
@@ -359,18 +334,10 @@ module _ (n : ℕ) (base : List Piece) (balanced : IsBalanced base) (shallow : I
 
 -- where nothing is open at the end, the machine with fields may end
 code_ends : (outer : List Level) (os : List ℕ) → unfinished_code outer os ≡ None → (outer ≡ []) × (os ≡ [])
-code_ends [] [] none = (refl, refl)
-code_ends (l ∷ ls) [] none = absurd (cc)
-code_ends outer (o ∷ os) none = absurd (cc)
+code_ends outer os none = grind arith
 
 none_open_at : (outer : List Level) (os : List ℕ) (m : FieldMode) → unfinished_in outer os m ≡ None → (outer ≡ []) × (os ≡ []) × (may_end m ≡ true)
-none_open_at outer os (plain m) none = by (in_short m) (in_long m) (is_after_backslash m) (final_by m) none where
-  by : (short long slash : Bool) → is_final m ≡ not (short || (long || slash)) → (if short then Some open_short else (if long then Some open_long else (if slash then Some open_join else unfinished_code outer os))) ≡ None → (outer ≡ []) × (os ≡ []) × (is_final m ≡ true)
-  by false false false final none = let both = code_ends outer os none in (both.0, both.1, final)
-  by short long slash final none = absurd (cc)
-none_open_at outer os (empty h) none = let both = code_ends outer os none in (both.0, both.1, refl)
-none_open_at outer os (body h literal named at) none = absurd (cc)
-none_open_at outer os m none = absurd (cc)
+none_open_at outer os m none = grind arith
 
 -- so may a text
 pub finished : (t : FieldScanned) → unfinished_at t ≡ None → IsFieldFinal t

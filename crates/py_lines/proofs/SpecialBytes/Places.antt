@@ -45,33 +45,17 @@ in_block base k le = omega (arith, le)
 -- a byte between, whose bit is not set, is plain
 unset_plain : (text : List ℕ) (from : ℕ) (m : Marks) (k : ℕ) → HasMarks text from m → from ≤ k → k < m.base + 64 → k < length text
     → is_set m.bits (k - m.base) ≡ false → is_plain (slice_index text k) ≡ true
-unset_plain text from m k has le near within none =
-    let bit = has.bits (k - m.base) (omega (arith, near, le, has.base)) in
-    unmarked_plain text from k (ap (is_mark text from) (sym (in_block m.base k (omega (arith, le, has.base)))) ∙ sym bit ∙ none) le within
+unset_plain text from m k has le near within none = grind arith
 
 -- the bytes are passed up to `to`, in the block: the bits before it are cleared
 passed_to : (text : List ℕ) (from to bits : ℕ) (m : Marks) → HasMarks text from m → from ≤ to → to ≤ length text → to ≤ m.base + 64
     → ((k : ℕ) → k < 64 → m.base + k < to → is_set bits k ≡ false) → ((k : ℕ) → k < 64 → to ≤ m.base + k → is_set bits k ≡ is_set m.bits k)
     → HasMarks text to (record m { bits = bits })
-passed_to text from to bits m has le within reach cleared left =
-    record {
-      base = omega (arith, has.base, le);
-      within = within;
-      reach = reach;
-      bits = λ k less. elim (cases_lt (m.base + k) to) [
-        | inl low ↦ cleared k less low ∙ sym (no_mark_before text to (m.base + k) low)
-        | inr high ↦ left k less high ∙ has.bits k less ∙ later_mark text from to (m.base + k) (omega (arith, high, le)) high
-      ];
-      feeds = has.feeds;
-    }
+passed_to text from to bits m has le within reach cleared left = grind arith
 
 pub passes_in_block : (text : List ℕ) (from to : ℕ) (m : Marks) → HasMarks text from m → from ≤ to → to ≤ length text → to - m.base < 64
     → HasMarks text to (record m { bits = bit_and m.bits ((2 ^ 64 - 1) * 2 ^ (to - m.base) % 2 ^ 64) })
-passes_in_block text from to m has le within near =
-    let base : m.base ≤ to = omega (arith, has.base, le) in
-    let bit = λ (k : ℕ) (less : k < 64). cleared_below-is m.bits (to - m.base) k near less in
-    passed_to text from to _ m has le within (omega (arith, near)) (λ k less low. (bit k less).0 (omega (arith, low)))
-    (λ k less high. (bit k less).1 (omega (arith, high, base)))
+passes_in_block text from to m has le within near = grind (arith, cleared_below-is, passed_to)
 
 -- the byte that was passed last is marked again
 pub kept : (text : List ℕ) (place : ℕ) (m : Marks) → m.base ≤ place → place < m.base + 64 → IsSpecial text place → HasMarks text (place + 1) m

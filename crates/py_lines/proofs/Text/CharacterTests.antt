@@ -106,9 +106,7 @@ operator_ascii c h = leb-false 128 c (none_of (λ d. leb 128 d) (codes "+-*/%@&|
 
 pub break-not-others : (c : ℕ) → is_break c ≡ true → (is_opening c ≡ false) × (is_closing c ≡ false) × (is_quote c ≡ false) × (is_backslash c ≡ false)
 unfolding is_break is_opening is_closing is_quote is_backslash
-break-not-others c h =
-    let none : (p : ℕ → Bool) → list_any p (codes "\n\r") ≡ false → p c ≡ false = λ p none. none_of p (codes "\n\r") c none h in
-    (none is_opening refl, none is_closing refl, none is_quote refl, none is_backslash refl)
+break-not-others c h = grind arith
 
 pub return-not-brace : (c : ℕ) → is_return c ≡ true → is_brace c ≡ false
 unfolding is_return is_brace

@@ -1,5 +1,5 @@
 -- Characters that aren't ASCII, their bytes, and tests that make no difference between numbers from 128 on.
-use Rattle.py_lines.proofs.Prelude.{◌≡◌, ℕ, ◌<◌, ◌≤◌, Bool, true, false, List, [], ◌∷◌, ◌++◌, refl, sym, ap, ◌∙◌, ⊎_elim, arith, encode_utf8, encode_utf8_all, list_all, and_from, and_parts, cases_lt, false_from_ne_true, list_all-append}
+use Rattle.py_lines.proofs.Prelude.{◌≡◌, ℕ, ◌<◌, ◌≤◌, Bool, true, List, [], ◌∷◌, ◌++◌, refl, ap, ◌∙◌, ⊎_elim, arith, encode_utf8, encode_utf8_all, list_all, and_from, and_parts, cases_lt, list_all-append}
 use Rattle.py_lines.specs.Piece.{begins}
 use Rattle.py_lines.proofs.Text.CharacterTests.{Each}
 use Rattle.py_lines.proofs.Text.Utf8Shapes.{one, two, three, four}
@@ -23,9 +23,7 @@ IsEvenAbove passes = (c b : ℕ) → 128 ≤ c → 128 ≤ b → passes c ≡ pa
 
 -- as one that ASCII alone passes
 pub low_even : (passes : ℕ → Bool) → ((c : ℕ) → passes c ≡ true → c < 128) → IsEvenAbove passes
-low_even passes low c b one two = none c one ∙ sym (none b two) where
-  none : (d : ℕ) → 128 ≤ d → passes d ≡ false
-  none d high = false_from_ne_true _ (λ h. omega (arith, high, low d h))
+low_even passes low c b one two = grind arith
 
 -- then the bytes of a character pass where it does, and of characters
 high_pass : (passes : ℕ → Bool) → IsEvenAbove passes → (c : ℕ) → 128 ≤ c → passes c ≡ true → (bs : List ℕ) → Each (λ b. 128 ≤ b) bs → list_all passes bs ≡ true

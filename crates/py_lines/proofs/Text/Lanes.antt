@@ -1,6 +1,5 @@
 -- Lanes that pass a test, marked by masks.
-use Rattle.py_lines.proofs.Prelude.{◌≡◌, ℕ, zero, suc, ◌%◌, ◌^◌, ◌≤◌, ◌<◌, ◌&&◌, ◌||◌, not, List, [], ◌∷◌, Bool, true, false, cond, ◌+◌, ◌-◌, ◌*◌, ◌/◌, drop, slice_index, length, map, ◌++◌, replicate, refl, ap, ◌∙◌, arith, w8, w64, bit_and, bit_or, to_z, of_z, prefix_len, bit_not, trailing_ones, count_trailing_zeros, one-le-pow, pow-le-pow_right, pow-suc, chunk, zip2, mask_l, top, chunk-drop, length-chunk, map-map, mask_l-lt, mask_l-mod, zip2_of_maps, zip2_splat, length-map, get_or-drop, get_or-append_right, get_or-replicate, prefix_len-append, prefix_len-le-length, prefix_len_passes, prefix_len_stops, nat_tests, min}
-use lib.Count.{under}
+use Rattle.py_lines.proofs.Prelude.{◌≡◌, ℕ, zero, suc, ◌%◌, ◌^◌, ◌≤◌, ◌<◌, ◌&&◌, ◌||◌, not, List, [], ◌∷◌, Bool, false, cond, ◌+◌, ◌-◌, ◌*◌, drop, slice_index, length, map, ◌++◌, replicate, refl, ap, ◌∙◌, arith, w8, w64, bit_and, bit_or, to_z, of_z, prefix_len, bit_not, trailing_ones, count_trailing_zeros, one-le-pow, pow-le-pow_right, chunk, zip2, mask_l, top, chunk-drop, length-chunk, map-map, mask_l-lt, mask_l-mod, zip2_of_maps, zip2_splat, length-map, get_or-drop, get_or-append_right, get_or-replicate, prefix_len-append, prefix_len-le-length, prefix_len_passes, prefix_len_stops, nat_tests, min}
 use Rattle.py_lines.specs.Private.Run.{IsRunOf, Marks}
 
 -- the same of a mask as a function has it
@@ -54,13 +53,7 @@ tops p vs e = ap (map (top 7)) e ∙ map-map (top 7) (λ x. cond (p x) 255 0) vs
 next_bit : (b : Bool) (k m r : ℕ) → m < 2 ^ k → count_trailing_zeros k (2 ^ k - 1 - m) ≡ r
     → count_trailing_zeros (suc k) (2 ^ suc k - 1 - (cond b 1 0 + 2 * m)) ≡ cond b (1 + r) 0
 unfolding count_trailing_zeros
-next_bit true k m r small rest =
-    let low : (2 ^ suc k - 1 - (1 + 2 * m)) % 2 ≡ 0 = omega (arith, pow-suc 2 k) in
-    let high : (2 ^ suc k - 1 - (1 + 2 * m)) / 2 ≡ 2 ^ k - 1 - m = omega (arith, pow-suc 2 k) in
-    (λ i. under (low i) (count_trailing_zeros k (high i))) ∙ omega (arith, rest)
-next_bit false k m r small rest =
-    let low : (2 ^ suc k - 1 - (0 + 2 * m)) % 2 ≡ 1 = omega (arith, pow-suc 2 k) in
-    ap (λ d. under d (count_trailing_zeros k ((2 ^ suc k - 1 - (0 + 2 * m)) / 2))) low
+next_bit b k m r small rest = grind arith
 
 ones_first : (p : ℕ → Bool) (vs : List ℕ) (k : ℕ) → length vs < k → count_trailing_zeros k (2 ^ k - 1 - mask_l (map p vs)) ≡ prefix_len p vs
 ones_first p vs zero less = absurd (omega arith)
@@ -99,7 +92,4 @@ run_is p xs n is =
 
 -- past the bytes stands what fills the block
 pub filled_past : (bytes : List ℕ) (n k pad : ℕ) → length bytes ≤ k → k < n → slice_index (bytes ++ drop (length bytes) (replicate n pad)) k ≡ pad
-filled_past bytes n k pad past less =
-    get_or-append_right bytes (drop (length bytes) (replicate n pad)) (length bytes) k 0 refl past
-    ∙ get_or-drop (length bytes) (replicate n pad) (k - length bytes) 0
-    ∙ get_or-replicate n (length bytes + (k - length bytes)) pad 0 (omega (arith, less, past))
+filled_past bytes n k pad past less = grind (arith, get_or-append_right, get_or-drop, get_or-replicate)
