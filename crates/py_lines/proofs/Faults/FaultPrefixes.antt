@@ -2,7 +2,7 @@
 use Rattle.py_lines.proofs.Prelude.{⊎_elim, ◌≡◌, ℕ, List, [], ◌∷◌, ◌++◌, sym, ap, ◌∙◌, inl, inr, append_assoc, append-nil, byte, arith}
 use Rattle.py_lines.specs.Piece.{spelled}
 use Rattle.py_lines.specs.PieceGrammar.{joined}
-use Rattle.py_lines.specs.Faults.{Cause, brace_too_deep, breaks_string, breaks_join, ends_specification, begins_nothing, kind_of_cause, Explains, kind_of_unfinished, IsUndecodable, Unfinished, open_brace, open_bracket, open_inside, IsOpenAtEnd, IsFaultAt, at_character, at_bytes, at_end}
+use Rattle.py_lines.specs.Faults.{Cause, brace_too_deep, breaks_string, breaks_join, ends_specification, begins_nothing, Explains, IsUndecodable, Unfinished, open_brace, open_bracket, open_inside, IsOpenAtEnd, IsFaultAt, at_character, at_bytes, at_end}
 use Rattle.py_lines.specs.OpenFields.{Spot, IsOpenString, in_literal, in_specification, InSpecification}
 use Rattle.py_lines.specs.LogicalLine.{byte_len}
 use Rattle.py_lines.specs.FieldStrings.{Host, literal, specification}
@@ -73,13 +73,5 @@ field_fault_prefix kind characters tail offset (at_bytes fault) = prefix_to char
 field_fault_prefix kind characters tail offset (at_end fault) = ended fault.unfinished characters offset fault.ends_in
 
 -- no character and no end of a text has the fault of undecodable bytes
-cause_decodes : (cause : Cause) → ¬ (kind_of_cause cause ≡ faults.BadUtf8)
-cause_decodes brace_too_deep is = cc
-cause_decodes other is = cc
-
-end_decodes : (what : Unfinished) → ¬ (kind_of_unfinished what ≡ faults.BadUtf8)
-end_decodes open_brace is = cc
-end_decodes other is = cc
-
 pub undecodable : (kind : FaultKind) (characters tail : List ℕ) (offset : ℕ) → kind ≡ faults.BadUtf8 → IsFaultAt kind characters tail offset → IsUndecodable kind characters tail offset
-undecodable kind characters tail offset is it5 = grind arith
+undecodable kind characters tail offset is fault = grind arith

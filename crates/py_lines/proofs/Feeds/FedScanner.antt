@@ -15,7 +15,7 @@ use Rattle.py_lines.proofs.Lexings.FirstLines.{first_reading}
 use Rattle.py_lines.proofs.Feeds.Known.{IsKnown, given_bytes, is_known, first_at, goes_at, goes_joined, goes_with_first}
 use Rattle.py_lines.proofs.Feeds.SettledSoFar.{settled_open, settled_ready, ended_before, IsNextLine, next_line}
 use Rattle.py_lines.proofs.Feeds.DecidedSoFar.{undecided}
-use Rattle.py_lines.proofs.Feeds.ReadyLines.{ended_alone, line_alone, pieces_alone, ended_holds, held_within, line_stands, none_read, some_is, text_stands}
+use Rattle.py_lines.proofs.Feeds.ReadyLines.{ended_alone, line_alone, pieces_alone, ended_holds, held_within, line_stands, some_is, text_stands}
 use Rattle.py_lines.proofs.Feeds.LastBytes.{exactly_encoded}
 use Rattle.py_lines.proofs.LineScan.LineSteps.{follows_whole}
 use Rattle.py_lines.proofs.Feeds.OpenLine.{fails_later, holds_on, room_more, left_none, dropped, runs_out}
@@ -278,9 +278,6 @@ module _ {old new : Feed} {piece : List ℕ} {n : ℕ} (t : TakesLine old piece 
   takes_read r = subst (TakesBytes (scanning_of old) piece n) (sym (r.seen t.line t.holds)) t.takes
 
   -- without a line
-  takes_open : new.ready ≡ None → TakesBytes (scanning_of old) piece n (scanning_of new) × IsSoundFeed new
-  takes_open none = let r = none_read t.room none (t.line, t.holds) in (takes_read r, r.sound)
-
   -- where there is no memory for more
   pub takes_short : new.ready ≡ None → {now : Feed} → IsUnchanged new now → TakesLine old piece n now
   takes_short none {now} unchanged = grind arith

@@ -35,7 +35,7 @@ none_before q at h = grind (arith, eq-eqb q q refl)
 
 -- parts aren't empty
 part_begins : (F : Host → List ℕ → Type 0) → BeginOpen F → (host : Host) (place : Place) (named : Bool) (part rest : List ℕ) → IsPart F host place named part rest → (c : ℕ) × (cs : List ℕ) × (part ≡ c ∷ cs)
-part_begins F begin host place named part rest it7 = grind arith
+part_begins F begin host place named part rest is = grind arith
 
 -- the string with this prefix and this quote
 abbrev host_in : ℕ → Bool → List ℕ → Host

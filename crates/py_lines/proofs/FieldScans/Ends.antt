@@ -18,7 +18,7 @@ use Rattle.py_lines.proofs.FieldScans.Frames.{innermost_bracket, innermost_field
 use Rattle.py_lines.specs.Character.{is_backslash, is_brace, is_break, is_quote, is_return}
 use Rattle.py_lines.specs.Piece.{Piece, spelled, begins}
 use Rattle.py_lines.specs.Private.Mode as modes
-use Rattle.py_lines.specs.Private.Machine.{Mode, in_long, in_short, move_of, short_move, long_move}
+use Rattle.py_lines.specs.Private.Machine.{move_of, short_move, long_move}
 use Rattle.py_lines.specs.declared.fault.FaultKind.{FaultKind}
 use Rattle.py_lines.proofs.Text.CharacterTests.{not_quote, the_one}
 use Rattle.py_lines.proofs.FieldMachine.Runs.{room_grows}
@@ -137,12 +137,6 @@ pub by_part : (P : List ℕ → Type 0) (long : Bool) (q : ℕ) → P [] → P (
 by_part P long q none slash back name quotes run part = grind (arith, slash_only, eqb-true, both_ways)
 
 -- in a short string or a long one
-short_open : (m : Mode) → in_short m ≡ true → is_return_at (plain m) ≡ false → OpenText open_short literal (plain m)
-short_open m is none = record { is = λ outer openers. rw is refl; stands = refl; calm = refl; no_return = none }
-
-long_open : (m : Mode) → in_short m ≡ false → in_long m ≡ true → is_return_at (plain m) ≡ false → OpenText open_long literal (plain m)
-long_open m other is none = record { is = λ outer openers. rw (other, is) refl; stands = refl; calm = refl; no_return = none }
-
 pub short_part : (q : ℕ) (run : List ℕ) → is_quote q ≡ true → is_part_of_text false q run ≡ true → StaysOpen open_short literal (plain (modes.Inside q)) run
 unfolding field_move move_of short_move is_backslash is_return is_quote
 short_part q run quote part = grind arith

@@ -12,16 +12,14 @@ use Rattle.py_lines.specs.declared.host.Region.TheVariants as regions
 use Rattle.py_lines.specs.declared.frames.OpenField.{OpenField}
 use Rattle.py_lines.specs.declared.frames.Frame.{Frame}
 use Rattle.py_lines.specs.declared.frames.Frame.TheVariants as frame
-use Rattle.py_lines.specs.declared.mode.Mode.{Mode as OpenMode}
 use Rattle.py_lines.specs.declared.mode.Mode.TheVariants as opens
 use Rattle.py_lines.specs.declared.scan.Scan.{Scan}
 use Rattle.py_lines.specs.declared.scan.Progress.{Progress}
 use Rattle.py_lines.specs.declared.scan.Progress.TheVariants as progress
 use Rattle.py_lines.specs.Private.Machine.{start_of, Bracket, brackets_of, Start as starts}
 use Rattle.py_lines.specs.Private.FieldMachine.{between, body, breaks, Level, FieldScanned, field_state, field_fresh, field_closed, field_move, field_started, field_operator, code_operator, openers_with, field_ended, before, frames, has_room_at, room_step, text_place}
-use Rattle.py_lines.specs.Private.FieldFaults.{cause_in, cause_place, here}
 use Rattle.py_lines.specs.Private.Frames.{IsClosedBy, IsInnermostFrame, OpensFrame}
-use Rattle.py_lines.specs.Private.Scan.{bracket_openers, Follows, FramesFollow, IsFieldFault, TakesOne, ended_in, mode_from, passed, with_bytes, wrong_here}
+use Rattle.py_lines.specs.Private.Scan.{bracket_openers, Follows, FramesFollow, IsFieldFault, TakesOne, ended_in, passed, with_bytes, wrong_here}
 use Rattle.py_lines.proofs.Machine.Starts.{start-operator}
 use Rattle.py_lines.proofs.LineScan.AsciiRuns.{operator-no_break}
 use Rattle.py_lines.proofs.Text.CharacterTests.{each_of, none_of}
@@ -37,13 +35,6 @@ use Rattle.py_lines.proofs.FieldScans.Taking.{Broken, StandsAt, broken, follows_
 -- why a character is refused in code that ends no line
 abbrev pub code_cause : ℕ → Cause
 code_cause c = if is_closing c then closes_wrong else (if is_opening c then opens_too_deep else begins_nothing)
-
-cause_of : (m : OpenMode) (depth c : ℕ) → text_place (mode_from m) ≡ literal → is_break c ≡ false → cause_in depth (mode_from m) c ≡ code_cause c
-cause_of (opens.Fields h regions.Specification named) depth c place none = absurd (cc)
-cause_of m depth c place none = rw none refl
-
-cause_here : (t : FieldScanned) (c : ℕ) → here t ≡ cause_place t (code_cause c)
-cause_here t c = grind arith
 
 -- what is wrong there
 pub fault_in_code : (old : Scan) (t : FieldScanned) (c : ℕ) (kind : FaultKind) → Follows old t → text_place t.mode ≡ literal → is_break c ≡ false → kind_of_cause (code_cause c) ≡ kind → IsFieldFault t c (record { kind = kind; place = old.stop })

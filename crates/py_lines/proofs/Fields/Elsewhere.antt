@@ -116,10 +116,6 @@ pub either_prefix : (x y z : Bool) → (x || y) && z ≡ false → (x && z ≡ f
 either_prefix true y z h = (h, and_right y z h)
 either_prefix false y z h = (refl, h)
 
-more_prefixes : (prefix : List ℕ) → IsNoneOr is_prefix prefix → IsNoneOr (λ p. is_prefix p || is_field_prefix p) prefix
-more_prefixes prefix (inl none) = inl none
-more_prefixes prefix (inr some) = inr (ap (λ b. b || is_field_prefix prefix) some)
-
 pub precede_without : (F : Host → List ℕ → Type 0) (class : Class) (text rest : List ℕ) → MayPrecedeIn (with_fields F) class text rest → MayPrecedePlain class text rest
 precede_without F class text rest before = grind arith
 

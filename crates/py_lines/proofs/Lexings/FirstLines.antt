@@ -110,7 +110,7 @@ begins_with pieces others after rest fit reading read spell few = go (either (sp
   before_mid (c ∷ cs) is = read_before fielded pieces c (cs ++ rest) cs (subst (AreReadBefore pieces) is fit)
 
   by : (mid : List ℕ) → spelled pieces ++ mid ≡ spelled others → Compared Piece pieces others → (more : List Piece) × (others ≡ pieces ++ more)
-  by mid at it2 = grind (arith, append-nil, nil_from_length, length-append, spelled-append, ends_there)
+  by mid at compared = grind (arith, append-nil, nil_from_length, length-append, spelled-append, ends_there)
 
   go : Either (spelled pieces) (spelled others) rest → (more : List Piece) × (others ≡ pieces ++ more)
   go (Either.shorter mid at) =

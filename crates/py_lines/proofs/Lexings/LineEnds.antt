@@ -15,7 +15,7 @@ use Rattle.py_lines.proofs.Fields.OneReading.{read_before, read_nothing}
 
 -- a line end has a first character
 pub line_text : (text : List ℕ) → IsLineEnd text → (c : ℕ) × (cs : List ℕ) × (text ≡ c ∷ cs)
-line_text text it1 = grind arith
+line_text text is = grind arith
 
 -- the last characters of a text are those of its second part
 pub ends-append : (p : ℕ → Bool) (xs : List ℕ) (c : ℕ) (ys : List ℕ) → ends p (xs ++ c ∷ ys) ≡ ends p (c ∷ ys)

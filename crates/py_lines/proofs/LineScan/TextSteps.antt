@@ -41,4 +41,4 @@ base_of n base rest fit (inr (body, last, is, class, level)) size =
 
 -- a line after others begins with no mark
 pub follows_base : (n : ℕ) (base u : List Piece) → Base n base → (first_mode n ≡ modes.Free → begins_marked u ≡ false) → MayFollow base u
-follows_base n base u it3 unmarked = grind arith
+follows_base n base u is unmarked = grind arith

@@ -67,7 +67,7 @@ line_counts = run_counts is_line_byte refl
 -- a line end
 outer_counts : (text after : List ℕ) → IsOuterEnd text after → 1 + line_ends after ≡ line_ends (text ++ after)
 unfolding is_line_feed is_return
-outer_counts text after it2 = grind arith
+outer_counts text after is = grind arith
 
 pub end_counts : (bytes : List ℕ) (at len : ℕ) → BeginsOuterEnd (drop at bytes) len → CountsTo bytes at (at + len) 1
 end_counts bytes at len begins =

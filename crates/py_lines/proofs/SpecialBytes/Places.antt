@@ -28,10 +28,6 @@ no_mark_before text from k less = grind (arith, nat_tests)
 later_mark : (text : List ℕ) (from to k : ℕ) → from ≤ k → to ≤ k → is_mark text from k ≡ is_mark text to k
 later_mark text from to k a b = grind (arith, nat_tests)
 
--- a byte without a mark is plain, and one that isn't plain has one
-unmarked_plain : (text : List ℕ) (from k : ℕ) → is_mark text from k ≡ false → from ≤ k → k < length text → is_plain (slice_index text k) ≡ true
-unmarked_plain text from k none le within = grind (arith, nat_tests)
-
 pub marked : (text : List ℕ) (from k : ℕ) → from ≤ k → k < length text → is_mark text from k ≡ not (is_plain (slice_index text k))
 marked text from k le within = grind (arith, nat_tests)
 
