@@ -1,3 +1,4 @@
+use Rattle.std.proofs.lemmas.Grind.{common_steps}
 use Rattle.py_lines.proofs.Prelude.{◌≡◌, ◌+◌, arith, count_by, count_by-le-length, le_refl, length-drop, ones, take_rest}
 use Rattle.py_lines.proofs.SpecialBytes.Places.{filled_count}
 use Rattle.py_lines.proofs.line_ends.line_feeds.Goals as goal
@@ -33,3 +34,12 @@ overflow_add-result c = omega (arith, c.well_formed, all (goal.at.overflow_add-r
 
 pub returns : goal.returns
 returns c = all (goal.at.returns c).After-feeds64-2
+
+pub overflow_cast-count : goal.overflow_cast-count
+overflow_cast-count c = grind (arith, common_steps)
+
+pub copy_from_slice-requires : goal.copy_from_slice-requires
+copy_from_slice-requires c = grind (arith, common_steps)
+
+pub overflow_cast-result : goal.overflow_cast-result
+overflow_cast-result c = grind (arith, common_steps)

@@ -1,3 +1,4 @@
+use Rattle.std.proofs.lemmas.Grind.{common_steps}
 use Rattle.py_lines.specs.Private.LongStrings.{TakesLong}
 use Rattle.py_lines.specs.Private.Passing.{TellsFields, tail_of}
 use Rattle.py_lines.specs.Private.Scan.{passed}
@@ -18,3 +19,12 @@ returns c =
       size = refl;
       text = subst (λ xs. TakesLong passed (slice_index bytes at) xs c.in_ok-len.len) (rest_is bytes (at + 3)) c.in_ok-len.ensures;
     }
+
+pub returns-in_default : goal.returns-in_default
+returns-in_default c = grind (arith, common_steps)
+
+pub returns-in_default-2 : goal.returns-in_default-2
+returns-in_default-2 c = grind (arith, common_steps)
+
+pub returns-in_err-len : goal.returns-in_err-len
+returns-in_err-len c = grind (arith, common_steps)

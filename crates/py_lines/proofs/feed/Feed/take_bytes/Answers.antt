@@ -1,3 +1,4 @@
+use Rattle.std.proofs.lemmas.Grind.{common_steps}
 use Rattle.py_lines.proofs.Prelude.{ap, ◌∙◌, not, subst, length, take, length-append, length-drop, arith, length-take-le, err_from_is_err_and}
 use Rattle.py_lines.specs.Private.Feed.{EndsWithLine, StandsSo}
 use Rattle.py_lines.proofs.Feeds.FedScanner.{errs, fails_more, known_fault, meets, rest_is, settled_held, taken, takes_more, takes_short}
@@ -62,3 +63,6 @@ returns-else-is_none c = taken c.args.self.now c.requires.sound c.in_default.is 
 
 pub returns-after-loop-taken : goal.returns-after-loop-taken
 returns-after-loop-taken c = taken c.args.self.now c.requires.sound c.in_default.is c.requires.not_ready c.args.piece.now c.requires.fits c.loop-taken.invariant
+
+pub loop-taken-smaller : goal.loop-taken-smaller
+loop-taken-smaller c = grind (arith, common_steps)

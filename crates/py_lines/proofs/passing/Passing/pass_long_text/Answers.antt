@@ -1,3 +1,4 @@
+use Rattle.std.proofs.lemmas.Grind.{common_steps}
 use Rattle.py_lines.proofs.Prelude.{◌+◌, ◌≡◌, ◌∙◌, ap, arith, drop, length-drop, slice_index, subst, sym, drop-drop}
 use Rattle.py_lines.specs.Private.LongStrings.{TakesLong}
 use Rattle.py_lines.specs.Private.Marks.{HasMarks}
@@ -33,3 +34,21 @@ returns-clause-passed c = λ _ place b.
     (omega (arith, c.pass_to.ensures.counted, c.requires.counted, plain_counts bytes old.all at next.after next.within next.plain))
     (subst (λ k. HasMarks bytes k new.marks) (sym to) c.pass_to.ensures.marked)
     (λ scan p frames. long_over p _ (next.special meets.within) meets.quote _ n (meets.many ∙ ap quotes_in from) text is.before)
+
+pub returns-in_default-clause-passed : goal.returns-in_default-clause-passed
+returns-in_default-clause-passed c = grind (arith, common_steps)
+
+pub returns-in_default-clause-same : goal.returns-in_default-clause-same
+returns-in_default-clause-same c = grind (arith, common_steps)
+
+pub pass_to-requires-clause-counted : goal.pass_to-requires-clause-counted
+pass_to-requires-clause-counted c = grind (arith, common_steps)
+
+pub pass_to-requires-clause-further : goal.pass_to-requires-clause-further
+pass_to-requires-clause-further c = grind (arith, common_steps)
+
+pub pass_to-requires-clause-within : goal.pass_to-requires-clause-within
+pass_to-requires-clause-within c = grind (arith, common_steps)
+
+pub returns-clause-same : goal.returns-clause-same
+returns-clause-same c = grind (arith, common_steps)
