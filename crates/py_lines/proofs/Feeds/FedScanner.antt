@@ -277,8 +277,7 @@ module _ {old new : Feed} {piece : List ℕ} {n : ℕ} (t : TakesLine old piece 
   pub takes_read : {now : Feed} → HasReadTokens new now → TakesBytes (scanning_of old) piece n (scanning_of now)
   takes_read r = subst (TakesBytes (scanning_of old) piece n) (sym (r.seen t.line t.holds)) t.takes
 
-  -- without a line
-  -- where there is no memory for more
+  -- without a line, where there is no memory for more
   pub takes_short : new.ready ≡ None → {now : Feed} → IsUnchanged new now → TakesLine old piece n now
   takes_short none {now} unchanged = grind arith
 
