@@ -1,6 +1,5 @@
 -- Lines that end with LF are passed, up to another byte that isn't plain.
-use Rattle.py_lines.proofs.Prelude.{◌≡◌, ℕ, zero, suc, ◌+◌, ◌-◌, ◌<◌, ◌≤◌, ◌==◌, false, ⊎_elim, inl, inr, List, [], ◌∷◌, ◌++◌, length, take, drop, slice_index, refl, sym, ap, ◌∙◌, subst, arith, length-drop, get_or-drop, transport, cases_lt, ne_eqb, or_cases}
-use Rattle.py_lines.specs.Character.{is_line_feed}
+use Rattle.py_lines.proofs.Prelude.{◌⊎◌, ◌≡◌, ℕ, suc, ◌+◌, ◌-◌, ◌<◌, ◌≤◌, ◌==◌, false, inl, inr, List, [], ◌∷◌, ◌++◌, length, take, drop, slice_index, refl, sym, ap, ◌∙◌, subst, arith, length-drop, get_or-drop, transport, ne_eqb}
 use Rattle.py_lines.specs.declared.frames.Frame.{Frame}
 use Rattle.py_lines.specs.declared.passing.Passing.{Passing}
 use Rattle.py_lines.specs.declared.scan.Scan.{Scan}
@@ -13,12 +12,11 @@ use Rattle.py_lines.proofs.FieldScans.PlainCode.{over_code}
 use Rattle.py_lines.proofs.FieldScans.Taking.{free_at}
 use Rattle.py_lines.proofs.LineScan.AsciiRuns.{all_pass}
 use Rattle.py_lines.proofs.LineScan.WholeLines.{HasPassedLines, HavePassed, ends_there, goes_on, here, left}
-use Rattle.py_lines.proofs.PassedPieces.LineFeeds.{lines_again}
+use Rattle.py_lines.proofs.PassedPieces.LineFeeds.{feeds_over, lines_again}
 use Rattle.py_lines.proofs.PassedPieces.Items.{break_ends, break_over}
 use Rattle.py_lines.proofs.PassedPieces.Passed.{cut, cut-length}
 use Rattle.py_lines.proofs.PassedPieces.PlainBytes.{PlainTo, plain_run}
 use Rattle.py_lines.proofs.SpecialBytes.Places.{ends_special}
-use Rattle.py_lines.proofs.Text.CharacterTests.{feed_is}
 
 -- over plain bytes and LF
 module _ (bytes : List ℕ) (lines all at : ℕ) (more : all ≤ at) (within : at < length bytes) (plain : ArePlain bytes all at)
@@ -57,32 +55,20 @@ module _ (bytes : List ℕ) (lines all at : ℕ) (more : all ≤ at) (within : a
       (transport (λ i. Takes (here on) (seen i) (length run + 1) (free_at (p.frames i) (all - lines + (length run + 1))))
       (break_over p 10 after ends_special.0 1 feed_breaks.0 begins (ap (λ (fs : List Frame). length fs == 0) p.frames ∙ some)))
 
--- and so on, where the bytes up to `at` are plain
-module _ {bytes : List ℕ} (fs : List Frame) {from to : ℕ} (ends : EndInFeed bytes from to) where
-  feeds_from : (n lines all at : ℕ) → at + n + 1 ≡ to → from ≤ at → all ≤ at → ArePlain bytes all at → HavePassed bytes fs lines all
-      → HavePassed bytes fs (lines_with fs lines to) to
-  feeds_from zero lines all at is first more plain on =
-      let last : at ≡ to - 1 = omega (arith, is) in let there : at + 1 ≡ to = omega (arith, is) in
-      let feed = ap (λ n. is_line_feed (slice_index bytes n)) last ∙ ends.last in
-      subst (λ n. HavePassed bytes fs (lines_with fs lines n) n) there
-      (one_feed bytes lines all at more (omega (arith, is, ends.within)) plain (feed_is _ feed) fs on)
-  feeds_from (suc n) lines all at is first more plain on =
-      let next : at + 1 + n + 1 ≡ to = omega (arith, is) in
-      elim (or_cases (is_plain (slice_index bytes at)) _ (ends.each at first (omega (arith, is)))) [
-        | inl other ↦
-            feeds_from n lines all (at + 1) next (omega (arith, first)) (omega (arith, more)) (λ i after upto within. ⊎_elim (λ less. plain i after less within)
-            (λ later. let same : i ≡ at = omega (arith, later, upto) in ap (λ n. is_plain (slice_index bytes n)) same ∙ other) (cases_lt i at)) on
-        | inr feed ↦
-            subst (λ k. HavePassed bytes fs k to) (lines_again fs lines (at + 1) to)
-            (feeds_from n (lines_with fs lines (at + 1)) (at + 1) (at + 1) next (omega (arith, first)) (omega arith)
-            (λ i after upto within. absurd (omega (arith, after, upto)))
-            (one_feed bytes lines all at more (omega (arith, is, ends.within)) plain (feed_is _ feed) fs on))
-      ]
+-- and over all LF up to `to`
+pub feeds_passed : {bytes : List ℕ} (fs : List Frame) {from to : ℕ} → EndInFeed bytes from to → (lines : ℕ) → HavePassed bytes fs lines from
+    → HavePassed bytes fs (lines_with fs lines to) to
+feeds_passed {bytes} fs ends lines on = feeds_over ends Before After (λ n. inr) one (inl on) where
+  After : ℕ → Type 0
+  After n = HavePassed bytes fs (lines_with fs lines n) n
 
-  pub feeds_passed : (lines : ℕ) → HavePassed bytes fs lines from → HavePassed bytes fs (lines_with fs lines to) to
-  feeds_passed lines =
-      feeds_from (to - from - 1) lines from from (omega (arith, ends.further)) (omega arith) (omega arith)
-      (λ i after upto within. absurd (omega (arith, after, upto)))
+  Before : ℕ → Type 0
+  Before n = HavePassed bytes fs lines n ⊎ After n
+
+  one : (all at : ℕ) → all ≤ at → at < length bytes → ArePlain bytes all at → slice_index bytes at ≡ 10 → Before all → After (at + 1)
+  one all at more within plain feed (inl first) = one_feed bytes lines all at more within plain feed fs first
+  one all at more within plain feed (inr later) =
+      subst (λ k. HavePassed bytes fs k (at + 1)) (lines_again fs lines all (at + 1)) (one_feed bytes _ all at more within plain feed fs later)
 
 lines_more : (fs : List Frame) (lines to : ℕ) → lines ≤ to → lines ≤ lines_with fs lines to
 lines_more [] lines to more = more

@@ -1,23 +1,22 @@
 -- LF in brackets are passed, up to another byte that isn't plain.
-use Rattle.py_lines.proofs.Prelude.{◌≡◌, ℕ, zero, suc, ◌+◌, ◌-◌, ◌<◌, ◌≤◌, ◌==◌, false, ⊎_elim, inl, inr, List, ◌∷◌, ◌++◌, length, take, drop, slice_index, refl, sym, ap, ◌∙◌, subst, arith, length-drop, get_or-drop, transport, cases_lt, or_cases}
-use Rattle.py_lines.specs.Character.{is_line_feed}
+use Rattle.py_lines.proofs.Prelude.{◌≡◌, ℕ, ◌+◌, ◌-◌, ◌<◌, ◌≤◌, ◌==◌, false, inl, inr, List, ◌∷◌, ◌++◌, length, take, drop, slice_index, refl, sym, ap, ◌∙◌, subst, arith, length-drop, get_or-drop, transport}
 use Rattle.py_lines.specs.declared.frames.Frame.{Frame}
 use Rattle.py_lines.specs.declared.passing.Passing.{Passing}
 use Rattle.py_lines.specs.declared.scan.Scan.{Scan}
 use Rattle.py_lines.specs.Private.Frames.{has_field}
 use Rattle.py_lines.specs.Private.LineEnds.{BeginsOuterEnd}
-use Rattle.py_lines.specs.Private.Marks.{ArePlain, EndInFeed, is_plain}
+use Rattle.py_lines.specs.Private.Marks.{ArePlain, is_plain}
 use Rattle.py_lines.specs.Private.Passing.{FindsSpecial, IsCounted, PassesSo, with_frames}
 use Rattle.py_lines.specs.Private.Scan.{Takes, passed}
 use Rattle.py_lines.proofs.FieldScans.LineEnds.{feed_breaks}
 use Rattle.py_lines.proofs.FieldScans.Taking.{free_at}
 use Rattle.py_lines.proofs.LineScan.AsciiRuns.{all_pass}
 use Rattle.py_lines.proofs.PassedPieces.Items.{break_over}
+use Rattle.py_lines.proofs.PassedPieces.LineFeeds.{feeds_over}
 use Rattle.py_lines.proofs.PassedPieces.Passed.{cut, cut-length}
 use Rattle.py_lines.proofs.PassedPieces.Pieces.{HasPassed, takes_further, takes_so}
 use Rattle.py_lines.proofs.PassedPieces.PlainBytes.{PlainTo, plain_run}
 use Rattle.py_lines.proofs.SpecialBytes.Places.{ends_special}
-use Rattle.py_lines.proofs.Text.CharacterTests.{feed_is}
 
 module _ (old scan : Scan) (bytes : List ℕ) (outside : has_field scan.frames ≡ false) (some : length scan.frames == 0 ≡ false) where
   -- bytes were passed, up to this one
@@ -43,29 +42,6 @@ module _ (old scan : Scan) (bytes : List ℕ) (outside : has_field scan.frames �
       (transport (λ i. Takes here (seen i) (len i) (free_at (p.frames i) (far i)))
       (break_over p 10 after ends_special.0 1 feed_breaks.0 begins (ap (λ (fs : List Frame). length fs == 0) p.frames ∙ some)))
 
-  -- and so on, where the bytes up to `at` are plain
-  module _ {from to : ℕ} (ends : EndInFeed bytes from to) where
-    feeds_from : (n all at : ℕ) → at + n + 1 ≡ to → from ≤ at → all ≤ at → ArePlain bytes all at → To all → To to
-    feeds_from zero all at is first more plain on =
-        let last : at ≡ to - 1 = omega (arith, is) in let there : at + 1 ≡ to = omega (arith, is) in
-        let feed = ap (λ n. is_line_feed (slice_index bytes n)) last ∙ ends.last in
-        subst To there (one_feed all at more (omega (arith, is, ends.within)) plain (feed_is _ feed) on)
-    feeds_from (suc n) all at is first more plain on =
-        let next : at + 1 + n + 1 ≡ to = omega (arith, is) in
-        elim (or_cases (is_plain (slice_index bytes at)) _ (ends.each at first (omega (arith, is)))) [
-          | inl other ↦
-              feeds_from n all (at + 1) next (omega (arith, first)) (omega (arith, more)) (λ i after upto within. ⊎_elim (λ less. plain i after less within)
-              (λ later. let same : i ≡ at = omega (arith, later, upto) in ap (λ n. is_plain (slice_index bytes n)) same ∙ other) (cases_lt i at)) on
-          | inr feed ↦
-              feeds_from n (at + 1) (at + 1) next (omega (arith, first)) (omega arith) (λ i after upto within. absurd (omega (arith, after, upto)))
-              (one_feed all at more (omega (arith, is, ends.within)) plain (feed_is _ feed) on)
-        ]
-
-    feeds_to : To from → To to
-    feeds_to =
-        feeds_from (to - from - 1) from from (omega (arith, ends.further)) (omega arith) (omega arith)
-        (λ i after upto within. absurd (omega (arith, after, upto)))
-
 -- so the next byte that isn't plain is found, where something is open
 module _ (old scan : Scan) (bytes : List ℕ) (at to : ℕ) (p q r : Passing) (c : List Frame) (on : HasPassed old bytes at scan p)
     (so : PassesSo bytes at (scan.stop + at) p scan.frames q c) (finds : FindsSpecial bytes c q to r) where
@@ -79,6 +55,6 @@ module _ (old scan : Scan) (bytes : List ℕ) (at to : ℕ) (p q r : Passing) (c
       let (takes, all) : Takes old bytes r.all (passed (with_frames scan c) r.all) × IsCounted bytes r = elim finds.passes [
         | inl same ↦
             (subst (λ n. Takes old bytes n (passed (with_frames scan c) n)) (ap (λ (r : Passing). r.all) (sym same)) there, subst (IsCounted bytes) (sym same) counted)
-        | inr (ends, more, same) ↦ (feeds_to old (with_frames scan c) bytes outside some ends there, more ∙ counted)
+        | inr (ends, more, same) ↦ (feeds_over ends _ (To old (with_frames scan c) bytes outside some) (λ _ on. on) (one_feed old (with_frames scan c) bytes outside some) there, more ∙ counted)
       ] in
       (record { same = ap (λ (s : Scan). with_frames s c) on.same; outside = outside; takes = takes; next = finds.next }, all)

@@ -1,5 +1,5 @@
 -- LF that are passed before the next other byte that isn't plain, in one block of 64 bytes after another.
-use Rattle.py_lines.proofs.Prelude.{◌≡◌, ℕ, ◌+◌, ◌<◌, ◌≤◌, ◌||◌, true, List, [], ◌∷◌, drop, slice_index, refl, sym, ap, ◌∙◌, subst, arith, inl, inr, cases_lt}
+use Rattle.py_lines.proofs.Prelude.{◌≡◌, ℕ, ◌+◌, ◌<◌, ◌≤◌, ◌||◌, true, List, [], ◌∷◌, drop, slice_index, refl, sym, ap, ◌∙◌, subst, arith, inl, inr, cases_lt, zero, suc, ◌-◌, length, ⊎_elim, or_cases}
 use Rattle.py_lines.specs.Character.{is_line_feed}
 use Rattle.py_lines.specs.declared.frames.Frame.{Frame}
 use Rattle.py_lines.specs.declared.marks.Marks.{Marks}
@@ -9,6 +9,7 @@ use Rattle.py_lines.specs.Private.LineEnds.{CountsTo}
 use Rattle.py_lines.specs.Private.Marks.{Advances, ArePlain, EndInFeed, FindsNext, HasMarks, is_plain}
 use Rattle.py_lines.specs.Private.Passing.{CountsOn, FindsSpecial, IsCounted, PassesBlock, PassesLineFeeds, lines_with, passed_feeds}
 use Rattle.py_lines.proofs.PassedPieces.Counts.{plain_counts}
+use Rattle.py_lines.proofs.Text.CharacterTests.{feed_is}
 
 -- the LF up to here were passed, and the bytes between them and those of the marks are plain
 pub record ComesTo (bytes : List ℕ) (fs : List Frame) (old new : Passing) : Type 0 where
@@ -39,6 +40,31 @@ plain_on bytes a b c first second i from less within = elim (cases_lt i b) [ inl
 pub lines_again : (fs : List Frame) (lines a b : ℕ) → lines_with fs (lines_with fs lines a) b ≡ lines_with fs lines b
 lines_again [] lines a b = refl
 lines_again (f ∷ fs) lines a b = refl
+
+-- Bytes up to LF, plain ones and LF, one LF after another: what holds of the bytes before them comes to what holds of those with each.
+module _ {bytes : List ℕ} {from to : ℕ} (ends : EndInFeed bytes from to) (Before After : ℕ → Type 0) (kept : (n : ℕ) → After n → Before n)
+    (one : (all at : ℕ) → all ≤ at → at < length bytes → ArePlain bytes all at → slice_index bytes at ≡ 10 → Before all → After (at + 1)) where
+  -- where the bytes up to `at` are plain
+  feeds_from : (n all at : ℕ) → at + n + 1 ≡ to → from ≤ at → all ≤ at → ArePlain bytes all at → Before all → After to
+  feeds_from zero all at is first more plain on =
+      let last : at ≡ to - 1 = omega (arith, is) in let there : at + 1 ≡ to = omega (arith, is) in
+      let feed = ap (λ n. is_line_feed (slice_index bytes n)) last ∙ ends.last in
+      subst After there (one all at more (omega (arith, is, ends.within)) plain (feed_is _ feed) on)
+  feeds_from (suc n) all at is first more plain on =
+      let next : at + 1 + n + 1 ≡ to = omega (arith, is) in
+      elim (or_cases (is_plain (slice_index bytes at)) _ (ends.each at first (omega (arith, is)))) [
+        | inl other ↦
+            feeds_from n all (at + 1) next (omega (arith, first)) (omega (arith, more)) (λ i after upto within. ⊎_elim (λ less. plain i after less within)
+            (λ later. let same : i ≡ at = omega (arith, later, upto) in ap (λ n. is_plain (slice_index bytes n)) same ∙ other) (cases_lt i at)) on
+        | inr feed ↦
+            feeds_from n (at + 1) (at + 1) next (omega (arith, first)) (omega arith) (λ i after upto within. absurd (omega (arith, after, upto)))
+            (kept _ (one all at more (omega (arith, is, ends.within)) plain (feed_is _ feed) on))
+      ]
+
+  pub feeds_over : Before from → After to
+  feeds_over =
+      feeds_from (to - from - 1) from from (omega (arith, ends.further)) (omega arith) (omega arith)
+      (λ i after upto within. absurd (omega (arith, after, upto)))
 
 module _ {bytes : List ℕ} {fs : List Frame} {old mid : Passing} (come : ComesTo bytes fs old mid) where
   counts : CountsOn bytes old mid
