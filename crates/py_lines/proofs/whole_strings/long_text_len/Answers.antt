@@ -1,4 +1,3 @@
-use Rattle.std.proofs.lemmas.Grind.{common_steps}
 use Rattle.py_lines.specs.Private.LongStrings.{TakesLong}
 use Rattle.py_lines.specs.Private.Scan.{passed, with_bytes}
 use Rattle.py_lines.proofs.Prelude.{◌+◌, ap, arith, length, length-drop, refl}
@@ -35,12 +34,3 @@ overflow_add-len-in-items c = omega (arith, (grown c).within, c.well_formed)
 
 pub items-preserved : goal.items-preserved
 items-preserved c = grown (goal.at.items-preserved c).After-characters_in-len-in-items
-
-pub returns-in_default : goal.returns-in_default
-returns-in_default c = grind (arith, common_steps)
-
-pub items-smaller : goal.items-smaller
-items-smaller c = grind (arith, common_steps)
-
-pub returns : goal.returns
-returns c = grind (arith, common_steps)

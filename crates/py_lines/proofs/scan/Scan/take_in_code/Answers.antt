@@ -1,4 +1,3 @@
-use Rattle.std.proofs.lemmas.Grind.{common_steps}
 use Rattle.py_lines.proofs.Prelude.{arith}
 use Rattle.py_lines.specs.Character.{is_mark}
 use Rattle.py_lines.proofs.FieldScans.CodeItems.{mark_taken, nothing_waits, piece_grows}
@@ -19,6 +18,3 @@ returns-in-Some-with c = λ t follow.
 
 pub overflow_add-self : goal.overflow_add-self
 overflow_add-self c = omega (arith, first_size c.in-Some.ensures, c.len_utf8-len.ensures.value, c.requires.bytes)
-
-pub returns : goal.returns
-returns c = grind (arith, common_steps)
