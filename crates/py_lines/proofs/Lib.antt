@@ -54,11 +54,13 @@
 -- that the text spells. Each class of pieces begins with other bytes. A word, a space or a comment is the run of bytes that
 -- the text begins with, since what follows it can't go on with it. A string is what the scan closes first (FirstString): by one
 -- reading no other piece stands there. So what was read is always the first part of the line's pieces, and at the end all of them. A simple
--- line is read before its end is known: each of its pieces is the same wherever after it the line ends (Anyway).
+-- line is read before its end is known: each of its pieces is the same wherever after it the line ends (Anyway). The indentation of a line,
+-- and what it holds, are told by its first bytes, since it is one line (Outlines).
 --
 -- Bytes that open or close something (proofs/SpecialBytes), and LF, are found by masks of 64 bytes.
 --
--- The reader (proofs/Readers) puts these together for one call: a line, a fault or the end.
+-- The reader (proofs/Readers) puts these together for one call: a line, a fault or the end. A line that is given without its tokens is the
+-- outline of the line that it is with them (GivenLines).
 --
 -- Pieces (proofs/Feeds, over Lexings): from the state of the scan, the theorems over plain lists say which lines the
 -- bytes fed settle, and whether they decide a fault. Of the bytes fed no more are taken than up to the line's end, so

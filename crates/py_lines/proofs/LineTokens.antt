@@ -8,3 +8,4 @@ pub mod FirstString
 pub mod Strings
 pub mod Lines
 pub mod Anyway
+pub mod Outlines

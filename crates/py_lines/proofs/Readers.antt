@@ -2,4 +2,5 @@
 pub mod LineFaults
 pub mod LineAnswers
 pub mod NextLines
+pub mod GivenLines
 pub mod PassedLines

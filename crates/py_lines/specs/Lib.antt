@@ -22,6 +22,7 @@ pub mod ScannerState
 pub mod Reader
 pub mod Token
 pub mod FaultWords
+pub mod Outline
 pub mod UnitLine
 pub mod Lines
 pub mod Private

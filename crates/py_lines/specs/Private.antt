@@ -10,6 +10,7 @@ pub mod Scan
 pub mod FieldText
 pub mod LineScan
 pub mod LineEnds
+pub mod Outline
 pub mod LineState
 pub mod SimpleLine
 pub mod LineTokens

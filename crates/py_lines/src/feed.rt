@@ -2,6 +2,7 @@
 
 use crate::fault::{FaultKind, LexError};
 use crate::line_state::LineState;
+use crate::line_tokens::read_line;
 use crate::scan::Stop;
 
 /// The text since the line that was released last, and how far it was scanned.
@@ -52,7 +53,18 @@ impl Feed {
         let Some(end_len) = self.ready else {
             return Ok(());
         };
-        match self.state.read_tokens(&self.held, end_len) {
+        let state = &mut self.state;
+        let stop = state.scan.stop;
+        let read = read_line(
+            &mut state.tokens,
+            &mut state.scan,
+            &self.held[..stop],
+            end_len,
+            state.line,
+        );
+        // The scan was lent for the strings of the line.
+        state.scan.stop = stop;
+        match read {
             Ok(line) => {
                 self.next_line = line;
                 Ok(())

@@ -31,4 +31,4 @@ pub use fault::{Fault, FaultKind, LexError};
 pub use lines::Lines;
 pub use scanner::Scanner;
 pub use token::{TokKind, Token};
-pub use unit::{Unit, UnitKind};
+pub use unit::{Line, Unit, UnitKind};

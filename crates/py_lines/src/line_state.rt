@@ -2,16 +2,15 @@
 
 ghost use Rattle.py_lines.specs.Private.LineScan.{first_open};
 ghost use Rattle.py_lines.specs.Private.LineState.{first_mode};
-ghost use Rattle.std.specs.Prelude.{◌≡◌, ℕ, ◌+◌, ◌<◌, ◌≤◌, ◌^◌, length, take, IfOk, IsUtf8, OnOk};
+ghost use Rattle.std.specs.Prelude.{◌≡◌, ◌+◌, ◌<◌, ◌^◌, length, IfOk};
 ghost use Rattle.std.specs.Option.{IfSome};
 
 use crate::fault::{Fault, FaultKind, LexError};
 use crate::line_ends::line_ends;
-use crate::line_tokens::LineTokens;
 use crate::mode::Mode;
 use crate::scan::{LineFault, Scan, Stop};
 use crate::simple_line::read_simple_line;
-use crate::unit::Unit;
+use crate::token::Token;
 use std::alloc::{AllocError, Global};
 
 /// What is open where a line begins at this byte: a mark may stand at the text's start.
@@ -33,12 +32,12 @@ pub struct LineState {
     /// The scan of the next line, or of the one that was read last.
     pub scan: Scan,
     /// The tokens of the line that was read last.
-    pub tokens: LineTokens,
+    pub tokens: Vec<Token>,
 }
 
 impl LineState {
-    ghost use Rattle.py_lines.specs.Private.LineState.{BeginsAnew, BeginsAt, EachLiesIn, HoldsTokens, IsLineAfter, IsLineText, KeepsFault, ReadsLine};
-    ghost use Rattle.py_lines.specs.Private.LineState.{ScansLine, first_mode, line_in, passed, read_line, reread, rescanned, with_tokens};
+    ghost use Rattle.py_lines.specs.Private.LineState.{BeginsAnew, BeginsAt, KeepsFault, ReadsLine, ScansLine, first_mode, passed, reread};
+    ghost use Rattle.py_lines.specs.Private.LineState.{rescanned};
 
     /// At this byte of a text, which is on this line. Nothing of the next line is read.
     pub fn at(alloc: Global, place: u64, line: u64) -> LineState
@@ -49,7 +48,7 @@ impl LineState {
             line,
             fault: None,
             scan: Scan::new(first_mode(place)),
-            tokens: LineTokens::new(alloc),
+            tokens: Vec::new(alloc),
         }
     }
 
@@ -101,23 +100,6 @@ impl LineState {
         }
     }
 
-    /// Reads the tokens of the next line, with which these bytes begin, up to where the scan stopped, and answers the line after it. The
-    /// last `end_len` bytes up to there are its line end. The scan is lent for its strings: where it stopped is as it was.
-    pub fn read_tokens(&mut self, bytes: &[u8], end_len: usize) -> Result<u64, AllocError>
-        requires within { self.old.scan.stop ≤ length bytes.now }
-        requires text { IsLineText (take self.old.scan.stop bytes.now) end_len }
-        requires lines { self.old.line + self.old.scan.stop < 2 ^ 64 }
-        ensures same { self.new ≡ with_tokens self.old self.new }
-        ensures tokens { OnOk result (HoldsTokens (take self.old.scan.stop bytes.now) end_len self.old.line self.new.tokens) }
-        ensures after { IfOk result (IsLineAfter self.old.line (take self.old.scan.stop bytes.now) end_len) }
-    {
-        let stop = self.scan.stop;
-        let text = &bytes[..stop];
-        let read = self.tokens.read(&mut self.scan, text, end_len, self.line);
-        self.scan.stop = stop;
-        read
-    }
-
     /// The text has this fault, from now on. It stands after these bytes, with which the next line begins.
     pub fn fail(&mut self, kind: FaultKind, before: &[u8]) -> LexError
         requires bytes { self.old.place + length before.now < 2 ^ 64 }
@@ -131,26 +113,5 @@ impl LineState {
         };
         self.fault = Some(fault);
         LexError::Fault(fault)
-    }
-
-    /// The line whose tokens were read: this text at this byte and on this line, with so many bytes of line end.
-    #[inline(always)]
-    pub fn unit<'s>(&'s self, text: &'s [u8], offset: u64, line: u64, end_len: usize) -> Unit<'s>
-        requires tokens { EachLiesIn text.now self.now.tokens.tokens.items }
-        requires utf8 { IsUtf8 text.now }
-        requires fits { offset + length text.now < 2 ^ 64 }
-        ensures line { line_in result ≡ read_line self.now text.now offset line end_len }
-        ensures text { result.text.now ≡ text.now }
-    {
-        Unit {
-            kind: self.tokens.kind,
-            // The scan read it as characters.
-            text: unsafe { std::str::from_utf8_unchecked(text) },
-            tokens: self.tokens.tokens.as_slice(),
-            offset,
-            line,
-            indent: self.tokens.indent,
-            end_len,
-        }
     }
 }

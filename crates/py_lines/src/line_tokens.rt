@@ -1,6 +1,6 @@
 //! The tokens of a whole logical line, which are read from its text alone.
 
-ghost use Rattle.std.specs.Prelude.{◌≡◌, ℕ, ◌+◌, ◌<◌, ◌≤◌, ◌^◌, false, true, [], drop, length, slice_index, take, IfOk, MatchOption, OnOk};
+ghost use Rattle.std.specs.Prelude.{◌≡◌, ℕ, ◌+◌, ◌<◌, ◌≤◌, ◌^◌, false, true, drop, length, slice_index, take, IfOk, MatchOption, OnOk};
 ghost use Rattle.py_lines.specs.Private.LineTokens.{AddsPiece, BeginWithPiece, HoldsTokens, IsFirstPiece, IsLineAfter, IsLineText, IsRunOf, Piece};
 ghost use Rattle.py_lines.specs.Private.LineTokens.{ReadsAnyway, ReadsPiece, StaysUnread, begins, is_ascii_digit, is_field_spelling, is_of_class};
 ghost use Rattle.py_lines.specs.Private.LineTokens.{is_prefix_word, is_quote, is_space, is_wide_word, line_end_len, mark_len, string, string_piece};
@@ -13,9 +13,8 @@ use crate::mode::{Mode, Spelling};
 use crate::run::{ByteRun, comment_run};
 use crate::scan::Scan;
 use crate::token::{TokKind, Token};
-use crate::unit::UnitKind;
 use crate::whole_strings::whole_plain_string;
-use std::alloc::{AllocError, Global};
+use std::alloc::AllocError;
 
 /// How many bytes the line end has that the bytes begin with: LF, CR LF or CR.
 fn line_end_len(bytes: &[u8]) -> usize
@@ -73,7 +72,7 @@ fn word_or_string(scan: &mut Scan, bytes: &[u8]) -> (TokKind, usize, u64)
 }
 
 /// How many bytes the mark has that the bytes begin with, if they begin with one.
-fn mark_len(bytes: &[u8]) -> usize
+pub fn mark_len(bytes: &[u8]) -> usize
     ensures { result ≡ mark_len bytes.now }
 {
     if bytes.starts_with(b"\xef\xbb\xbf") {
@@ -85,7 +84,7 @@ fn mark_len(bytes: &[u8]) -> usize
 
 /// How many bytes of space the bytes begin with.
 #[inline(always)]
-fn space_len(bytes: &[u8]) -> usize
+pub fn space_len(bytes: &[u8]) -> usize
     ensures { IsRunOf is_space bytes.now result }
 {
     match bytes {
@@ -94,173 +93,128 @@ fn space_len(bytes: &[u8]) -> usize
     }
 }
 
-/// The tokens of a logical line, and what they make of it.
-#[derive(Drop)]
-pub struct LineTokens {
-    /// What the line holds.
-    pub kind: UnitKind,
-    /// How many bytes of space it begins with, after a mark.
-    pub indent: usize,
-    /// Its tokens, in order.
-    pub tokens: Vec<Token>,
+/// Adds a token of so many bytes that stands at this byte of the line, and on this line of the text.
+#[inline(always)]
+pub fn add_token(
+    tokens: &mut Vec<Token>,
+    kind: TokKind,
+    start: usize,
+    len: usize,
+    line: u64,
+) -> Result<(), AllocError>
+    requires { start + len < 2 ^ 64 }
+    ensures { OnOk result (AddsPiece tokens.old.items (token_of kind) start (start + len) line tokens.new.items) }
+{
+    tokens.push(Token {
+        kind,
+        start,
+        stop: start + len,
+        line,
+    })?;
+    Ok(())
 }
 
-impl LineTokens {
-    /// No tokens.
-    pub fn new(alloc: Global) -> LineTokens
-        ensures { result.tokens.items ≡ [] }
-    {
-        LineTokens {
-            kind: UnitKind::Blank,
-            indent: 0,
-            tokens: Vec::new(alloc),
+/// Reads the piece that stands at this byte of a line, and on this line of the text, where it is the same wherever after it the line ends: how
+/// many bytes it has, and how many line ends it holds. `None` where a byte of this class, as the first one is, may begin another piece.
+#[inline(always)]
+pub fn read_anyway(
+    tokens: &mut Vec<Token>,
+    class: Class,
+    bytes: &[u8],
+    start: usize,
+    line: u64,
+) -> Result<Option<(usize, u64)>, AllocError>
+    requires within { start < length bytes.now }
+    requires class { is_of_class class (slice_index bytes.now start) ≡ true }
+    ensures { IfOk result (λ r. MatchOption r (StaysUnread class tokens.old.items tokens.new.items) (λ piece.
+        ReadsAnyway (drop start bytes.now) tokens.old.items start line piece.0 piece.1 tokens.new.items)) }
+{
+    let rest = &bytes[start..];
+    match class {
+        Class::Word => {
+            let len = ByteRun::WideWord.len_in(rest);
+            // It may be the prefix of a string.
+            if len < rest.len() && is_quote(rest[len] as char) {
+                return Ok(None);
+            }
+            add_token(tokens, word_kind(rest[0]), start, len, line)?;
+            Ok(Some((len, 0)))
         }
+        Class::Operator | Class::Opening | Class::Closing => {
+            add_token(tokens, TokKind::Op(rest[0]), start, 1, line)?;
+            Ok(Some((1, 0)))
+        }
+        Class::Hash => {
+            let len = 1 + comment_run(&rest[1..]);
+            add_token(tokens, TokKind::Remark, start, len, line)?;
+            Ok(Some((len, 0)))
+        }
+        Class::Space => Ok(Some((space_len(rest), 0))),
+        Class::LineFeed => Ok(Some((1, 1))),
+        _ => Ok(None),
     }
+}
 
-    /// Adds a token of so many bytes that stands at this byte of the line, and on this line of the text.
-    #[inline(always)]
-    pub fn add(
-        &mut self,
-        kind: TokKind,
-        start: usize,
-        len: usize,
-        line: u64,
-    ) -> Result<(), AllocError>
-        requires { start + len < 2 ^ 64 }
-        ensures { OnOk result (AddsPiece self.old (token_of kind) start (start + len) line self.new) }
-    {
-        if !kind.is_comment() {
-            self.kind = UnitKind::Code;
-        } else if matches!(self.kind, UnitKind::Blank) {
-            self.kind = UnitKind::Comment;
-        }
-        self.tokens.push(Token {
-            kind,
-            start,
-            stop: start + len,
-            line,
-        })?;
-        Ok(())
+/// Reads the piece that stands at this byte of a line, and on this line of the text, and is no mark: how many bytes it has, and how many line
+/// ends it holds.
+fn read_piece(
+    tokens: &mut Vec<Token>,
+    scan: &mut Scan,
+    text: &[u8],
+    start: usize,
+    line: u64,
+) -> Result<(usize, u64), AllocError>
+    requires within { start < length text.now }
+    requires piece { (p : Piece) × BeginWithPiece (drop start text.now) p }
+    ensures { IfOk result (λ r. ReadsPiece (drop start text.now) tokens.old.items start line r.0 r.1 tokens.new.items) }
+{
+    let rest = &text[start..];
+    let class = Class::of(rest[0]);
+    if let Some(piece) = read_anyway(tokens, class, text, start, line)? {
+        return Ok(piece);
     }
+    match class {
+        Class::Word | Class::Wide => {
+            let (kind, len, line_ends) = word_or_string(scan, rest);
+            add_token(tokens, kind, start, len, line)?;
+            Ok((len, line_ends))
+        }
+        Class::Quote => {
+            let (len, line_ends) = string_len(scan, rest, 0, false);
+            add_token(tokens, TokKind::Str, start, len, line)?;
+            Ok((len, line_ends))
+        }
+        // A join of two lines (Python Language Reference, 2.1.5).
+        Class::Backslash => Ok((1 + line_end_len(&rest[1..]), 1)),
+        Class::Return => Ok((line_end_len(rest), 1)),
+        _ => unreachable!(),
+    }
+}
 
-    /// Reads the indentation of a line that begins with these bytes, after a mark. No token is read yet.
-    #[inline(always)]
-    pub fn begin(&mut self, bytes: &[u8])
-        ensures kind { self.new.kind ≡ UnitKind.Blank }
-        ensures indent { IsRunOf is_space bytes.now self.new.indent }
-        ensures tokens { self.new.tokens.items ≡ [] }
-    {
-        self.kind = UnitKind::Blank;
-        self.indent = space_len(bytes);
-        self.tokens.clear();
+/// Reads the tokens of a whole logical line without fault, which has this text and begins on this line: the line after it. Its last
+/// `end_len` bytes are its line end. The scan goes through its strings. Without memory nothing is said of the tokens that are held.
+pub fn read_line(
+    tokens: &mut Vec<Token>,
+    scan: &mut Scan,
+    text: &[u8],
+    end_len: usize,
+    line: u64,
+) -> Result<u64, AllocError>
+    requires text { IsLineText text.now end_len }
+    requires lines { line + length text.now < 2 ^ 64 }
+    ensures tokens { OnOk result (HoldsTokens text.now end_len line tokens.new.items) }
+    ensures after { IfOk result (IsLineAfter line text.now end_len) }
+{
+    tokens.clear();
+    let mut start = mark_len(text);
+    let mut line_here = line;
+    let content_len = text.len() - end_len;
+    'pieces: while start < content_len {
+        let (piece, line_ends) = read_piece(tokens, scan, text, start, line_here)?;
+        line_here += line_ends;
+        start += piece;
+        // Mostly no space follows, or one.
+        start += text[start..].starts_with(b" ") as usize;
     }
-
-    /// Reads the piece that stands at this byte of a line, and on this line of the text, where it is the same wherever after it the line ends: how
-    /// many bytes it has, and how many line ends it holds. `None` where a byte of this class, as the first one is, may begin another piece.
-    #[inline(always)]
-    pub fn read_anyway(
-        &mut self,
-        class: Class,
-        bytes: &[u8],
-        start: usize,
-        line: u64,
-    ) -> Result<Option<(usize, u64)>, AllocError>
-        requires within { start < length bytes.now }
-        requires class { is_of_class class (slice_index bytes.now start) ≡ true }
-        ensures { IfOk result (λ r. MatchOption r (StaysUnread class self.old self.new) (λ piece.
-            ReadsAnyway (drop start bytes.now) self.old start line piece.0 piece.1 self.new)) }
-    {
-        let rest = &bytes[start..];
-        match class {
-            Class::Word => {
-                let len = ByteRun::WideWord.len_in(rest);
-                // It may be the prefix of a string.
-                if len < rest.len() && is_quote(rest[len] as char) {
-                    return Ok(None);
-                }
-                self.add(word_kind(rest[0]), start, len, line)?;
-                Ok(Some((len, 0)))
-            }
-            Class::Operator | Class::Opening | Class::Closing => {
-                self.add(TokKind::Op(rest[0]), start, 1, line)?;
-                Ok(Some((1, 0)))
-            }
-            Class::Hash => {
-                let len = 1 + comment_run(&rest[1..]);
-                self.add(TokKind::Remark, start, len, line)?;
-                Ok(Some((len, 0)))
-            }
-            Class::Space => Ok(Some((space_len(rest), 0))),
-            Class::LineFeed => Ok(Some((1, 1))),
-            _ => Ok(None),
-        }
-    }
-
-    /// Reads the piece that stands at this byte of a line, and on this line of the text, and is no mark: how many bytes it has, and how many line
-    /// ends it holds.
-    fn read_piece(
-        &mut self,
-        scan: &mut Scan,
-        text: &[u8],
-        start: usize,
-        line: u64,
-    ) -> Result<(usize, u64), AllocError>
-        requires within { start < length text.now }
-        requires piece { (p : Piece) × BeginWithPiece (drop start text.now) p }
-        ensures { IfOk result (λ r. ReadsPiece (drop start text.now) self.old start line r.0 r.1 self.new) }
-    {
-        let rest = &text[start..];
-        let class = Class::of(rest[0]);
-        if let Some(piece) = self.read_anyway(class, text, start, line)? {
-            return Ok(piece);
-        }
-        match class {
-            Class::Word | Class::Wide => {
-                let (kind, len, line_ends) = word_or_string(scan, rest);
-                self.add(kind, start, len, line)?;
-                Ok((len, line_ends))
-            }
-            Class::Quote => {
-                let (len, line_ends) = string_len(scan, rest, 0, false);
-                self.add(TokKind::Str, start, len, line)?;
-                Ok((len, line_ends))
-            }
-            // A join of two lines (Python Language Reference, 2.1.5).
-            Class::Backslash => {
-                self.kind = UnitKind::Code;
-                Ok((1 + line_end_len(&rest[1..]), 1))
-            }
-            Class::Return => Ok((line_end_len(rest), 1)),
-            _ => unreachable!(),
-        }
-    }
-
-    /// Reads the tokens of a whole logical line without fault, which has this text and begins on this line: the line after it. Its last
-    /// `end_len` bytes are its line end. The scan goes through its strings. Without memory nothing is said of the tokens that are held.
-    pub fn read(
-        &mut self,
-        scan: &mut Scan,
-        text: &[u8],
-        end_len: usize,
-        line: u64,
-    ) -> Result<u64, AllocError>
-        requires text { IsLineText text.now end_len }
-        requires lines { line + length text.now < 2 ^ 64 }
-        ensures tokens { OnOk result (HoldsTokens text.now end_len line self.new) }
-        ensures after { IfOk result (IsLineAfter line text.now end_len) }
-    {
-        let mark = mark_len(text);
-        self.begin(&text[mark..]);
-        let mut start = mark + self.indent;
-        let mut line_here = line;
-        let content_len = text.len() - end_len;
-        'pieces: while start < content_len {
-            let (piece, line_ends) = self.read_piece(scan, text, start, line_here)?;
-            line_here += line_ends;
-            start += piece;
-            // Mostly no space follows, or one.
-            start += text[start..].starts_with(b" ") as usize;
-        }
-        Ok(line_here + (end_len > 0) as u64)
-    }
+    Ok(line_here + (end_len > 0) as u64)
 }

@@ -7,7 +7,7 @@ ghost use Rattle.py_lines.specs.Reader.View.{reader_of};
 use crate::fault::LexError;
 use crate::line_state::LineState;
 use crate::source::Source;
-use crate::unit::Unit;
+use crate::unit::{Line, Unit};
 use std::alloc::Global;
 use std::marker::Model;
 
@@ -26,7 +26,7 @@ impl<'t> Model for Lines<'t> {
 }
 
 impl<'t> Lines<'t> {
-    ghost use Rattle.py_lines.specs.Lines.{LeavesNext, PassesUpTo};
+    ghost use Rattle.py_lines.specs.Lines.{IsLine, LeavesNext, LeavesTokens, PassesUpTo, ReadsNextLine, outline_in};
 
     /// A reader at the start of a text, which is any bytes. The only error is `Memory`, and then there is no reader.
     pub fn new(alloc: Global, text: &'t [u8]) -> Result<Lines<'t>, LexError>
@@ -83,13 +83,32 @@ impl<'t> Lines<'t> {
     pub fn next_unit(&mut self) -> Result<Option<Unit<'_>>, LexError>
         ensures* next { sem 𝓛 (LeavesNext self.entry result) }
     {
-        let (start, line) = (self.source.state.place, self.source.state.line);
-        let Some(end_len) = self.source.advance()? else {
+        let Some(line) = self.source.advance()? else {
             return Ok(None);
         };
-        let source = &self.source;
-        let text = &source.bytes[start as usize..source.state.place as usize];
-        Ok(Some(source.state.unit(text, start, line, end_len)))
+        Ok(Some(line.unit(self.source.state.tokens.as_slice())))
+    }
+
+    /// The next logical line (2.1.1) without its tokens, lent out of the text; `None` after the last one, for good. It takes no memory.
+    /// [`Lines::tokens`] reads the tokens.
+    ///
+    /// The error is `Fault` where the text's lexical fault stops the next line, and at each later call again.
+    pub fn next_line(&mut self) -> Result<Option<Line<'t>>, LexError>
+        ensures next { ReadsNextLine self.old result self.new }
+    {
+        self.source.pass_line()
+    }
+
+    /// A logical line that [`Lines::next_line`] gave, with its tokens, lent out of the line's text and this reader. The reader stays where
+    /// it is.
+    ///
+    /// The error is `Memory` where a growth was refused.
+    pub fn tokens(&mut self, line: Line<'t>) -> Result<Unit<'_>, LexError>
+        requires line { IsLine (outline_in line) }
+        ensures* tokens { sem 𝓛 (LeavesTokens self.entry line.entry result) }
+    {
+        self.source.read_tokens(&line)?;
+        Ok(line.unit(self.source.state.tokens.as_slice()))
     }
 
     /// Passes over the next logical lines (2.1.1) without their tokens, one after another, and answers how many bytes they have; 0

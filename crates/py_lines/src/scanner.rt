@@ -10,7 +10,7 @@ use crate::fault::LexError;
 use crate::feed::Feed;
 use crate::line_ends::line_ends;
 use crate::line_state::LineState;
-use crate::unit::Unit;
+use crate::unit::{Line, Unit};
 use memchr::memmem;
 use std::alloc::Global;
 use std::marker::Model;
@@ -138,7 +138,8 @@ impl Scanner {
         let end_len = self.feed.ready?;
         let state = &self.feed.state;
         let text = &self.feed.held[..state.scan.stop];
-        Some(state.unit(text, state.place, state.line, end_len))
+        let line = Line::of(text, state.place, state.line, end_len);
+        Some(line.unit(state.tokens.as_slice()))
     }
 
     /// Releases the line that is ready. One is.

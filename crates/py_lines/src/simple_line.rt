@@ -5,18 +5,18 @@ ghost use Rattle.py_lines.specs.Private.SimpleLine.{FindsNext, Free, IfSome, IsS
 ghost use Rattle.py_lines.specs.Private.SimpleLine.{opened_at};
 
 use crate::class::Class;
-use crate::line_tokens::LineTokens;
+use crate::line_tokens::{add_token, read_anyway};
 use crate::passing::{Passing, Special, fields_after};
 use crate::scan::Scan;
 use crate::string_text::quotes_len;
-use crate::token::TokKind;
+use crate::token::{TokKind, Token};
 use std::alloc::AllocError;
 
 /// Reads the pieces of a line from one of its bytes, which is on this line of the text, up to another one: the line of that byte. `None`
 /// promises nothing: no piece ends there, or it isn't read.
 #[inline(always)]
 fn read_up_to(
-    tokens: &mut LineTokens,
+    tokens: &mut Vec<Token>,
     bytes: &[u8],
     start: usize,
     line: u64,
@@ -24,13 +24,13 @@ fn read_up_to(
 ) -> Result<Option<u64>, AllocError>
     requires within { to ≤ length bytes.now }
     requires lines { line + (length bytes.now - start) < 2 ^ 64 }
-    ensures { IfOk result (λ r. IfSome r (λ after. ReadsUpTo bytes.now tokens.old start line to after tokens.new)) }
+    ensures { IfOk result (λ r. IfSome r (λ after. ReadsUpTo bytes.now tokens.old.items start line to after tokens.new.items)) }
 {
     let mut at = start;
     let mut line_here = line;
     'pieces: while at < to {
         let class = Class::of(bytes[at]);
-        let Some((len, ends)) = tokens.read_anyway(class, bytes, at, line_here)? else {
+        let Some((len, ends)) = read_anyway(tokens, class, bytes, at, line_here)? else {
             return Ok(None);
         };
         at += len;
@@ -59,20 +59,20 @@ fn pass_short_string(passing: &mut Passing, bytes: &[u8], at: usize) -> bool
 /// and the line after it. No line is open before the bytes, and they begin no text. `None` promises nothing.
 pub fn read_simple_line(
     scan: &mut Scan,
-    tokens: &mut LineTokens,
+    tokens: &mut Vec<Token>,
     bytes: &[u8],
     line: u64,
 ) -> Result<Option<(usize, u64)>, AllocError>
     requires scan { scan.old ≡ opened_at Free }
     requires lines { line + length bytes.now < 2 ^ 64 }
-    ensures { IfOk result (λ r. IfSome r (λ read. ReadsSimpleLine bytes.now scan.old line read.0 read.1 scan.new tokens.new)) }
+    ensures { IfOk result (λ r. IfSome r (λ read. ReadsSimpleLine bytes.now scan.old line read.0 read.1 scan.new tokens.new.items)) }
 {
     // A mark may begin it.
     if bytes.is_empty() || !bytes[0].is_ascii() {
         return Ok(None);
     }
-    tokens.begin(bytes);
-    let mut start = tokens.indent;
+    tokens.clear();
+    let mut start = 0;
     let mut line_here = line;
     let mut passing = Passing::new(bytes);
     let mut at = passing.marks.next(bytes);
@@ -87,12 +87,12 @@ pub fn read_simple_line(
                 if !pass_short_string(&mut passing, bytes, at) {
                     return Ok(None);
                 }
-                tokens.add(TokKind::Str, at, passing.all - at, line_here)?;
+                add_token(tokens, TokKind::Str, at, passing.all - at, line_here)?;
                 start = passing.all;
             }
             _ => match passing.pass(&mut scan.frames, bytes, at, at) {
                 Special::Passed => {
-                    let Some((len, ends)) = tokens.read_anyway(class, bytes, at, line_here)? else {
+                    let Some((len, ends)) = read_anyway(tokens, class, bytes, at, line_here)? else {
                         return Ok(None);
                     };
                     start = at + len;

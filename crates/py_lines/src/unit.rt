@@ -1,8 +1,9 @@
-//! Logical lines.
-ghost use Rattle.std.specs.Prelude.{◌≡◌, ℕ, ◌+◌, ◌^◌, ◌<◌, Some, length, slice_get, slice_range};
+//! Logical lines, with their tokens and without.
+ghost use Rattle.std.specs.Prelude.{◌≡◌, ℕ, ◌+◌, ◌^◌, ◌<◌, Some, length, slice_get, slice_range, IsUtf8};
 ghost use Rattle.py_lines.specs.Token.{EachLiesIn};
 ghost use Rattle.py_lines.specs.declared.token.Token.{Token};
 
+use crate::line_tokens::{mark_len, space_len};
 use crate::token::Token;
 
 /// What a logical line holds (Python Language Reference, 2.1).
@@ -14,6 +15,23 @@ pub enum UnitKind {
     Comment,
     /// No token.
     Blank,
+}
+
+impl UnitKind {
+    ghost use Rattle.py_lines.specs.Private.Outline.{kind_from};
+
+    /// What a line holds of which these bytes come after mark and space.
+    #[inline(always)]
+    #[tactic(auto, unfolding(crate::specs::Character::is_break, crate::specs::Character::is_hash))]
+    fn from_first(bytes: &[u8]) -> UnitKind
+        ensures { result ≡ kind_from bytes.now }
+    {
+        match bytes {
+            [] | [b'\n' | b'\r', ..] => UnitKind::Blank,
+            [b'#', ..] => UnitKind::Comment,
+            _ => UnitKind::Code,
+        }
+    }
 }
 
 /// One logical line (2.1.1): the bytes up to and with the line end that closes it, or up to the text's end. All of it
@@ -48,5 +66,67 @@ impl<'s> Unit<'s> {
     {
         let token = self.tokens[i];
         &self.text[token.start..token.stop]
+    }
+}
+
+/// One logical line (2.1.1) without its tokens, lent out of the text.
+#[derive(Clone, Copy, Debug)]
+pub struct Line<'t> {
+    /// What the line holds.
+    pub kind: UnitKind,
+    /// The line with its line end.
+    pub text: &'t str,
+    /// The byte of the whole text at which the line begins.
+    pub offset: u64,
+    /// The line of its first byte, from 1.
+    pub line: u64,
+    /// How many bytes of space it begins with, after a byte order mark.
+    pub indent: usize,
+    /// How many bytes its closing line end has: 0 where the text's end closes it.
+    pub end_len: usize,
+    pub ghost places_fit: { offset + length text.now < 2 ^ 64 },
+    pub ghost lines_fit: { line + length text.now < 2 ^ 64 },
+}
+
+impl<'t> Line<'t> {
+    ghost use Rattle.py_lines.specs.UnitLine.{line_in, outline_in};
+    ghost use Rattle.py_lines.specs.Private.Outline.{outline_at, with_tokens};
+
+    /// The logical line of this text, which begins at this byte and on this line, and has so many bytes of line end.
+    #[inline(always)]
+    pub(crate) fn of(text: &'t [u8], offset: u64, line: u64, end_len: usize) -> Line<'t>
+        requires utf8 { IsUtf8 text.now }
+        requires places { offset + length text.now < 2 ^ 64 }
+        requires lines { line + length text.now < 2 ^ 64 }
+        ensures { outline_in result ≡ outline_at text.now offset line end_len }
+    {
+        let unmarked = &text[mark_len(text)..];
+        let indent = space_len(unmarked);
+        Line {
+            kind: UnitKind::from_first(&unmarked[indent..]),
+            // The scan read it as characters.
+            text: unsafe { std::str::from_utf8_unchecked(text) },
+            offset,
+            line,
+            indent,
+            end_len,
+        }
+    }
+
+    /// The line with these tokens.
+    #[inline(always)]
+    pub(crate) fn unit(&self, tokens: &'t [Token]) -> Unit<'t>
+        requires { EachLiesIn self.now.text.now tokens.now }
+        ensures { line_in result ≡ with_tokens (outline_in self.now) tokens.now }
+    {
+        Unit {
+            kind: self.kind,
+            text: self.text,
+            tokens,
+            offset: self.offset,
+            line: self.line,
+            indent: self.indent,
+            end_len: self.end_len,
+        }
     }
 }

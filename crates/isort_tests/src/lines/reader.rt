@@ -35,6 +35,43 @@ fn tell_all(alloc: Global, told: &mut String, lines: &mut Lines<'_>) {
     }
 }
 
+/// A line with its tokens, or that there is no memory for them.
+fn tell_tokens(told: &mut String, read: Result<Unit<'_>, LexError>) {
+    match read {
+        Ok(unit) => tell_unit(told, &unit),
+        Err(error) => tell_fault(told, error),
+    }
+}
+
+/// The next line, which is given without its tokens, with its tokens after it: whether it is a line. Its tokens are asked for once more
+/// where a growth was refused.
+fn tell_line(alloc: Global, told: &mut String, lines: &mut Lines<'_>) -> bool {
+    let line = match lines.next_line() {
+        Ok(Some(line)) => line,
+        Ok(None) => return tell_answer(told, Ok(None)),
+        Err(error) => return tell_answer(told, Err(error)),
+    };
+    match lines.tokens(line) {
+        Err(LexError::Memory) if was_refused(alloc) => tell_tokens(told, lines.tokens(line)),
+        read => tell_tokens(told, read),
+    }
+    true
+}
+
+/// Whether a reader of the text that gives lines without their tokens, ten at most, and reads these then, tells this.
+fn is_told_by_lines(alloc: Global, text: &[u8], expected: &str) -> bool {
+    let Ok(mut lines) = begun(alloc, text) else {
+        return false;
+    };
+    let mut told = page(alloc);
+    for _ in 0..10 {
+        if !tell_line(alloc, &mut told, &mut lines) {
+            break;
+        }
+    }
+    told.as_str() == expected
+}
+
 /// Whether a reader tells this.
 fn is_told(alloc: Global, lines: &mut Lines<'_>, expected: &str) -> bool {
     let mut told = page(alloc);
@@ -68,7 +105,10 @@ impl Lexed<'_> {
     /// Whether a reader of the whole text tells so.
     pub(crate) fn is_read(&self, alloc: Global) -> bool {
         match begun(alloc, self.0) {
-            Ok(mut lines) => answers(alloc, &mut lines, self.1, self.2),
+            Ok(mut lines) => {
+                answers(alloc, &mut lines, self.1, self.2)
+                    && is_told_by_lines(alloc, self.0, self.1)
+            }
             Err(_) => false,
         }
     }

@@ -51,6 +51,7 @@ last_line old not_ready some scan {end_len} h =
       spell = ap (λ t. t ++ drop stop items) h.is.text.spell ∙ take-append-drop stop items;
       spells = refl;
       text = h.is.text;
+      whole = h.is.whole;
       ends = h.is.ends;
       stop = sym size;
       some = omega (arith, size, h.is.some);

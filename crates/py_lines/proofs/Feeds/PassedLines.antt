@@ -6,7 +6,6 @@ use Rattle.py_lines.specs.Piece.{ends}
 use Rattle.py_lines.specs.LogicalLine.{LogicalLine, byte_len, first_or_zero, line_ends, line_of}
 use Rattle.py_lines.specs.Settled.{IsSettled}
 use Rattle.py_lines.specs.ScannerState.{EndsExactly, GoesOnWith, HasSettled, HoldsAfterLines, HoldsReady, IsScanning, PassesPieceLines, ScannerState, StandsAtLine, ready_lines}
-use Rattle.py_lines.specs.declared.line_tokens.LineTokens.{LineTokens}
 use Rattle.py_lines.specs.Private.Feed.{IsSoundFeed, StandsSo, Scan, Feed, ready_of, scanning_of, LineState, AreFirstLines}
 use Rattle.py_lines.specs.Private.LineState.{BeginsAnew}
 use Rattle.py_lines.specs.Private.LineScan.{EndsWhole}
@@ -128,9 +127,9 @@ module _ (f : Feed) (bytes : List ℕ) (before stop len : ℕ) (stands : StandsA
     exact : 0 < len → EndsExactly found.read held.items
     exact some = rw (ap (ends is_return) (sym read_is) ∙ ends-encoded found.read) at (holds_here some).exact
 
-    module _ (scan : Scan) (tokens : LineTokens) where
+    module _ (state : LineState) where
       abbrev after : Feed
-      after = record f { state = record f.state { place = f.state.place + len; line = f.state.line + line_ends found.read; scan = scan; tokens = tokens }; held = held }
+      after = record f { state = record f.state { place = f.state.place + len; line = f.state.line + line_ends found.read; scan = state.scan; tokens = state.tokens }; held = held }
 
       ready : ready_of after f.ready ≡ None
       ready = ap (ready_of after) not_ready
@@ -180,7 +179,7 @@ module _ (f : Feed) (bytes : List ℕ) (before stop len : ℕ) (stands : StandsA
         let place : state.place ≡ f.state.place + len = ap (λ (s : LineState). s.place) anew.same in
         let line : state.line ≡ f.state.line + line_ends found.read = ap (λ (s : LineState). s.line) anew.same in
         let room : f.state.place + len + length held.items ≤ 2 ^ 62 = ⊎_elim (λ some. let h = (holds_here some).within in omega (arith, h, fits)) (λ none. let zero : len ≡ 0 = omega (arith, none) in omega (arith, zero, ap length (same zero), sound.room.fits)) (cases_lt 0 len) in (
-          subst (λ (s : LineState). PassesPieceLines (scanning_of f) bytes before len (scanning_of (record f { state = s; held = held }))) (sym anew.same) (passes_lines state.scan state.tokens),
+          subst (λ (s : LineState). PassesPieceLines (scanning_of f) bytes before len (scanning_of (record f { state = s; held = held }))) (sym anew.same) (passes_lines state),
           record {
             room = record { fits = omega (arith, place, room); few_lines = omega (arith, place, line, few, sound.room.few_lines) };
             state = subst (StandsSo (record f { state = state; held = held })) (sym not_ready) (λ no_fault. (held.items, begun_open _ (record f { state = state; held = held }) anew));

@@ -7,6 +7,7 @@ use Rattle.py_lines.specs.Private.LineScan.{IsAtLineEnd, ScansIn}
 use Rattle.py_lines.specs.Private.LineState.{first_mode, with_tokens}
 use Rattle.py_lines.specs.Private.LineTokens.{AreLineText, HoldsTokens, IsLineAfter, IsLineText}
 use Rattle.py_lines.specs.Private.Feed.{HasReadTokens, HasRoom, HoldsLine, HoldsSo, IsLineAfterHeld, IsReady, StandsSo, StopsHeld, line_held, with_line, Scan, Stop, Feed, line_of_feed, ready_of, scanning_of, LineState, Mode}
+use Rattle.py_lines.proofs.LineTokens.Outlines.{line_whole}
 use Rattle.py_lines.proofs.LogicalLines.TokenPlaces.{each_after}
 use Rattle.py_lines.proofs.Readers.LineAnswers.{IsScannedLine, line_at_end, line_text}
 
@@ -26,6 +27,7 @@ holds_line f end_len read rest u scalars held line = record {
   spells = line.line.spell;
   text = subst (λ t. AreLineText t u) (sym (stopped_text f.state.scan.stop f.held.items read rest held line.stop))
       (line_text (first_mode f.state.place) f.state.scan read end_len u scalars line);
+  whole = line.line.whole;
   ends = line.ends;
   stop = line.stop;
   some = line.line.some;
@@ -62,14 +64,13 @@ none_read {f} room none (held, holds) = record {
 }
 
 -- the tokens of the line that does were read
-module _ (f : Feed) (state : LineState) (end_len line : ℕ) (tokens : HoldsTokens (take f.state.scan.stop f.held.items) end_len f.state.line state.tokens)
+module _ (f : Feed) (state : LineState) (end_len line : ℕ) (tokens : HoldsTokens (take f.state.scan.stop f.held.items) end_len f.state.line state.tokens.items)
     (after : IsLineAfter f.state.line (take f.state.scan.stop f.held.items) end_len line) where
   abbrev pub with_read : Feed
   with_read = record f { state = with_tokens f.state state; next_line = line }
 
   line_read : (h : HoldsLine f end_len) → line_of_feed with_read end_len ≡ line_held f end_len h
-  line_read h = let are = tokens h.pieces (h.text, h.ends) in
-      λ i. record { kind = are.kind i; text = sym h.text.spell i; tokens = are.tokens i; offset = f.state.place; line = f.state.line; indent = are.indent i; end_len = h.ends i }
+  line_read h = line_whole _ h.text h.whole f.state.place f.state.line end_len h.ends (tokens h.pieces (h.text, h.ends))
 
   line_after : HoldsLine f end_len → IsLineAfterHeld with_read line
   line_after h read spell = after h.pieces (h.text, h.ends) ∙ ap (λ (t : List ℕ). f.state.line + line_ends t) (encodes_same (spelled h.pieces) read (h.text.spell ∙ sym spell))
@@ -105,6 +106,6 @@ some_is None h = absurd (cc)
 some_is (Some n) h = (n, refl)
 
 -- the tokens of the line that is ready lie in it
-pub ready_lies : (f : Feed) (end_len : ℕ) → IsReady f end_len → EachLiesIn (take f.state.scan.stop f.held.items) f.state.tokens.tokens.items
+pub ready_lies : (f : Feed) (end_len : ℕ) → IsReady f end_len → EachLiesIn (take f.state.scan.stop f.held.items) f.state.tokens.items
 ready_lies f end_len r = subst (λ (l : LogicalLine). EachLiesIn l.text l.tokens) (sym r.line_is)
     (each_after [] f.state.line r.holds.pieces (ap all_scalars r.holds.spells ∙ r.holds.scalars))

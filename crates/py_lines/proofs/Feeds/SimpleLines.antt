@@ -54,7 +54,7 @@ module _ (old : Feed) (sound : IsSoundFeed old) (no_fault : old.state.fault ≡ 
           let text : take read.scan.stop piece ≡ take new.state.scan.stop new.held.items
           = sym (ap (take new.state.scan.stop) first ∙ take-take new.state.scan.stop n piece (omega (arith, held_within new end_len stands, ap length first, length-take-le n piece more.within)) ∙ ap (λ (s : LineState). take s.scan.stop piece) state) in
           let number : old.state.line ≡ new.state.line = sym (ap (λ (s : LineState). s.line) (state ∙ same)) in
-          let tokens : HoldsTokens (take new.state.scan.stop new.held.items) end_len new.state.line new.state.tokens = rw (← text, ← number, state) line.tokens in
+          let tokens : HoldsTokens (take new.state.scan.stop new.held.items) end_len new.state.line new.state.tokens.items = rw (← text, ← number, state) line.tokens in
           let after_is : IsLineAfter new.state.line (take new.state.scan.stop new.held.items) end_len after = rw (← text, ← number) line.after_is in
           let done = some_read new new.state end_len after tokens after_is t.takes.no_fault t.room is stands in
           (takes_read t done, done.sound)

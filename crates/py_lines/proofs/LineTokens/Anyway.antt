@@ -1,15 +1,14 @@
 -- Pieces that are the same wherever after them a line ends, and how they are read one after another.
 use mir.Val.{bool_byte}
-use Rattle.py_lines.proofs.Prelude.{◌≡◌, ℕ, Option, Some, ◌+◌, ◌-◌, ◌<◌, ◌≤◌, Bool, true, false, zero, suc, List, [], ◌∷◌, length, take, drop, slice_index, refl, sym, ap, ◌∙◌, subst, arith, length-drop, add-zero, zero-add, MatchOption, ◌&&◌, if◌then◌else◌, nat_eq, nat_lt, starts_with, is_ascii_digit, both_ways, lt-ltb, ne_eqb, or_left, drop-take, get_or-take, length-take-le}
+use Rattle.py_lines.proofs.Prelude.{◌≡◌, ℕ, Option, Some, ◌+◌, ◌-◌, ◌<◌, ◌≤◌, Bool, true, false, zero, suc, List, [], ◌∷◌, length, take, drop, slice_index, refl, sym, ap, ◌∙◌, subst, arith, length-drop, add-zero, MatchOption, ◌&&◌, if◌then◌else◌, nat_eq, nat_lt, starts_with, is_ascii_digit, both_ways, lt-ltb, ne_eqb, or_left, drop-take, get_or-take, length-take-le}
 use Rattle.py_lines.specs.Character.{is_line_feed, is_quote, is_space}
 use Rattle.py_lines.specs.Piece.{Piece, begins, operator}
 use Rattle.py_lines.specs.LogicalLine.{end_len_of}
 use Rattle.py_lines.specs.declared.class.Class.{Class as ByteClass}
 use Rattle.py_lines.specs.declared.class.Class.TheVariants as class
-use Rattle.py_lines.specs.declared.line_tokens.LineTokens.{LineTokens}
+use Rattle.py_lines.specs.declared.token.Token.{Token}
 use Rattle.py_lines.specs.declared.token.TokKind.TheVariants as kind
-use Rattle.py_lines.specs.declared.unit.UnitKind.TheVariants as unit_kind
-use Rattle.py_lines.specs.Private.LineTokens.{AreLineOf, BeginWithPiece, HaveRead, HaveReadAnyway, HoldsTokens, IsFirstAnyway, IsFirstPiece, IsLineAfter, IsTakenFor, ReadsAnyway, ReadsPiece, Role, StaysUnread, line_end_len, mark_bytes, mark_len, token_piece, word_kind}
+use Rattle.py_lines.specs.Private.LineTokens.{AreLineOf, BeginWithPiece, HaveReadAnyway, HoldsTokens, IsFirstAnyway, IsFirstPiece, IsLineAfter, IsTakenFor, ReadsAnyway, ReadsPiece, Role, StaysUnread, line_end_len, mark_bytes, mark_len, token_piece, word_kind}
 use Rattle.py_lines.specs.Private.Marks.{is_of_class}
 use Rattle.py_lines.specs.Private.Run.{IsRunOf, is_ascii_word, is_comment_byte, is_wide_word}
 use Rattle.py_lines.proofs.FieldScans.TextLengths.{rest_is, rest_of}
@@ -107,22 +106,18 @@ cut_rest bytes n start less =
     let whole : start + (n - start) ≡ n = omega (arith, less) in
     rest_is (take n bytes) start ∙ ap (λ k. drop start (take k bytes)) (sym whole) ∙ drop-take start (n - start) bytes
 
--- a line has begun, and its indentation is read
-pub begun_anyway : (bytes : List ℕ) (n first : ℕ) (t : LineTokens) → slice_index bytes 0 < 128 → IsRunOf is_space bytes n → t.kind ≡ unit_kind.Blank
-    → t.indent ≡ n → t.tokens.items ≡ [] → HaveReadAnyway bytes first n first t
-begun_anyway bytes n first t low run blank indent none k end_len within fits =
-    subst (λ x. HaveRead (take k bytes) end_len first x first t) (zero-add n)
-    (begun (take k bytes) 0 n first t (sym (no_mark_anyway k bytes low))
-    (subst (λ l. IsRunOf is_space l n) (sym (rest_is (take k bytes) 0)) (run_same bytes k within is_space n (omega (arith, fits)) run)) blank indent none end_len)
+-- a line has begun
+pub begun_anyway : (bytes : List ℕ) (first : ℕ) → slice_index bytes 0 < 128 → HaveReadAnyway bytes first 0 first []
+begun_anyway bytes first low k end_len within fits = begun (take k bytes) 0 first end_len (sym (no_mark_anyway k bytes low))
 
 -- the piece that was read
-pub piece_read : (k : ByteClass) {bytes : List ℕ} {old new : LineTokens} {start line : ℕ} {o : Option (ℕ × ℕ)} {p : ℕ × ℕ} → o ≡ Some p
+pub piece_read : (k : ByteClass) {bytes : List ℕ} {old new : List Token} {start line : ℕ} {o : Option (ℕ × ℕ)} {p : ℕ × ℕ} → o ≡ Some p
     → MatchOption o (StaysUnread k old new) (λ p. ReadsAnyway bytes old start line p.0 p.1 new) → ReadsAnyway bytes old start line p.0 p.1 new
 piece_read k {bytes} {old} {new} {start} {line} is = subst (λ o. MatchOption o (StaysUnread k old new) (λ p. ReadsAnyway bytes old start line p.0 p.1 new)) is
 
-module _ {bytes : List ℕ} {first start line : ℕ} {t : LineTokens} (h : HaveReadAnyway bytes first start line t) where
+module _ {bytes : List ℕ} {first start line : ℕ} {t : List Token} (h : HaveReadAnyway bytes first start line t) where
   -- the next piece is read
-  pub reads_on : {len ends : ℕ} {u : LineTokens} → ReadsAnyway (drop start bytes) t start line len ends u → HaveReadAnyway bytes first (start + len) (line + ends) u
+  pub reads_on : {len ends : ℕ} {u : List Token} → ReadsAnyway (drop start bytes) t start line len ends u → HaveReadAnyway bytes first (start + len) (line + ends) u
   reads_on {len} {ends} r n end_len within fits ps is =
       let whole = length-take-le n bytes within in
       let (left, g) = h n end_len within (omega (arith, fits)) ps is in

@@ -103,11 +103,13 @@ module _ {bytes : List ℕ} {p : Piece} (b : BeginWithPiece bytes p) where
   pub spaces : (n : ℕ) → p.class ≡ space → IsRunOf is_space bytes n → n ≡ byte_len p.text
   spaces n is run = run_taken is_space n (low_even is_space space_low) run (in_class space is).3 (begins-prefix is_space rest b.text.after (precedes space is))
 
-  pub space_taken : (n : ℕ) → p.class ≡ space → IsRunOf is_space bytes n → IsTakenFor p (record { role = Role.none; len = n; line_ends = 0 })
+  pub space_unbroken : p.class ≡ space → 0 ≡ line_ends p.text
   unfolding is_space is_break
-  space_taken n is run =
-      taken space is refl (spaces n is run)
-      (unbroken p.text (all_other p.text (none_in is_space is_break (λ d. none_of is_space (10 ∷ 13 ∷ []) d refl) p.text (in_class space is).3)))
+  space_unbroken is =
+      unbroken p.text (all_other p.text (none_in is_space is_break (λ d. none_of is_space (10 ∷ 13 ∷ []) d refl) p.text (in_class space is).3))
+
+  pub space_taken : (n : ℕ) → p.class ≡ space → IsRunOf is_space bytes n → IsTakenFor p (record { role = Role.none; len = n; line_ends = 0 })
+  space_taken n is run = taken space is refl (spaces n is run) (space_unbroken is)
 
   -- the bytes after the first, which is ASCII
   pub after_first : (c : ℕ) (cs : List ℕ) → p.text ≡ c ∷ cs → c < 128 → bytes ≡ c ∷ (encode_utf8_all cs ++ encode_utf8_all rest)
@@ -160,7 +162,7 @@ module _ {bytes : List ℕ} {p : Piece} (b : BeginWithPiece bytes p) where
       let text : p.text ≡ 92 ∷ shape.1 = shape.2 ∙ ap (λ (c : ℕ). c ∷ shape.1) (slash_only shape.0 shape.3) in
       record { end = shape.1; text = text; is = shape.4; later = rest_is bytes 1 ∙ ap (drop 1) (after_first 92 shape.1 text (omega arith)) }
 
-  pub join_taken : p.class ≡ join → IsTakenFor p (record { role = Role.joins; len = 1 + line_end_len (rest_of bytes 1); line_ends = 1 })
+  pub join_taken : p.class ≡ join → IsTakenFor p (record { role = Role.none; len = 1 + line_end_len (rest_of bytes 1); line_ends = 1 })
   unfolding is_line_feed is_return
   join_taken is =
       let j = joined is in

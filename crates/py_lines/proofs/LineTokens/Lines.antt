@@ -1,16 +1,14 @@
 -- How a line begins, with its mark and its indentation, and how its pieces are read one after another.
 use mir.Val.{bool_byte}
-use Rattle.py_lines.proofs.Prelude.{◌≡◌, ℕ, ◌+◌, ◌<◌, ◌≤◌, Bool, true, false, cond, ◌||◌, List, [], ◌∷◌, ◌++◌, length, drop, refl, sym, ap, ◌∙◌, subst, append_assoc, append-nil, arith, length-drop, zero, suc, ◌⊎◌, inl, inr, ⊎_elim, zero-add, add-zero, slice_index, encode_utf8_all, if◌then◌else◌, nat_eq, nat_lt, list_any, starts_with, or-false, or_assoc, drop-append_seam, drop-drop, encodes-append, length-le-encodes, both_ways, false_from_ne_true, Decides-eqb, starts_is, encode}
-use Rattle.py_lines.specs.Character.{is_digit, is_mark, is_space, is_line_feed, is_return}
-use Rattle.py_lines.specs.Piece.{Class, line_end, mark, word, Piece, begins, spelled, space, begins_marked, is_mark_class}
+use Rattle.py_lines.proofs.Prelude.{◌≡◌, ℕ, ◌+◌, ◌<◌, ◌≤◌, Bool, true, false, List, [], ◌∷◌, ◌++◌, length, drop, refl, sym, ap, ◌∙◌, subst, append_assoc, append-nil, arith, length-drop, zero, suc, ◌⊎◌, inl, inr, ⊎_elim, zero-add, add-zero, slice_index, encode_utf8_all, if◌then◌else◌, nat_eq, nat_lt, starts_with, drop-append_seam, drop-drop, encodes-append, length-le-encodes, both_ways, false_from_ne_true, Decides-eqb, starts_is, encode}
+use Rattle.py_lines.specs.Character.{is_mark, is_space, is_line_feed, is_return}
+use Rattle.py_lines.specs.Piece.{Class, line_end, mark, Piece, begins, spelled, space, begins_marked, is_mark_class}
 use Rattle.py_lines.specs.Balance.{depth_after}
-use Rattle.py_lines.specs.LogicalLine.{byte_len, end_len_of, is_code_class, is_comment_class, is_line_end_class, line_ends, tokens_of_piece, indent_of, kind_of, space_len, tokens_from}
+use Rattle.py_lines.specs.LogicalLine.{byte_len, end_len_of, is_line_end_class, line_ends, tokens_of_piece, indent_of, space_len, tokens_from}
 use Rattle.py_lines.specs.Fields.{AreReadBefore, InClass}
-use Rattle.py_lines.specs.declared.line_tokens.LineTokens.{LineTokens}
-use Rattle.py_lines.specs.declared.unit.UnitKind.{UnitKind}
-use Rattle.py_lines.specs.declared.unit.UnitKind.TheVariants as unit_kind
+use Rattle.py_lines.specs.declared.token.Token.{Token}
 use Rattle.py_lines.specs.declared.class.Class.TheVariants as class
-use Rattle.py_lines.specs.Private.LineTokens.{mark_bytes, mark_len, AreTextAt, AreTokensOf, BeginWithPiece, HaveReadOf, ReadsPiece, kind_on, kind_with, role_of, Role, token_in, token_of, word_kind, AreLineText, FirstPiece, HaveRead}
+use Rattle.py_lines.specs.Private.LineTokens.{mark_bytes, mark_len, AreTextAt, BeginWithPiece, HaveReadOf, ReadsPiece, role_of, token_in, AreLineText, FirstPiece, HaveRead}
 use Rattle.py_lines.specs.Private.Run.{IsRunOf}
 use Rattle.py_lines.proofs.FieldScans.TextLengths.{rest_is, rest_of}
 use Rattle.py_lines.proofs.Text.Utf8Prefixes.{all_scalars-parts, prefix_chars}
@@ -20,32 +18,7 @@ use Rattle.py_lines.proofs.LineScan.LineCount.{line_ends-bytes}
 use Rattle.py_lines.proofs.Text.CharacterTests.{mark_is}
 use Rattle.py_lines.proofs.LogicalLines.NextLine.{line_ends-spelled}
 use Rattle.py_lines.proofs.LineTokens.FirstCharacters.{begins_so, class_told, first_of, unmarked_first}
-use Rattle.py_lines.proofs.LineTokens.FirstPieces.{line_end_taken, space_taken, spaces}
-
--- what a line holds, with code or without, and with comments or without: with one more piece, and with more of them
-abbrev kind_by : Bool → Bool → UnitKind
-kind_by code comments = cond code unit_kind.Code (cond comments unit_kind.Comment unit_kind.Blank)
-
-words_code : (k : UnitKind) (digit : Bool) → kind_with k (token_of (word_kind digit)) ≡ unit_kind.Code
-words_code k true = refl
-words_code k false = refl
-
-kinds : (a b : Bool) (class : Class) (text : List ℕ)
-    → kind_by (a || is_code_class class) (b || is_comment_class class) ≡ kind_with (kind_by a b) (role_of class text)
-kinds true b word text = sym (words_code unit_kind.Code (begins is_digit text))
-kinds false b word text = sym (words_code (kind_by false b) (begins is_digit text))
-kinds true b class text = refl
-kinds false true class text = refl
-kinds false false class text = refl
-
-pub kinds_on : (a b : Bool) (ps : List Piece)
-    → kind_by (a || list_any (λ p. is_code_class p.class) ps) (b || list_any (λ p. is_comment_class p.class) ps) ≡ kind_on (kind_by a b) ps
-kinds_on a b [] = rw (or-false a, or-false b)
-kinds_on a b (p ∷ ps) =
-    let code = or_assoc a (is_code_class p.class) (list_any (λ q. is_code_class q.class) ps) in
-    let comments = or_assoc b (is_comment_class p.class) (list_any (λ q. is_comment_class q.class) ps) in
-    (λ i. kind_by (sym code i) (sym comments i)) ∙ kinds_on (a || is_code_class p.class) (b || is_comment_class p.class) ps
-    ∙ ap (λ k. kind_on k ps) (kinds a b p.class p.text)
+use Rattle.py_lines.proofs.LineTokens.FirstPieces.{line_end_taken, spaces}
 
 -- a piece's token is that of its part in the line
 own_token : (class : Class) (text : List ℕ) (start stop line : ℕ) → token_in (role_of class text) start stop line ≡ tokens_of_piece start stop line class text
@@ -66,7 +39,7 @@ text_after depth bytes p ps is = record {
 }
 
 -- a piece that was read there: there is room for it, and the line is read so far
-pub record IsReadNext (text : List ℕ) (pieces : List Piece) (first start line len ends : ℕ) (t : LineTokens) : Type 0 where
+pub record IsReadNext (text : List ℕ) (pieces : List Piece) (first start line len ends : ℕ) (t : List Token) : Type 0 where
   pub some : 0 < len
   pub within : start + len ≤ length text
   pub lines : line + ends ≤ first + length text
@@ -79,11 +52,11 @@ line_ends-first : (p : Piece) (ps : List Piece) (after : List ℕ) → AreReadBe
 line_ends-first p ps after fit = omega (arith, line_ends-spelled (p ∷ ps) after fit, line_ends-spelled ps after fit.3)
 
 -- the line end of these pieces is that of those after the first
-abbrev KeepsEnd : List Piece → Type 0
+abbrev pub KeepsEnd : List Piece → Type 0
 KeepsEnd [] = Unit {0}
 KeepsEnd (p ∷ qs) = end_len_of qs ≡ end_len_of (p ∷ qs)
 
-no_line_end : (p : Piece) (qs : List Piece) → is_line_end_class p.class ≡ false → KeepsEnd (p ∷ qs)
+pub no_line_end : (p : Piece) (qs : List Piece) → is_line_end_class p.class ≡ false → KeepsEnd (p ∷ qs)
 no_line_end p [] inside = rw inside refl
 no_line_end p (q ∷ qs) inside = refl
 
@@ -91,7 +64,7 @@ no_line_end p (q ∷ qs) inside = refl
 abbrev space_of : List ℕ → Piece
 space_of cs = record { class = space; text = cs }
 
-module _ {text : List ℕ} {pieces : List Piece} {first start line : ℕ} {t : LineTokens} where
+module _ {text : List ℕ} {pieces : List Piece} {first start line : ℕ} {t : List Token} where
   -- the next piece of a line that isn't read to its end
   begins_next : (p : Piece) (qs : List Piece) → HaveReadOf text pieces (p ∷ qs) first start line t → BeginWithPiece (rest_of text start) p
   begins_next p qs h = subst (λ (l : List ℕ). BeginWithPiece l p) (sym (rest_is text start))
@@ -102,7 +75,7 @@ module _ {text : List ℕ} {pieces : List Piece} {first start line : ℕ} {t : L
   has_next [] h inside = absurd (omega (arith, inside, ap length h.are.spell, length-drop start text))
   has_next (p ∷ qs) h inside = (p, begins_next p qs h)
 
-  pub read_next : {len ends : ℕ} {u : LineTokens} (left : List Piece) → AreLineText text pieces → HaveReadOf text pieces left first start line t
+  pub read_next : {len ends : ℕ} {u : List Token} (left : List Piece) → AreLineText text pieces → HaveReadOf text pieces left first start line t
       → start < length text → KeepsEnd left → ReadsPiece (rest_of text start) t start line len ends u → IsReadNext text pieces first start line len ends u
   read_next [] is h inside kept r = absurd (omega (arith, inside, ap length h.are.spell, length-drop start text))
   read_next {len = len} (p ∷ qs) is h inside kept r =
@@ -122,11 +95,9 @@ module _ {text : List ℕ} {pieces : List Piece} {first start line : ℕ} {t : L
               (drop-drop (byte_len p.text) start text ∙ ap (λ (n : ℕ). drop (start + n) text) (sym size)) (text_after h.depth (drop start text) p qs h.are);
           ends = kept ∙ h.ends;
           lines = omega (arith, h.lines, lines, counted);
-          kind = h.kind ∙ ap (λ k. kind_on k qs) (sym (r.adds.kind ∙ ap (λ (y : FirstPiece). kind_with t.kind y.role) taken));
-          indent = r.adds.indent ∙ h.indent;
           tokens =
-              h.tokens ∙ rw (r.adds.tokens, append_assoc, sym (own_token p.class p.text start (start + byte_len p.text) line))
-              (ap (λ (y : FirstPiece). t.tokens.items ++ (token_in y.role start (start + y.len) line
+              h.tokens ∙ rw (r.adds, append_assoc, sym (own_token p.class p.text start (start + byte_len p.text) line))
+              (ap (λ (y : FirstPiece). t ++ (token_in y.role start (start + y.len) line
               ++ tokens_from (start + y.len) (line + y.line_ends) qs)) (sym taken));
         };
       }
@@ -142,26 +113,7 @@ module _ {text : List ℕ} {pieces : List Piece} {first start line : ℕ} {t : L
         absurd (omega (arith, inside, whole, ap length h.are.spell, ap byte_len (append-nil p.text), length-drop start text))
   before_end (p ∷ q ∷ qs) h inside = refl
 
-  -- nor is space
-  space_keeps : (left : List Piece) → HaveReadOf text pieces left first start line t → is_space (slice_index (rest_of text start) 0) ≡ true → KeepsEnd left
-  space_keeps [] h at = _
-  space_keeps (p ∷ qs) h at = no_line_end p qs (ap is_line_end_class (class_told _ p class.Space (begins_next p qs h) at))
-
-  -- space is passed
-  past_space : (left : List Piece) (n : ℕ) → AreLineText text pieces → HaveReadOf text pieces left first start line t
-      → IsRunOf is_space (rest_of text start) n → (others : List Piece) × HaveReadOf text pieces others first (start + n) line t
-  past_space left zero is h run = (left, subst (λ (k : ℕ). HaveReadOf text pieces left first k line t) (sym (add-zero start)) h)
-  past_space left (suc n) is h run =
-      let inside : start < length text = omega (arith, run.within, ap length (rest_is text start), length-drop start text) in
-      let spaces = run.each 0 (omega arith) in
-      let next : IsReadNext text pieces first start line (suc n) 0 t = read_next left is h inside (space_keeps left h spaces) (record {
-        role = Role.none;
-        is = λ p begin. space_taken begin (suc n) (class_told _ p class.Space begin spaces) run;
-        adds = record { kind = refl; indent = refl; tokens = sym (append-nil _) };
-      }) in
-      (next.left, subst (λ (l : ℕ). HaveReadOf text pieces next.left first (start + suc n) l t) (add-zero line) next.more)
-
-  -- and the first byte of it
+  -- the first byte of space is passed
   less_space : (cs : List ℕ) (qs : List Piece) → HaveReadOf text pieces (space_of (32 ∷ cs) ∷ qs) first start line t
       → (others : List Piece) × HaveReadOf text pieces others first (start + 1) line t
   unfolding encode is_line_feed is_return is_space
@@ -173,9 +125,7 @@ module _ {text : List ℕ} {pieces : List Piece} {first start line : ℕ} {t : L
       are = subst (λ l. AreTextAt h.depth l qs) (drop-drop 1 start text) (text_after h.depth (drop start text) (space_of (32 ∷ [])) qs h.are);
       ends = no_line_end (space_of (32 ∷ [])) qs refl ∙ h.ends;
       lines = omega (arith, h.lines);
-      kind = h.kind;
-      indent = h.indent;
-      tokens = h.tokens ∙ ap (λ n. t.tokens.items ++ tokens_from (start + 1) n qs) (add-zero line);
+      tokens = h.tokens ∙ ap (λ n. t ++ tokens_from (start + 1) n qs) (add-zero line);
     },
   )
   less_space (d ∷ ds) qs h =
@@ -194,9 +144,7 @@ module _ {text : List ℕ} {pieces : List Piece} {first start line : ℕ} {t : L
           };
           ends = sym (no_line_end (space_of (d ∷ ds)) qs refl) ∙ no_line_end (space_of (32 ∷ d ∷ ds)) qs refl ∙ h.ends;
           lines = omega (arith, h.lines);
-          kind = h.kind;
-          indent = h.indent;
-          tokens = h.tokens ∙ (λ i. t.tokens.items ++ tokens_from (place i) (ends i) qs);
+          tokens = h.tokens ∙ (λ i. t ++ tokens_from (place i) (ends i) qs);
         },
       )
 
@@ -233,26 +181,22 @@ line_end_class line_end is = refl
 line_end_class other is = absurd (cc)
 
 -- a line that is read up to its line end of so many bytes: that is one more line end, if it has one
-abbrev pub IsWholeRead : List ℕ → List Piece → ℕ → ℕ → LineTokens → Type 0
-IsWholeRead text pieces first line t = AreTokensOf pieces first t × (line + bool_byte (nat_lt 0 (end_len_of pieces)) ≡ first + line_ends (spelled pieces))
+abbrev pub IsWholeRead : List ℕ → List Piece → ℕ → ℕ → List Token → Type 0
+IsWholeRead text pieces first line t = (t ≡ tokens_from 0 first pieces) × (line + bool_byte (nat_lt 0 (end_len_of pieces)) ≡ first + line_ends (spelled pieces))
 
-module _ {text : List ℕ} {pieces : List Piece} {first start line : ℕ} {t : LineTokens} where
+module _ {text : List ℕ} {pieces : List Piece} {first start line : ℕ} {t : List Token} where
   end_left : (p : Piece) → HaveReadOf text pieces (p ∷ []) first start line t → p.class ≡ line_end → IsWholeRead text pieces first line t
   end_left p h is =
       let whole : end_len_of (p ∷ []) ≡ byte_len p.text = rw (ap is_line_end_class is) refl in
       let size : 0 < end_len_of pieces = omega (arith, h.ends, whole, piece_some p.class p.text h.are.fit.0, length-le-encodes p.text) in (
-        record {
-          kind = sym (h.kind ∙ ap (λ k. kind_with t.kind (role_of k p.text)) is);
-          indent = h.indent;
-          tokens = sym (h.tokens ∙ ap (λ k. t.tokens.items ++ (tokens_of_piece start (start + byte_len p.text) line k p.text ++ [])) is ∙ append-nil _);
-        },
+        sym (h.tokens ∙ ap (λ k. t ++ (tokens_of_piece start (start + byte_len p.text) line k p.text ++ [])) is ∙ append-nil _),
         grind (arith, h.lines, h.ends, ap (λ (y : FirstPiece). y.line_ends) (line_end_taken (begins_next p [] h) is), size),
       )
 
   pub whole_read : (left : List Piece) → HaveReadOf text pieces left first start line t → length text ≤ start + end_len_of left
       → IsWholeRead text pieces first line t
   whole_read [] h end = (
-    record { kind = sym h.kind; indent = h.indent; tokens = sym (h.tokens ∙ append-nil _) },
+    sym (h.tokens ∙ append-nil _),
     ap (λ n. line + bool_byte (nat_lt 0 n)) (sym h.ends) ∙ h.lines,
   )
   whole_read (p ∷ []) h end = by_class (is_line_end_class p.class) refl where
@@ -272,7 +216,7 @@ unfolding encode
 mark_encoded = refl
 
 -- a text that begins with another piece begins with no mark
-no_mark : (text : List ℕ) (ps : List Piece) → AreLineText text ps → begins_marked ps ≡ false → mark_len text ≡ 0
+pub no_mark : (text : List ℕ) (ps : List Piece) → AreLineText text ps → begins_marked ps ≡ false → mark_len text ≡ 0
 unfolding is_mark
 no_mark text [] is unmarked = ap mark_len (sym is.spell)
 no_mark text (p ∷ ps) is unmarked = ap (λ (b : Bool). if b then 3 else 0) (false_from_ne_true _ absent) where
@@ -286,7 +230,7 @@ no_mark text (p ∷ ps) is unmarked = ap (λ (b : Bool). if b then 3 else 0) (fa
       both_ways _ (unmarked_first begun) (ap is_mark first)
 
 -- and with a mark, where it is the first piece
-has_mark : (text : List ℕ) (p : Piece) (ps : List Piece) → AreLineText text (p ∷ ps) → p.class ≡ mark
+pub has_mark : (text : List ℕ) (p : Piece) (ps : List Piece) → AreLineText text (p ∷ ps) → p.class ≡ mark
     → (mark_len text ≡ byte_len p.text) × (line_ends p.text ≡ 0)
 unfolding is_line_feed is_return
 has_mark text p ps is class_is =
@@ -299,11 +243,11 @@ has_mark text p ps is class_is =
     (ap (λ (b : Bool). if b then 3 else 0) present ∙ sym (ap byte_len one ∙ ap length mark_encoded), ap line_ends one)
 
 -- the space that pieces begin with
-abbrev first_space : List Piece → ℕ
+abbrev pub first_space : List Piece → ℕ
 first_space [] = 0
 first_space (p ∷ ps) = space_len p.class p.text
 
-first_read : (bytes : List ℕ) (depth : ℕ) (ps : List Piece) (n : ℕ) → AreTextAt depth bytes ps → begins_marked ps ≡ false
+pub first_read : (bytes : List ℕ) (depth : ℕ) (ps : List Piece) (n : ℕ) → AreTextAt depth bytes ps → begins_marked ps ≡ false
     → IsRunOf is_space bytes n → n ≡ first_space ps
 first_read bytes depth [] n is unmarked run = omega (arith, run.within, ap length is.spell)
 first_read bytes depth (p ∷ ps) n is unmarked run = go p.class refl where
@@ -318,59 +262,48 @@ first_read bytes depth (p ∷ ps) n is unmarked run = go p.class refl where
   go space is = spaces b n is run
   go other is = none n run (λ spaces. absurd (cc))
 
-unmarked_indent : (ps : List Piece) → begins_marked ps ≡ false → indent_of ps ≡ first_space ps
+pub unmarked_indent : (ps : List Piece) → begins_marked ps ≡ false → indent_of ps ≡ first_space ps
 unmarked_indent [] unmarked = refl
 unmarked_indent (p ∷ []) unmarked = refl
 unmarked_indent (p ∷ q ∷ ps) unmarked = rw unmarked
 
-marked_indent : (p : Piece) (ps : List Piece) → p.class ≡ mark → indent_of (p ∷ ps) ≡ first_space ps
+pub marked_indent : (p : Piece) (ps : List Piece) → p.class ≡ mark → indent_of (p ∷ ps) ≡ first_space ps
 marked_indent p [] is = ap (λ (k : Class). space_len k p.text) is
 marked_indent p (q ∷ ps) is = ap (λ (k : Class). if is_mark_class k then space_len q.class q.text else space_len k p.text) is
 
-is_mark_or : (class : Class) → (class ≡ mark) ⊎ (is_mark_class class ≡ false)
+pub is_mark_or : (class : Class) → (class ≡ mark) ⊎ (is_mark_class class ≡ false)
 is_mark_or mark = inl refl
 is_mark_or _ = inr refl
 
 -- a line has begun
-module _ (text : List ℕ) (start n first : ℕ) (t : LineTokens) (begins : start ≡ mark_len text) (run : IsRunOf is_space (rest_of text start) n)
-    (blank : t.kind ≡ unit_kind.Blank) (indent : t.indent ≡ n) (none : t.tokens.items ≡ []) where
+module _ (text : List ℕ) (start first : ℕ) where
   begun_before : (pieces left : List Piece) (depth : ℕ) → AreTextAt depth (drop start text) left → begins_marked left ≡ false
-      → kind_of pieces ≡ kind_of left → tokens_from 0 first pieces ≡ tokens_from start first left → indent_of pieces ≡ first_space left
-      → line_ends (spelled left) ≡ line_ends (spelled pieces) → end_len_of left ≡ end_len_of pieces
-      → (others : List Piece) × HaveReadOf text pieces others first start first t
-  begun_before pieces left depth are unmarked kind tokens indent_is lines ends = (
+      → tokens_from 0 first pieces ≡ tokens_from start first left → line_ends (spelled left) ≡ line_ends (spelled pieces)
+      → end_len_of left ≡ end_len_of pieces → (others : List Piece) × HaveReadOf text pieces others first start first []
+  begun_before pieces left depth are unmarked tokens lines ends = (
     left,
-    record {
-      unmarked = unmarked;
-      depth = depth;
-      are = are;
-      ends = ends;
-      lines = ap (λ (n : ℕ). first + n) lines;
-      kind = kind ∙ kinds_on false false left ∙ ap (λ k. kind_on k left) (sym blank);
-      indent = indent ∙ first_read _ depth left n are unmarked (subst (λ l. IsRunOf is_space l n) (rest_is text start) run) ∙ sym indent_is;
-      tokens = tokens ∙ ap (λ l. l ++ tokens_from start first left) (sym none);
-    },
+    record { unmarked = unmarked; depth = depth; are = are; ends = ends; lines = ap (λ (n : ℕ). first + n) lines; tokens = tokens },
   )
 
-  begun_marked : (p : Piece) (ps : List Piece) → AreLineText text (p ∷ ps) → p.class ≡ mark
-      → (left : List Piece) × HaveReadOf text (p ∷ ps) left first start first t
-  begun_marked p ps is class_is =
+  begun_marked : (p : Piece) (ps : List Piece) → start ≡ mark_len text → AreLineText text (p ∷ ps) → p.class ≡ mark
+      → (left : List Piece) × HaveReadOf text (p ∷ ps) left first start first []
+  begun_marked p ps begins is class_is =
       let (len, counted) = has_mark text p ps is class_is in let place = sym (begins ∙ len) in
       begun_before (p ∷ ps) ps (depth_after 0 p) (subst (λ k. AreTextAt (depth_after 0 p) (drop k text) ps) place (text_after 0 text p ps is)) is.fit.2
-      (ap (λ (k : Class). kind_of (record { class = k; text = p.text } ∷ ps)) class_is)
       (ap (λ (k : Class). tokens_from 0 first (record { class = k; text = p.text } ∷ ps)) class_is
       ∙ rw (zero-add (byte_len p.text), place, counted, add-zero first))
-      (marked_indent p ps class_is) (omega (arith, line_ends-first p ps is.after is.fit, counted)) (no_line_end p ps (ap is_line_end_class class_is))
+      (omega (arith, line_ends-first p ps is.after is.fit, counted)) (no_line_end p ps (ap is_line_end_class class_is))
 
-  begun_unmarked : (ps : List Piece) → AreLineText text ps → begins_marked ps ≡ false → (left : List Piece) × HaveReadOf text ps left first start first t
-  begun_unmarked ps is unmarked =
-      let place = sym (begins ∙ no_mark text ps is unmarked) in
-      begun_before ps ps 0 (subst (λ k. AreTextAt 0 (drop k text) ps) place is) unmarked refl
-      (ap (λ k. tokens_from k first ps) place) (unmarked_indent ps unmarked) refl refl
+  begun_unmarked : (ps : List Piece) → 0 ≡ start → AreLineText text ps → begins_marked ps ≡ false
+      → (left : List Piece) × HaveReadOf text ps left first start first []
+  begun_unmarked ps place is unmarked =
+      begun_before ps ps 0 (subst (λ k. AreTextAt 0 (drop k text) ps) place is) unmarked (ap (λ k. tokens_from k first ps) place) refl refl
 
-  begun_at : (ps : List Piece) → AreLineText text ps → (left : List Piece) × HaveReadOf text ps left first start first t
-  begun_at [] is = begun_unmarked [] is refl
-  begun_at (p ∷ ps) is = ⊎_elim (begun_marked p ps is) (begun_unmarked (p ∷ ps) is) (is_mark_or p.class)
+  begun_at : (ps : List Piece) → start ≡ mark_len text → AreLineText text ps → (left : List Piece) × HaveReadOf text ps left first start first []
+  begun_at [] begins is = begun_unmarked [] (sym (begins ∙ no_mark text [] is refl)) is refl
+  begun_at (p ∷ ps) begins is =
+      ⊎_elim (begun_marked p ps begins is) (λ unmarked. begun_unmarked (p ∷ ps) (sym (begins ∙ no_mark text (p ∷ ps) is unmarked)) is unmarked)
+      (is_mark_or p.class)
 
-  pub begun : (end_len : ℕ) → HaveRead text end_len first (start + n) first t
-  begun end_len ps is = let (left, h) = begun_at ps is.0 in past_space left n is.0 h run
+  pub begun : (end_len : ℕ) → start ≡ mark_len text → HaveRead text end_len first start first []
+  begun end_len begins ps is = begun_at ps begins is.0

@@ -89,6 +89,7 @@ module _ {bytes : List ℕ} (has : HasRead bytes) where
     is = record {
       pieces = u;
       text = subst (λ t. AreLineText t u) (sym (stopped_text scan.stop bytes has.read has.rest has.spell stop)) (line_text (first_mode place) scan has.read len u has.scalars own);
+      whole = own.line.whole;
       ends = own.ends;
       some = omega (arith, stop, own.line.some);
       within = omega (arith, stop, bytes_size);

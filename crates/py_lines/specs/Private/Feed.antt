@@ -1,8 +1,8 @@
 -- What the scanner inside a `Scanner` holds: the text since the line that was released last, and how far it was scanned.
-use Rattle.std.specs.Prelude.{◌≡◌, ℕ, ◌+◌, ◌<◌, ◌≤◌, ◌^◌, ◌⊎◌, Bool, true, Option, None, Some, Result, Ok, Err, List, ◌++◌, length, take, drop, encode_utf8_all}
+use Rattle.std.specs.Prelude.{◌≡◌, ℕ, ◌+◌, ◌<◌, ◌≤◌, ◌^◌, ◌⊎◌, Bool, true, Option, None, Some, Result, Ok, Err, List, [], ◌∷◌, ◌++◌, length, take, drop, encode_utf8_all}
 use Rattle.std.specs.Str.{all_scalars}
 use Rattle.py_lines.specs.Piece.{Piece, spelled}
-use Rattle.py_lines.specs.LogicalLine.{byte_len, end_len_of, line_ends, line_of}
+use Rattle.py_lines.specs.LogicalLine.{byte_len, cut, end_len_of, line_ends, line_of}
 pub use Rattle.py_lines.specs.LogicalLine.{LogicalLine}
 use Rattle.py_lines.specs.Lexed.{IsLexed}
 use Rattle.py_lines.specs.Settled.{IsHopeless, Decides}
@@ -102,6 +102,7 @@ pub record BeginWithLine (items : List ℕ) (stopped end_len : ℕ) : Type 0 whe
   pub spell : encode_utf8_all read ++ rest ≡ items
   pub spells : spelled pieces ≡ read
   pub text : AreLineText (take stopped items) pieces
+  pub whole : cut 0 pieces ≡ pieces ∷ []
   pub ends : end_len ≡ end_len_of pieces
   pub stop : stopped ≡ byte_len read
   pub some : 0 < byte_len read

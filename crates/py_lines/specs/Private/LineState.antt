@@ -2,11 +2,12 @@
 -- scan knows of that line, and the text's fault.
 use Rattle.std.specs.Prelude.{◌≡◌, ℕ, zero, suc, ◌+◌, ◌<◌, ◌≤◌, None, Some, Result, Ok, Err, List, [], ◌∷◌, ◌++◌, length, take, drop, encode_utf8_all}
 use Rattle.py_lines.specs.Piece.{Piece, spelled}
-use Rattle.py_lines.specs.LogicalLine.{LogicalLine, end_len_of, line_ends, line_of}
+use Rattle.py_lines.specs.LogicalLine.{LogicalLine, cut, end_len_of, line_ends, line_of}
 use Rattle.py_lines.specs.Given.{AreFirstLines}
 use Rattle.py_lines.specs.Lexed.{IsLexed}
 use Rattle.py_lines.specs.Private.LineScan.{HasBegun, ScansIn}
 use Rattle.py_lines.specs.Private.LineTokens.{AreLineText}
+use Rattle.py_lines.specs.Private.Outline as outlines
 pub use Rattle.py_lines.specs.Private.LineTokens.{HoldsTokens, IsLineAfter, IsLineText}
 use Rattle.py_lines.specs.declared.fault.Fault.{Fault}
 use Rattle.py_lines.specs.declared.fault.FaultKind.{FaultKind}
@@ -18,8 +19,6 @@ use Rattle.py_lines.specs.Private.Mode as modes
 use Rattle.py_lines.specs.declared.scan.Scan.{Scan}
 use Rattle.py_lines.specs.declared.scan.LineFault.{LineFault}
 use Rattle.py_lines.specs.declared.scan.Stop.TheVariants as stops
-pub use Rattle.py_lines.specs.Token.{EachLiesIn}
-pub use Rattle.py_lines.specs.UnitLine.{line_in}
 
 -- what is open where a line begins: a mark may stand at the text's start
 abbrev pub first_mode : ℕ → Mode
@@ -40,15 +39,7 @@ with_tokens old new = record old { tokens = new.tokens; scan = lent old.scan new
 
 -- the logical line whose tokens were read: this text at this byte and on this line, with so many bytes of line end
 abbrev pub read_line : LineState → List ℕ → ℕ → ℕ → ℕ → LogicalLine
-read_line s text offset line end_len = record {
-  kind = s.tokens.kind;
-  text = text;
-  tokens = s.tokens.tokens.items;
-  offset = offset;
-  line = line;
-  indent = s.tokens.indent;
-  end_len = end_len;
-}
+read_line s text offset line end_len = outlines.with_tokens (outlines.outline_at text offset line end_len) s.tokens.items
 
 -- the scan and the tokens alone have changed
 abbrev pub reread : LineState → LineState → LineState
@@ -88,6 +79,7 @@ pub record KeepsFault (old : LineState) (kind : FaultKind) (offset : ℕ) (bytes
 pub record BeginWithLine (bytes : List ℕ) (stop end_len : ℕ) : Type 0 where
   pub pieces : List Piece
   pub text : AreLineText (take stop bytes) pieces
+  pub whole : cut 0 pieces ≡ pieces ∷ []
   pub ends : end_len ≡ end_len_of pieces
   pub some : 0 < stop
   pub within : stop ≤ length bytes
@@ -111,7 +103,7 @@ pub record HasNextFault (s : LineState) (bytes : List ℕ) (line_fault : LineFau
 -- the line with which these bytes begin was read, with its tokens: so many of its bytes are its line end, and the line after it is this one
 pub record ReadsLine (s : LineState) (bytes : List ℕ) (end_len after : ℕ) (new : LineState) : Type 0 where
   pub scans : ScansIn (first_mode s.place) bytes new.scan (stops.LineEnd end_len)
-  pub tokens : HoldsTokens (take new.scan.stop bytes) end_len s.line new.tokens
+  pub tokens : HoldsTokens (take new.scan.stop bytes) end_len s.line new.tokens.items
   pub after_is : IsLineAfter s.line (take new.scan.stop bytes) end_len after
 
 abbrev pub ScansLine : LineState → List ℕ → Result ℕ LineFault → ℕ → Type 0

@@ -4,22 +4,18 @@ use Rattle.std.specs.List.{starts_with}
 use Rattle.std.specs.Str.{all_scalars}
 use Rattle.py_lines.specs.Character.{is_digit}
 pub use Rattle.py_lines.specs.Character.{is_quote, is_space}
-use Rattle.py_lines.specs.Piece.{Class, word, operator, comment, join, begins_marked, is_mark_class, spelled}
+use Rattle.py_lines.specs.Piece.{Class, word, operator, comment, begins_marked, is_mark_class, spelled}
 pub use Rattle.py_lines.specs.Piece.{Piece, begins, string}
 use Rattle.py_lines.specs.Fields.{AreReadBefore, IsShallow}
-use Rattle.py_lines.specs.LogicalLine.{byte_len, end_len_of, line_ends, first_or_zero, token, tokens_from, kind_of, indent_of}
+use Rattle.py_lines.specs.LogicalLine.{byte_len, end_len_of, line_ends, first_or_zero, token, tokens_from}
 use Rattle.py_lines.specs.Private.Machine.{begins_string}
 pub use Rattle.py_lines.specs.Private.Machine.{is_field_spelling}
 pub use Rattle.py_lines.specs.Private.Run.{IsRunOf, is_wide_word, word_spelling}
-use Rattle.py_lines.specs.Token.{is_comment}
 use Rattle.py_lines.specs.declared.class.Class.{Class as ByteClass}
 use Rattle.py_lines.specs.declared.class.Class.TheVariants as class
 use Rattle.py_lines.specs.declared.token.Token.{Token}
 use Rattle.py_lines.specs.declared.token.TokKind.{TokKind}
-use Rattle.py_lines.specs.declared.unit.UnitKind.{UnitKind}
-use Rattle.py_lines.specs.declared.unit.UnitKind.TheVariants as unit_kind
 use Rattle.py_lines.specs.declared.token.TokKind.TheVariants as kind
-use Rattle.py_lines.specs.declared.line_tokens.LineTokens.{LineTokens}
 pub use Rattle.std.specs.Char.{is_ascii_digit}
 pub use Rattle.py_lines.specs.Private.Marks.{is_of_class}
 
@@ -47,10 +43,9 @@ pub record BeginWithPiece (bytes : List ℕ) (p : Piece) : Type 0 where
 abbrev pub word_kind : Bool → TokKind
 word_kind digit = if digit then kind.Number else kind.Name
 
--- what a piece is to its line: a token, a join of two lines, or nothing more
+-- what a piece is to its line: a token, or nothing more
 pub data Role : Type 0 where
   token_of : TokKind → Role
-  joins : Role
   none : Role
 
 abbrev pub role_of : Class → List ℕ → Role
@@ -58,7 +53,6 @@ role_of word text = token_of (word_kind (begins is_digit text))
 role_of string text = token_of kind.Str
 role_of operator text = token_of (kind.Op (first_or_zero text))
 role_of comment text = token_of kind.Remark
-role_of join text = joins
 role_of other text = none
 
 -- the first piece of bytes: what it is to its line, how many bytes it has, and how many line ends it holds
@@ -102,49 +96,30 @@ IsFirstPiece bytes first = (p : Piece) → BeginWithPiece bytes p → IsTakenFor
 abbrev pub BeginWithString : List ℕ → Type 0
 BeginWithString bytes = (p : Piece) × (p.class ≡ string) × BeginWithPiece bytes p
 
--- the tokens of these pieces, which begin on this line, and what they make of it
-pub record AreTokensOf (pieces : List Piece) (line : ℕ) (t : LineTokens) : Type 0 where
-  pub kind : t.kind ≡ kind_of pieces
-  pub indent : t.indent ≡ indent_of pieces
-  pub tokens : t.tokens.items ≡ tokens_from 0 line pieces
-
 -- the pieces of a line of this text, which has so many bytes of line end
 abbrev pub AreLineOf : List ℕ → ℕ → List Piece → Type 0
 AreLineOf text end_len pieces = AreLineText text pieces × (end_len ≡ end_len_of pieces)
 
--- so for all pieces of such a line
-abbrev pub HoldsTokens : List ℕ → ℕ → ℕ → LineTokens → Type 0
-HoldsTokens text end_len line t = (pieces : List Piece) → AreLineOf text end_len pieces → AreTokensOf pieces line t
+-- the tokens of such a line, which begins on this line of the text
+abbrev pub HoldsTokens : List ℕ → ℕ → ℕ → List Token → Type 0
+HoldsTokens text end_len line tokens = (pieces : List Piece) → AreLineOf text end_len pieces → tokens ≡ tokens_from 0 line pieces
 
 -- the line after such a line
 abbrev pub IsLineAfter : ℕ → List ℕ → ℕ → ℕ → Type 0
 IsLineAfter line text end_len after = (pieces : List Piece) → AreLineOf text end_len pieces → after ≡ line + line_ends (spelled pieces)
-
--- what a line holds with a comment more
-abbrev pub with_comment : UnitKind → UnitKind
-with_comment unit_kind.Blank = unit_kind.Comment
-with_comment other = other
-
--- what it holds with a piece more
-abbrev pub kind_with : UnitKind → Role → UnitKind
-kind_with old none = old
-kind_with old joins = unit_kind.Code
-kind_with old (token_of k) = if is_comment k then with_comment old else unit_kind.Code
 
 -- the token that a piece is, if it is one
 abbrev pub token_in : Role → ℕ → ℕ → ℕ → List Token
 token_in (token_of k) start stop line = token k start stop line ∷ []
 token_in other start stop line = []
 
--- the tokens with those of a piece, which stands between these bytes of its line, and on this line of the text
-pub record AddsPiece (old : LineTokens) (role : Role) (start stop line : ℕ) (new : LineTokens) : Type 0 where
-  pub kind : new.kind ≡ kind_with old.kind role
-  pub indent : new.indent ≡ old.indent
-  pub tokens : new.tokens.items ≡ old.tokens.items ++ token_in role start stop line
+-- the tokens with that of a piece, which stands between these bytes of its line, and on this line of the text
+abbrev pub AddsPiece : List Token → Role → ℕ → ℕ → ℕ → List Token → Type 0
+AddsPiece old role start stop line new = new ≡ old ++ token_in role start stop line
 
 -- the first piece of these bytes was read, which stands at this byte of its line, and on this line of the text: so many bytes of it, with so
 -- many line ends
-pub record ReadsPiece (bytes : List ℕ) (old : LineTokens) (start line len line_ends : ℕ) (new : LineTokens) : Type 0 where
+pub record ReadsPiece (bytes : List ℕ) (old : List Token) (start line len line_ends : ℕ) (new : List Token) : Type 0 where
   pub role : Role
   pub is : IsFirstPiece bytes (record { role = role; len = len; line_ends = line_ends })
   pub adds : AddsPiece old role start (start + len) line new
@@ -154,7 +129,7 @@ abbrev pub IsFirstAnyway : List ℕ → FirstPiece → Type 0
 IsFirstAnyway bytes first = (n : ℕ) → first.len ≤ n → n ≤ length bytes → IsFirstPiece (take n bytes) first
 
 -- so it was read
-pub record ReadsAnyway (bytes : List ℕ) (old : LineTokens) (start line len line_ends : ℕ) (new : LineTokens) : Type 0 where
+pub record ReadsAnyway (bytes : List ℕ) (old : List Token) (start line len line_ends : ℕ) (new : List Token) : Type 0 where
   pub some : 0 < len
   pub within : len ≤ length bytes
   pub few : line_ends ≤ len
@@ -173,37 +148,30 @@ is_simple class.LineFeed = true
 is_simple _ = false
 
 -- a piece that a byte of another class begins was not read
-abbrev pub StaysUnread : ByteClass → LineTokens → LineTokens → Type 0
+abbrev pub StaysUnread : ByteClass → List Token → List Token → Type 0
 StaysUnread k old new = (is_simple k ≡ false) × (new ≡ old)
 
--- what it holds with these pieces more
-abbrev pub kind_on : UnitKind → List Piece → UnitKind
-kind_on old [] = old
-kind_on old (p ∷ ps) = kind_on (kind_with old (role_of p.class p.text)) ps
-
 -- the first of the pieces were read, up to this byte of the line, which is on this line of the text, and these are left
-pub record HaveReadOf (text : List ℕ) (pieces left : List Piece) (first start line : ℕ) (t : LineTokens) : Type 0 where
+pub record HaveReadOf (text : List ℕ) (pieces left : List Piece) (first start line : ℕ) (held : List Token) : Type 0 where
   pub unmarked : begins_marked left ≡ false
   pub depth : ℕ
   pub are : AreTextAt depth (drop start text) left
   pub ends : end_len_of left ≡ end_len_of pieces
   pub lines : line + line_ends (spelled left) ≡ first + line_ends (spelled pieces)
-  pub kind : kind_of pieces ≡ kind_on t.kind left
-  pub indent : t.indent ≡ indent_of pieces
-  pub tokens : tokens_from 0 first pieces ≡ t.tokens.items ++ tokens_from start line left
+  pub tokens : tokens_from 0 first pieces ≡ held ++ tokens_from start line left
 
 -- so for all pieces of a line of this text, which has so many bytes of line end
-abbrev pub HaveRead : List ℕ → ℕ → ℕ → ℕ → ℕ → LineTokens → Type 0
-HaveRead text end_len first start line t =
-    (pieces : List Piece) → AreLineOf text end_len pieces → (left : List Piece) × HaveReadOf text pieces left first start line t
+abbrev pub HaveRead : List ℕ → ℕ → ℕ → ℕ → ℕ → List Token → Type 0
+HaveRead text end_len first start line held =
+    (pieces : List Piece) → AreLineOf text end_len pieces → (left : List Piece) × HaveReadOf text pieces left first start line held
 
 -- so of each line with which these bytes begin, and whose line end stands there or later
-abbrev pub HaveReadAnyway : List ℕ → ℕ → ℕ → ℕ → LineTokens → Type 0
-HaveReadAnyway bytes first start line t =
-    (n end_len : ℕ) → n ≤ length bytes → start + end_len ≤ n → HaveRead (take n bytes) end_len first start line t
+abbrev pub HaveReadAnyway : List ℕ → ℕ → ℕ → ℕ → List Token → Type 0
+HaveReadAnyway bytes first start line held =
+    (n end_len : ℕ) → n ≤ length bytes → start + end_len ≤ n → HaveRead (take n bytes) end_len first start line held
 
 -- the pieces from one byte to another were read: the line is this one there
-pub record ReadsUpTo (bytes : List ℕ) (old : LineTokens) (start line to after : ℕ) (new : LineTokens) : Type 0 where
+pub record ReadsUpTo (bytes : List ℕ) (old : List Token) (start line to after : ℕ) (new : List Token) : Type 0 where
   pub further : start ≤ to
   pub few : after + start ≤ line + to
   pub reads : (first : ℕ) → HaveReadAnyway bytes first start line old → HaveReadAnyway bytes first to after new

@@ -1,5 +1,5 @@
 use Rattle.py_lines.proofs.Prelude.{◌≡◌, ◌+◌, ◌-◌, ◌≤◌, ◌∙◌, List, [], ℕ, add-zero, ap, arith, drop, length-drop, refl, slice_index, subst, sym, take, transport, eqb-false, IfOk-from_err, IfSome}
-use Rattle.py_lines.specs.declared.line_tokens.LineTokens.{LineTokens}
+use Rattle.py_lines.specs.declared.token.Token.{Token}
 use Rattle.py_lines.specs.declared.passing.Passing.{Passing}
 use Rattle.py_lines.specs.declared.scan.Scan.{Scan}
 use Rattle.py_lines.specs.Private.Frames.{has_field}
@@ -11,7 +11,7 @@ use Rattle.py_lines.proofs.LineTokens.Strings.{short_taken}
 use Rattle.py_lines.proofs.PassedPieces.Ends.{passes_none}
 use Rattle.py_lines.proofs.PassedPieces.Pieces.{HasPassed, passes_line, passes_next}
 use Rattle.py_lines.proofs.simple_line.read_simple_line.Goals as goal
-use Rattle.py_lines.proofs.simple_line.read_simple_line.Goals.{In-Some, In-specials, Joined-class, in-Quote+else-not-pass_short_string+in_ok-add-in-Quote, in_default-class+in-Passed+in_ok-len-in-Passed+in-Some-2}
+use Rattle.py_lines.proofs.simple_line.read_simple_line.Goals.{In-Some, In-specials, Joined-class, in-Quote+else-not-pass_short_string+in_ok-add_token-in-Quote, in_default-class+in-Passed+in_ok-len-in-Passed+in-Some-2}
 
 pub specials-init : goal.specials-init
 specials-init c =
@@ -25,7 +25,7 @@ specials-init c =
       },
       omega arith,
       omega arith,
-      begun_anyway c.args.bytes.now _ _ _ (search (arith)) c.begin.ensures.indent c.begin.ensures.kind refl c.begin.ensures.tokens,
+      subst (HaveReadAnyway _ _ _ _) (sym c.clear.ensures.items) (begun_anyway c.args.bytes.now c.args.line (search (arith))),
     )
 
 pub read_up_to-requires-clause-lines : goal.read_up_to-requires-clause-lines
@@ -36,8 +36,8 @@ stop : (c : In-specials) → c.specials.scan.stop ≡ 0
 stop c = ap (λ (s : Scan). s.stop) (c.specials.invariant.0.same ∙ ap (λ s. with_frames s c.specials.scan.frames) c.requires.scan)
 
 -- the pieces before this byte were read
-read : (c : In-Some) → ReadsUpTo c.args.bytes.now c.specials.tokens c.specials.start c.specials.line_here c.specials.at c.in-Some.line_there c.read_up_to.new.tokens
-read c = subst (λ o. IfSome o (λ after. ReadsUpTo c.args.bytes.now c.specials.tokens c.specials.start c.specials.line_here c.specials.at after c.read_up_to.new.tokens))
+read : (c : In-Some) → ReadsUpTo c.args.bytes.now c.specials.tokens.items c.specials.start c.specials.line_here c.specials.at c.in-Some.line_there c.read_up_to.new.tokens.items
+read c = subst (λ o. IfSome o (λ after. ReadsUpTo c.args.bytes.now c.specials.tokens.items c.specials.start c.specials.line_here c.specials.at after c.read_up_to.new.tokens.items))
     c.in-Some.is c.in_ok-line_there.ensures
 
 pub returns-in-LineEnd : goal.returns-in-LineEnd
@@ -50,19 +50,19 @@ returns-in-LineEnd c =
     record {
       before = c.specials.at;
       ends = passes_line _ _ _ _ _ on c.in-LineEnd.len c.pass-in-LineEnd.new.self c.pass.new.self c.pass.new.frames ends c.pass-in-LineEnd.ensures;
-      tokens = subst (λ (n : ℕ). HoldsTokens (take n c.args.bytes.now) c.in-LineEnd.len c.args.line c.read_up_to.new.tokens) (sym last) tokens;
+      tokens = subst (λ (n : ℕ). HoldsTokens (take n c.args.bytes.now) c.in-LineEnd.len c.args.line c.read_up_to.new.tokens.items) (sym last) tokens;
       lines = subst (λ (n : ℕ). IsLineAfter c.args.line (take n c.args.bytes.now) c.in-LineEnd.len (c.in-Some.line_there + 1)) (sym last) lines;
     }
 
 -- what stands at the byte was passed, and the pieces are read up to a place, from where the line is this one
-record GoesOn (bytes : List ℕ) (at first line : ℕ) (old : Scan) (p : Passing) (scan : Scan) (tokens : LineTokens) (start : ℕ) (q : Passing) : Type 0 where
+record GoesOn (bytes : List ℕ) (at first line : ℕ) (old : Scan) (p : Passing) (scan : Scan) (tokens : List Token) (start : ℕ) (q : Passing) : Type 0 where
   same : scan ≡ with_frames old scan.frames
   so : PassesSo bytes at (old.stop + at) p old.frames q scan.frames
   few : line ≤ first + start
   have : HaveReadAnyway bytes first start line tokens
 
 goes_on : (c : Joined-class) → GoesOn c.args.bytes.now c.specials.at c.args.line c.match-class.line_here c.specials.scan c.specials.passing c.match-class.scan
-    c.match-class.tokens c.match-class.start c.match-class.passing
+    c.match-class.tokens.items c.match-class.start c.match-class.passing
 goes_on c =
     let (on, counted, before, have) = c.specials.invariant in
     let bytes = c.args.bytes.now in
@@ -71,24 +71,24 @@ goes_on c =
     let there = r.reads c.args.line have in
     let few : c.in-Some.line_there ≤ c.args.line + at = omega (arith, r.few, before) in
     elim c.match-class.branch [
-      | in-Quote+else-not-pass_short_string+in_ok-add-in-Quote w ↦
+      | in-Quote+else-not-pass_short_string+in_ok-add_token-in-Quote w ↦
           let all = w.pass_short_string.new.passing.all in
           let so = w.pass_short_string.ensures.passed w.if-not-pass_short_string.false (c.specials.scan.stop + at) c.specials.scan.frames in
           let string = w.pass_short_string.ensures.string w.if-not-pass_short_string.false in
-          let piece : ReadsAnyway (drop at bytes) c.read_up_to.new.tokens at c.in-Some.line_there (all - at) 0 w.add.new.self = record {
+          let piece : ReadsAnyway (drop at bytes) c.read_up_to.new.tokens.items at c.in-Some.line_there (all - at) 0 w.add_token.new.tokens.items = record {
             some = omega (arith, string.size);
             within = omega (arith, so.within, length-drop at bytes);
             few = omega arith;
             role = _;
             is = λ n fits within. short_taken bytes at all string n fits;
-            adds = w.in_ok-add-in-Quote.ensures;
+            adds = w.in_ok-add_token-in-Quote.ensures;
           } in
           let far : at + (all - at) ≡ all = omega (arith, so.further) in
           rw (w.scan-is, w.tokens-is, w.start-is, w.line_here-is, w.passing-is) (record {
             same = refl;
             so = so;
             few = omega (arith, few, so.further);
-            have = transport (λ i. HaveReadAnyway bytes c.args.line (far i) (add-zero c.in-Some.line_there i) w.add.new.self) (reads_on there piece);
+            have = transport (λ i. HaveReadAnyway bytes c.args.line (far i) (add-zero c.in-Some.line_there i) w.add_token.new.tokens.items) (reads_on there piece);
           })
       | in_default-class+in-Passed+in_ok-len-in-Passed+in-Some-2 w ↦
           let place : at ≡ c.specials.scan.stop + at = omega (arith, stop (goal.at.Joined-class c).In-specials) in
@@ -128,8 +128,8 @@ pass_short_string-requires-clause-quote c = ap (λ k. is_of_class k (slice_index
 pub overflow_sub-passing : goal.overflow_sub-passing
 overflow_sub-passing c = omega (arith, (c.pass_short_string.ensures.passed c.if-not-pass_short_string.false 0 []).further)
 
-pub add-requires : goal.add-requires
-add-requires c = let so = c.pass_short_string.ensures.passed c.if-not-pass_short_string.false 0 [] in omega (arith, so.further, so.within, c.requires.lines)
+pub add_token-requires : goal.add_token-requires
+add_token-requires c = let so = c.pass_short_string.ensures.passed c.if-not-pass_short_string.false 0 [] in omega (arith, so.further, so.within, c.requires.lines)
 
 pub pass-requires : goal.pass-requires
 pass-requires c = record { next = c.specials.invariant.0.next; within = c.specials-test.true; counted = c.specials.invariant.1 }
@@ -140,8 +140,8 @@ bounds-bytes-0 c = let some = eqb-false _ 0 (sym c.is_empty.ensures ∙ c.if-is_
 pub returns-in_err-line_there : goal.returns-in_err-line_there
 returns-in_err-line_there c = IfOk-from_err c.from_residual.result _ c.from_residual.ensures.0
 
-pub returns-in_err-add-in-Quote : goal.returns-in_err-add-in-Quote
-returns-in_err-add-in-Quote c = IfOk-from_err c.from_residual-in_err-add-in-Quote.result _ c.from_residual-in_err-add-in-Quote.ensures.0
+pub returns-in_err-add_token-in-Quote : goal.returns-in_err-add_token-in-Quote
+returns-in_err-add_token-in-Quote c = IfOk-from_err c.from_residual-in_err-add_token-in-Quote.result _ c.from_residual-in_err-add_token-in-Quote.ensures.0
 
 pub returns-in_err-len-in-Passed : goal.returns-in_err-len-in-Passed
 returns-in_err-len-in-Passed c = IfOk-from_err c.from_residual-in_err-len-in-Passed.result _ c.from_residual-in_err-len-in-Passed.ensures.0

@@ -7,7 +7,7 @@ use Rattle.py_lines.proofs.simple_line.read_simple_line.Given as goal
 abbrev pub invariant-specials : goal.invariant-specials
 invariant-specials l =
     HasPassed l.fn.scan l.bytes l.at l.scan l.passing × IsCounted l.bytes l.passing × (l.line_here ≤ l.line + l.start)
-    × HaveReadAnyway l.bytes l.line l.start l.line_here l.tokens
+    × HaveReadAnyway l.bytes l.line l.start l.line_here l.tokens.items
 
 abbrev pub decreases-specials : goal.decreases-specials
 decreases-specials l = length l.bytes - l.at

@@ -6,8 +6,8 @@ use Rattle.py_lines.proofs.simple_line.read_up_to.Goals as goal
 use Rattle.py_lines.proofs.simple_line.read_up_to.Goals.{In-Some}
 
 -- the piece that was read
-read : (c : In-Some) → ReadsAnyway (drop c.pieces.at c.args.bytes.now) c.pieces.tokens c.pieces.at c.pieces.line_here c.in-Some.len c.in-Some.ends
-    c.read_anyway.new.self
+read : (c : In-Some) → ReadsAnyway (drop c.pieces.at c.args.bytes.now) c.pieces.tokens.items c.pieces.at c.pieces.line_here c.in-Some.len c.in-Some.ends
+    c.read_anyway.new.tokens.items
 read c = piece_read _ c.in-Some.is c.in_ok-len.ensures
 
 pub pieces-preserved : goal.pieces-preserved
@@ -25,7 +25,7 @@ returns-then-at-to c =
     record {
       further = omega (arith, more, c.if-at-to.true);
       few = omega (arith, few, c.if-at-to.true);
-      reads = λ first h. subst (λ (k : ℕ). HaveReadAnyway c.args.bytes.now first k c.pieces.line_here c.pieces.tokens) c.if-at-to.true (reads first h);
+      reads = λ first h. subst (λ (k : ℕ). HaveReadAnyway c.args.bytes.now first k c.pieces.line_here c.pieces.tokens.items) c.if-at-to.true (reads first h);
     }
 
 pub overflow_add-at : goal.overflow_add-at

@@ -1,16 +1,14 @@
-use Rattle.py_lines.proofs.Prelude.{ℕ, List, take, sym, ap, subst, arith, length-take}
+use Rattle.py_lines.proofs.Prelude.{◌≡◌, take, sym, ap, ◌∙◌, subst, transport}
+use Rattle.py_lines.specs.Outline.{Outline}
 use Rattle.py_lines.specs.Token.{EachLiesIn}
 use Rattle.py_lines.specs.Private.Feed.{StandsSo}
-use Rattle.py_lines.proofs.Feeds.ReadyLines.{held_within, ready_lies}
+use Rattle.py_lines.proofs.Feeds.ReadyLines.{ready_lies}
 use Rattle.py_lines.proofs.scanner.Scanner.ready.Goals as goal
 
-pub unit-requires-clause-tokens : goal.unit-requires-clause-tokens
-unit-requires-clause-tokens c =
+pub unit-requires : goal.unit-requires
+unit-requires c =
     let f = c.self.inside.feed in
-    subst (λ (t : List ℕ). EachLiesIn t f.state.tokens.tokens.items) (sym (ap (take f.state.scan.stop) c.deref.ensures.value))
+    let text : c.of-line.result.text.now ≡ take f.state.scan.stop f.held.items
+    = ap (λ (o : Outline). o.text) c.of-line.ensures ∙ ap (take f.state.scan.stop) c.deref.ensures.value in
+    transport (λ i. EachLiesIn (sym text i) (sym c.as_slice.ensures.value i))
     (ready_lies f c.in_ok-end_len.end_len (subst (StandsSo f) c.in_ok-end_len.was c.self.invariant.state))
-
-pub unit-requires-clause-fits : goal.unit-requires-clause-fits
-unit-requires-clause-fits c =
-    let f = c.self.inside.feed in let r = subst (StandsSo f) c.in_ok-end_len.was c.self.invariant.state in
-    omega (arith, length-take f.state.scan.stop c.deref.result.now, held_within f c.in_ok-end_len.end_len r.holds, c.self.invariant.room.fits)

@@ -1,7 +1,7 @@
 use Rattle.py_lines.proofs.Prelude.{◌≡◌, ◌<◌, ◌≤◌, ◌+◌, ◌∙◌, ℕ, List, ap, arith, drop, length, length-drop, refl, subst, sym, append-nil, false, true, slice_index, ⊎_elim, or_left}
 use Rattle.py_lines.specs.Character.{is_quote, is_space}
 use Rattle.py_lines.specs.declared.class.Class.{Class as ByteClass}
-use Rattle.py_lines.specs.declared.line_tokens.LineTokens.{LineTokens}
+use Rattle.py_lines.specs.declared.token.Token.{Token}
 use Rattle.py_lines.specs.Private.LineTokens.{AddsPiece, IsFirstAnyway, ReadsAnyway, Role, token_piece}
 use Rattle.py_lines.specs.Private.Marks.{is_of_class}
 use Rattle.py_lines.specs.Private.Run.{is_wide_word}
@@ -9,8 +9,8 @@ use Rattle.py_lines.proofs.FieldScans.TextLengths.{rest_is, rest_of}
 use Rattle.py_lines.proofs.PassedPieces.FirstBytes.{first_later}
 use Rattle.py_lines.proofs.LineTokens.FirstCharacters.{OfByte}
 use Rattle.py_lines.proofs.LineTokens.Anyway.{comment_anyway, feed_anyway, operator_anyway, run_some, space_anyway, word_anyway}
-use Rattle.py_lines.proofs.line_tokens.LineTokens.read_anyway.Goals as goal
-use Rattle.py_lines.proofs.line_tokens.LineTokens.read_anyway.Goals.{else-len-rest-via-then-len-rest+else-is_quote, else-len-rest-via-else-len-rest}
+use Rattle.py_lines.proofs.line_tokens.read_anyway.Goals as goal
+use Rattle.py_lines.proofs.line_tokens.read_anyway.Goals.{else-len-rest-via-then-len-rest+else-is_quote, else-len-rest-via-else-len-rest}
 
 -- some bytes stand there
 some : (bytes : List ℕ) (start : ℕ) → start < length bytes → 0 < length (rest_of bytes start)
@@ -21,15 +21,15 @@ told : (bytes : List ℕ) (start : ℕ) {j k : ByteClass} → is_of_class j (sli
 told bytes start {j} class is = (λ i. is_of_class (sym is i) ((ap (λ l. slice_index l 0) (rest_is bytes start) ∙ first_later bytes start) i)) ∙ class
 
 -- so it was read, as a slice has the bytes
-read : (bytes : List ℕ) (start : ℕ) {old new : LineTokens} {line len ends : ℕ} {role : Role} → 0 < len → len ≤ length (rest_of bytes start) → ends ≤ len
+read : (bytes : List ℕ) (start : ℕ) {old new : List Token} {line len ends : ℕ} {role : Role} → 0 < len → len ≤ length (rest_of bytes start) → ends ≤ len
     → IsFirstAnyway (rest_of bytes start) (record { role = role; len = len; line_ends = ends }) → AddsPiece old role start (start + len) line new
     → ReadsAnyway (drop start bytes) old start line len ends new
 read bytes start {old} {new} {line} {len} {ends} some within few is adds =
     subst (λ l. ReadsAnyway l old start line len ends new) (rest_is bytes start)
     (record { some = some; within = within; few = few; role = _; is = is; adds = adds })
 
-pub returns-in_ok-add-in-Word : goal.returns-in_ok-add-in-Word
-returns-in_ok-add-in-Word c =
+pub returns-in_ok-add_token-in-Word : goal.returns-in_ok-add_token-in-Word
+returns-in_ok-add_token-in-Word c =
     let bytes = c.args.bytes.now in
     let rest = rest_of bytes c.args.start in
     let len = c.len_in-len.result in
@@ -42,16 +42,16 @@ returns-in_ok-add-in-Word c =
     ] in
     read bytes c.args.start more c.len_in-len.ensures.within (omega arith)
     (subst (λ k. IsFirstAnyway rest (token_piece k len 0)) (sym c.word_kind.ensures) (word_anyway rest len word c.len_in-len.ensures more other))
-    c.in_ok-add-in-Word.ensures
+    c.in_ok-add_token-in-Word.ensures
 
-pub returns-in_ok-add-in-Operator : goal.returns-in_ok-add-in-Operator
-returns-in_ok-add-in-Operator c =
+pub returns-in_ok-add_token-in-Operator : goal.returns-in_ok-add_token-in-Operator
+returns-in_ok-add_token-in-Operator c =
     let bytes = c.args.bytes.now in
     read bytes c.args.start (omega arith) (omega (arith, some bytes c.args.start c.requires.within)) (omega arith)
     (operator_anyway (rest_of bytes c.args.start) c.args.class (told bytes c.args.start c.requires.class refl) (λ p of.
     ⊎_elim (λ is. subst (λ k. OfByte k p.class) is of)
     (⊎_elim (λ is. subst (λ k. OfByte k p.class) is of) (λ is. subst (λ k. OfByte k p.class) is of)) c.in-Operator.is))
-    c.in_ok-add-in-Operator.ensures
+    c.in_ok-add_token-in-Operator.ensures
 
 pub returns-in-Space : goal.returns-in-Space
 returns-in-Space c =
@@ -59,20 +59,20 @@ returns-in-Space c =
     let space = told bytes c.args.start c.requires.class c.in-Space.is in
     let more = run_some is_space _ c.space_len.result (some bytes c.args.start c.requires.within) space c.space_len.ensures in
     read bytes c.args.start more c.space_len.ensures.within (omega arith) (space_anyway _ c.space_len.result space c.space_len.ensures more)
-    (record { kind = refl; indent = refl; tokens = sym (append-nil _) })
+    (sym (append-nil _))
 
 pub returns-in-LineFeed : goal.returns-in-LineFeed
 returns-in-LineFeed c =
     let bytes = c.args.bytes.now in
     let feed = told bytes c.args.start c.requires.class c.in-LineFeed.is in
     read bytes c.args.start (omega arith) (omega (arith, some bytes c.args.start c.requires.within)) (omega arith) (feed_anyway _ feed)
-    (record { kind = refl; indent = refl; tokens = sym (append-nil _) })
+    (sym (append-nil _))
 
-pub returns-in_ok-add-in-Hash : goal.returns-in_ok-add-in-Hash
-returns-in_ok-add-in-Hash c =
+pub returns-in_ok-add_token-in-Hash : goal.returns-in_ok-add_token-in-Hash
+returns-in_ok-add_token-in-Hash c =
     let bytes = c.args.bytes.now in
     let rest = rest_of bytes c.args.start in
     let hash = told bytes c.args.start c.requires.class c.in-Hash.is in
     read bytes c.args.start (omega arith)
     (omega (arith, some bytes c.args.start c.requires.within, c.comment_run-len.ensures.within, ap length (rest_is rest 1), length-drop 1 rest)) (omega arith)
-    (comment_anyway rest c.comment_run-len.result hash c.comment_run-len.ensures) c.in_ok-add-in-Hash.ensures
+    (comment_anyway rest c.comment_run-len.result hash c.comment_run-len.ensures) c.in_ok-add_token-in-Hash.ensures

@@ -2,9 +2,8 @@ use Rattle.py_lines.proofs.Prelude.{◌≡◌, ◌+◌, ◌∙◌, ℕ, List, tr
 use Rattle.py_lines.specs.Piece.{Piece}
 use Rattle.py_lines.specs.declared.class.Class.{Class as ByteClass}
 use Rattle.py_lines.specs.declared.class.Class.TheVariants as class
-use Rattle.py_lines.specs.declared.line_tokens.LineTokens.{LineTokens}
+use Rattle.py_lines.specs.declared.token.Token.{Token}
 use Rattle.py_lines.specs.declared.token.TokKind.TheVariants as kind
-use Rattle.py_lines.specs.declared.unit.UnitKind.TheVariants as unit_kind
 use Rattle.py_lines.specs.Private.LineTokens.{AddsPiece, BeginWithPiece, IsFirstPiece, ReadsAnyway, ReadsPiece, Role, StaysUnread, is_simple}
 use Rattle.py_lines.specs.Private.Marks.{is_of_class}
 use Rattle.py_lines.specs.Private.Run.{is_ascii_word, is_wide_word}
@@ -13,24 +12,24 @@ use Rattle.py_lines.proofs.LineTokens.Anyway.{begins_from, piece_read}
 use Rattle.py_lines.proofs.LineTokens.FirstCharacters.{class_is, class_told, some_bytes}
 use Rattle.py_lines.proofs.LineTokens.FirstPieces.{join_taken, line_end_taken}
 use Rattle.py_lines.proofs.LineTokens.FirstString.{first_within}
-use Rattle.py_lines.proofs.line_tokens.LineTokens.read_piece.Goals as goal
-use Rattle.py_lines.proofs.line_tokens.LineTokens.read_piece.Goals.{After-of-class, In_default, In-Some}
+use Rattle.py_lines.proofs.line_tokens.read_piece.Goals as goal
+use Rattle.py_lines.proofs.line_tokens.read_piece.Goals.{After-of-class, In_default, In-Some}
 
 -- the piece, as a slice has the bytes
 there : (c : After-of-class) → (p : Piece) × BeginWithPiece (rest_of c.args.text.now c.args.start) p
 there c = subst (λ l. (p : Piece) × BeginWithPiece l p) (sym (rest_is c.args.text.now c.args.start)) c.requires.piece
 
 -- it was not read yet
-unread : (c : In_default) → StaysUnread c.of-class.result c.args.self.now c.read_anyway.new.self
+unread : (c : In_default) → StaysUnread c.of-class.result c.args.tokens.now.items c.read_anyway.new.tokens.items
 unread c =
-    let (old, new) : _ × _ = (c.args.self.now, c.read_anyway.new.self) in
+    let (old, new) : _ × _ = (c.args.tokens.now.items, c.read_anyway.new.tokens.items) in
     subst (λ o. MatchOption o (StaysUnread c.of-class.result old new) (λ p. ReadsAnyway (drop c.args.start c.args.text.now) old c.args.start c.args.line p.0 p.1 new))
     c.in_default.is c.in_ok-piece.ensures
 
 pub returns-in-Some : goal.returns-in-Some
 returns-in-Some c =
     let l = drop c.args.start c.args.text.now in
-    let (old, new) : _ × _ = (c.args.self.now, c.read_anyway.new.self) in
+    let (old, new) : _ × _ = (c.args.tokens.now.items, c.read_anyway.new.tokens.items) in
     let r : ReadsAnyway l old c.args.start c.args.line c.in-Some.piece.0 c.in-Some.piece.1 new = piece_read _ c.in-Some.is c.in_ok-piece.ensures in
     record {
       role = r.role;
@@ -50,10 +49,10 @@ word_or_string-kind-requires-clause-word c =
 pub word_or_string-kind-requires-clause-piece : goal.word_or_string-kind-requires-clause-piece
 word_or_string-kind-requires-clause-piece c = there (goal.at.word_or_string-kind-requires-clause-piece c).After-of-class
 
-pub add-requires : goal.add-requires
-add-requires c =
+pub add_token-requires : goal.add_token-requires
+add_token-requires c =
     let (text, start) : _ × _ = (c.args.text.now, c.args.start) in
-    omega (arith, c.well_formed, first_within (there (goal.at.add-requires c).After-of-class) c.word_or_string-kind.ensures, ap length (rest_is text start), length-drop start text)
+    omega (arith, c.well_formed, first_within (there (goal.at.add_token-requires c).After-of-class) c.word_or_string-kind.ensures, ap length (rest_is text start), length-drop start text)
 
 pub string_len-len-requires-clause-piece : goal.string_len-len-requires-clause-piece
 string_len-len-requires-clause-piece c = there (goal.at.string_len-len-requires-clause-piece c).After-of-class
@@ -61,10 +60,10 @@ string_len-len-requires-clause-piece c = there (goal.at.string_len-len-requires-
 pub string_len-len-requires-clause-string : goal.string_len-len-requires-clause-string
 string_len-len-requires-clause-string c = λ p b. class_is b c.of-class.ensures c.in-Quote.is
 
-pub add-requires-in-Quote : goal.add-requires-in-Quote
-add-requires-in-Quote c =
+pub add_token-requires-in-Quote : goal.add_token-requires-in-Quote
+add_token-requires-in-Quote c =
     let (text, start) : _ × _ = (c.args.text.now, c.args.start) in
-    omega (arith, c.well_formed, first_within (there (goal.at.add-requires-in-Quote c).After-of-class) c.string_len-len.ensures, ap length (rest_is text start), length-drop start text)
+    omega (arith, c.well_formed, first_within (there (goal.at.add_token-requires-in-Quote c).After-of-class) c.string_len-len.ensures, ap length (rest_is text start), length-drop start text)
 
 -- a byte of no other class begins a piece that isn't read before
 leftover : (k : ByteClass) (bytes : List ℕ) (p : Piece) → BeginWithPiece bytes p → is_of_class k (slice_index bytes 0) ≡ true → is_simple k ≡ false
@@ -86,42 +85,39 @@ unreachable-requires c =
 pub returns-in-Backslash : goal.returns-in-Backslash
 returns-in-Backslash c =
     let (text, start) : _ × _ = (c.args.text.now, c.args.start) in
-    let same = (unread (goal.at.returns-in-Backslash c).In_default).1 in
-    subst (λ l. ReadsPiece l c.args.self.now start c.args.line (1 + c.line_end_len.result) 1 (record c.read_anyway.new.self { kind = unit_kind.Code })) (rest_is text start) (record {
-      role = Role.joins;
+    subst (λ l. ReadsPiece l c.args.tokens.now.items start c.args.line (1 + c.line_end_len.result) 1 c.read_anyway.new.tokens.items) (rest_is text start) (record {
+      role = Role.none;
       is = λ p b. rw c.line_end_len.ensures (join_taken b (class_is b c.of-class.ensures c.in-Backslash.is));
-      adds = subst (λ (t : LineTokens). AddsPiece c.args.self.now Role.joins start (start + (1 + c.line_end_len.result)) c.args.line (record t { kind = unit_kind.Code }))
-          (sym same) (record { kind = refl; indent = refl; tokens = sym (append-nil _) });
+      adds = (unread (goal.at.returns-in-Backslash c).In_default).1 ∙ sym (append-nil _);
     })
 
 pub returns-in-Return : goal.returns-in-Return
 returns-in-Return c =
     let (text, start) : _ × _ = (c.args.text.now, c.args.start) in
-    subst (λ l. ReadsPiece l c.args.self.now start c.args.line c.line_end_len-in-Return.result 1 c.read_anyway.new.self) (rest_is text start) (record {
+    subst (λ l. ReadsPiece l c.args.tokens.now.items start c.args.line c.line_end_len-in-Return.result 1 c.read_anyway.new.tokens.items) (rest_is text start) (record {
       role = Role.none;
       is = λ p b. rw c.line_end_len-in-Return.ensures (line_end_taken b (class_is b c.of-class.ensures c.in-Return.is));
-      adds = subst (AddsPiece c.args.self.now Role.none start (start + c.line_end_len-in-Return.result) c.args.line)
-          (sym (unread (goal.at.returns-in-Return c).In_default).1) (record { kind = refl; indent = refl; tokens = sym (append-nil _) });
+      adds = (unread (goal.at.returns-in-Return c).In_default).1 ∙ sym (append-nil _);
     })
 
-pub returns-in_ok-add-in-Word : goal.returns-in_ok-add-in-Word
-returns-in_ok-add-in-Word c =
+pub returns-in_ok-add_token-in-Word : goal.returns-in_ok-add_token-in-Word
+returns-in_ok-add_token-in-Word c =
     let (text, start) : _ × _ = (c.args.text.now, c.args.start) in
     let k = c.word_or_string-kind.result in
-    subst (λ l. ReadsPiece l c.args.self.now start c.args.line k.1 k.2 c.add.new.self) (rest_is text start) (record {
+    subst (λ l. ReadsPiece l c.args.tokens.now.items start c.args.line k.1 k.2 c.add_token.new.tokens.items) (rest_is text start) (record {
       role = Role.token_of k.0;
       is = c.word_or_string-kind.ensures;
-      adds = subst (λ (t : LineTokens). AddsPiece t (Role.token_of k.0) start (start + k.1) c.args.line c.add.new.self)
-          (unread (goal.at.returns-in_ok-add-in-Word c).In_default).1 c.in_ok-add-in-Word.ensures;
+      adds = subst (λ (t : List Token). AddsPiece t (Role.token_of k.0) start (start + k.1) c.args.line c.add_token.new.tokens.items)
+          (unread (goal.at.returns-in_ok-add_token-in-Word c).In_default).1 c.in_ok-add_token-in-Word.ensures;
     })
 
-pub returns-in_ok-add-in-Quote : goal.returns-in_ok-add-in-Quote
-returns-in_ok-add-in-Quote c =
+pub returns-in_ok-add_token-in-Quote : goal.returns-in_ok-add_token-in-Quote
+returns-in_ok-add_token-in-Quote c =
     let (text, start) : _ × _ = (c.args.text.now, c.args.start) in
     let r = c.string_len-len.result in
-    subst (λ l. ReadsPiece l c.args.self.now start c.args.line r.0 r.1 c.add-in-Quote.new.self) (rest_is text start) (record {
+    subst (λ l. ReadsPiece l c.args.tokens.now.items start c.args.line r.0 r.1 c.add_token-in-Quote.new.tokens.items) (rest_is text start) (record {
       role = Role.token_of kind.Str;
       is = c.string_len-len.ensures;
-      adds = subst (λ (t : LineTokens). AddsPiece t (Role.token_of kind.Str) start (start + r.0) c.args.line c.add-in-Quote.new.self)
-          (unread (goal.at.returns-in_ok-add-in-Quote c).In_default).1 c.in_ok-add-in-Quote.ensures;
+      adds = subst (λ (t : List Token). AddsPiece t (Role.token_of kind.Str) start (start + r.0) c.args.line c.add_token-in-Quote.new.tokens.items)
+          (unread (goal.at.returns-in_ok-add_token-in-Quote c).In_default).1 c.in_ok-add_token-in-Quote.ensures;
     })

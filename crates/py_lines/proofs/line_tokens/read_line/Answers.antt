@@ -1,16 +1,16 @@
 use mir.Val.{bool_byte}
-use Rattle.py_lines.proofs.Prelude.{List, ◌≡◌, ◌+◌, ◌<◌, ◌≤◌, ◌∙◌, ap, arith, length, refl, rules, subst, sym, nat_lt}
+use Rattle.py_lines.proofs.Prelude.{List, ◌≡◌, ◌+◌, ◌<◌, ◌≤◌, ◌∙◌, ap, arith, length, rules, subst, sym, nat_lt}
 use Rattle.py_lines.specs.Piece.{Piece, spelled}
 use Rattle.py_lines.specs.LogicalLine.{line_ends}
-use Rattle.py_lines.specs.Private.LineTokens.{AreLineOf, BeginWithPiece, ReadsPiece}
+use Rattle.py_lines.specs.Private.LineTokens.{AreLineOf, BeginWithPiece, HaveRead, ReadsPiece}
 use Rattle.py_lines.proofs.FieldScans.TextLengths.{rest_is}
 use Rattle.py_lines.proofs.LineScan.LineCount.{line_ends-bytes}
 use Rattle.py_lines.proofs.LineTokens.Lines.{IsReadNext, IsWholeRead, before_end, begun, byte_within, end_within, has_next, past_byte, read_next, whole_read}
-use Rattle.py_lines.proofs.line_tokens.LineTokens.read.Goals as goal
-use Rattle.py_lines.proofs.line_tokens.LineTokens.read.Goals.{After-pieces, In_ok-piece}
+use Rattle.py_lines.proofs.line_tokens.read_line.Goals as goal
+use Rattle.py_lines.proofs.line_tokens.read_line.Goals.{After-pieces, In_ok-piece}
 
 pub pieces-init : goal.pieces-init
-pieces-init c = begun _ _ _ c.args.line _ c.mark_len-mark.ensures c.begin.ensures.indent c.begin.ensures.kind refl c.begin.ensures.tokens c.args.end_len
+pieces-init c = subst (HaveRead _ _ _ _ _) (sym c.clear.ensures.items) (begun _ _ c.args.line c.args.end_len c.mark_len-start.ensures)
 
 pub read_piece-requires-clause-piece : goal.read_piece-requires-clause-piece
 read_piece-requires-clause-piece c =
@@ -20,12 +20,12 @@ read_piece-requires-clause-piece c =
 
 -- the piece that was read
 read : (c : In_ok-piece) (ps : List Piece) → AreLineOf c.args.text.now c.args.end_len ps → IsReadNext c.args.text.now ps
-    c.args.line c.pieces.start c.pieces.line_here c.in_ok-piece.piece c.in_ok-piece.line_ends c.read_piece.new.self
+    c.args.line c.pieces.start c.pieces.line_here c.in_ok-piece.piece c.in_ok-piece.line_ends c.read_piece.new.tokens.items
 read c ps is =
     let (left, h) = c.pieces.invariant ps is in
     let before = before_end left h (omega (arith, c.pieces-test.true, h.ends, is.1)) in
     read_next left is.0 h (omega (arith, c.pieces-test.true)) before
-    (subst (λ l. ReadsPiece l c.pieces.self c.pieces.start c.pieces.line_here c.in_ok-piece.piece c.in_ok-piece.line_ends c.read_piece.new.self)
+    (subst (λ l. ReadsPiece l c.pieces.tokens.items c.pieces.start c.pieces.line_here c.in_ok-piece.piece c.in_ok-piece.line_ends c.read_piece.new.tokens.items)
     (sym (rest_is c.args.text.now c.pieces.start)) c.in_ok-piece.ensures)
 
 -- there is room for it
@@ -40,8 +40,8 @@ overflow_add-line_here c =
     let bound : c.pieces.line_here + c.in_ok-piece.line_ends < 18446744073709551616 = omega (arith, room c, c.requires.lines) in
     search (rules, bound)
 
-pub overflow_add-start-in-pieces : goal.overflow_add-start-in-pieces
-overflow_add-start-in-pieces c =
+pub overflow_add-start : goal.overflow_add-start
+overflow_add-start c =
     let bound : c.pieces.start + c.in_ok-piece.piece < 18446744073709551616 = omega (arith, room c, c.requires.lines) in search (rules, bound)
 
 pub slice_bounds-starts_with-count : goal.slice_bounds-starts_with-count
@@ -50,9 +50,9 @@ slice_bounds-starts_with-count c = (read c c.requires.text.0 c.requires.text.1).
 pub slice_bounds-starts_with-start : goal.slice_bounds-starts_with-start
 slice_bounds-starts_with-start c = (read c c.requires.text.0 c.requires.text.1).within
 
-pub overflow_add-start-in-pieces-2 : goal.overflow_add-start-in-pieces-2
-overflow_add-start-in-pieces-2 c =
-    let r = read (goal.at.overflow_add-start-in-pieces-2 c).In_ok-piece c.requires.text.0 c.requires.text.1 in
+pub overflow_add-start-in-pieces : goal.overflow_add-start-in-pieces
+overflow_add-start-in-pieces c =
+    let r = read (goal.at.overflow_add-start-in-pieces c).In_ok-piece c.requires.text.0 c.requires.text.1 in
     let within = byte_within _ _ c.starts_with.result r.within c.starts_with.ensures.bound in
     let bound : c.pieces.start + c.in_ok-piece.piece + bool_byte c.starts_with.result < 18446744073709551616
     = omega (arith, within, c.requires.lines) in
@@ -66,7 +66,7 @@ pieces-preserved c = λ ps is. past_byte _ c.starts_with.result (read (goal.at.p
 
 -- all was read but the line end
 whole : (c : After-pieces) → (ps : List Piece) → AreLineOf c.args.text.now c.args.end_len ps
-    → IsWholeRead c.args.text.now ps c.args.line c.pieces.line_here c.pieces.self
+    → IsWholeRead c.args.text.now ps c.args.line c.pieces.line_here c.pieces.tokens.items
 whole c ps is =
     let (left, h) = c.pieces.invariant ps is in
     whole_read left h (omega (arith, c.pieces-test.false, is.1, h.ends))

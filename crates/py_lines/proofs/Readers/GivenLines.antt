@@ -1,0 +1,92 @@
+-- The line that a reader gives next, without its tokens and with them.
+use Rattle.py_lines.proofs.Prelude.{◌≡◌, ℕ, ◌+◌, ◌≤◌, None, List, [], length, take, drop, refl, sym, ap, ◌∙◌, subst, transport, arith, length-drop, length-take-le}
+use Rattle.py_lines.specs.Piece.{Piece, spelled}
+use Rattle.py_lines.specs.LogicalLine.{LogicalLine, line_ends, line_of, tokens_from}
+use Rattle.py_lines.specs.Outline.{IsOutlineOf, Outline}
+use Rattle.py_lines.specs.Reader.{PassesLine, Reader}
+use Rattle.py_lines.specs.Token.{EachLiesIn}
+use Rattle.py_lines.specs.UnitLine.{outline_in}
+use Rattle.py_lines.specs.Private.LineState.{passed}
+use Rattle.py_lines.specs.Private.LineTokens.{AreLineOf, AreLineText, HoldsTokens, IsLineAfter}
+use Rattle.py_lines.specs.Private.Outline.{with_tokens}
+use Rattle.py_lines.specs.Private.Source.{HasNextOf, IsNext, IsOutlineNext, IsReadNext}
+use Rattle.py_lines.specs.declared.line_state.LineState.{LineState}
+use Rattle.py_lines.specs.declared.token.Token.{Token}
+use Rattle.py_lines.specs.declared.unit.Line as given
+use Rattle.py_lines.proofs.LineScan.LineCount.{line_ends-bytes}
+use Rattle.py_lines.proofs.LineTokens.Outlines.{line_told, line_whole}
+use Rattle.py_lines.proofs.LogicalLines.TokenPlaces.{each_after}
+use Rattle.py_lines.proofs.Readers.NextLines.{further, passes_next}
+
+-- what was scanned is the next line
+pub is_next : {r : Reader} {l : given.Line} {stop end_len : ℕ} → HasNextOf r stop end_len → IsOutlineNext r l stop end_len → IsNext r l
+is_next {r} {l} {stop} {end_len} next is =
+    let long : stop ≡ length l.text.now = sym (ap (λ (o : Outline). length o.text) is ∙ length-take-le stop (drop r.place r.text) next.is.within) in
+    let end : end_len ≡ l.end_len = sym (ap (λ (o : Outline). o.end_len) is) in
+    record { next = transport (λ i. HasNextOf r (long i) (end i)) next; is = transport (λ i. IsOutlineNext r l (long i) (end i)) is }
+
+module _ {r : Reader} {l : given.Line} (next : IsNext r l) where
+  abbrev pub pieces : List Piece
+  pieces = next.next.is.pieces
+
+  abbrev pub logical : LogicalLine
+  logical = line_of r.place r.line pieces
+
+  -- its text
+  pub text_is : take (length l.text.now) (drop r.place r.text) ≡ l.text.now
+  text_is = sym (ap (λ (o : Outline). o.text) next.is)
+
+  pub is_line : AreLineOf l.text.now l.end_len pieces
+  is_line = (subst (λ t. AreLineText t pieces) text_is next.next.is.text, next.next.is.ends)
+
+  -- it lies in the text, and holds few line ends
+  pub bounds : (r.place + length l.text.now ≤ length r.text) × (line_ends (spelled pieces) ≤ length l.text.now)
+  bounds = (
+    omega (arith, next.next.is.within, next.next.is.some, length-drop r.place r.text),
+    omega (arith, line_ends-bytes (spelled pieces), ap length is_line.0.spell),
+  )
+
+  -- without its tokens it is the outline of this line
+  pub outline_is : IsOutlineOf (outline_in l) logical
+  outline_is =
+      let n = next.next.is in
+      record {
+        pieces = pieces;
+        after = n.text.after;
+        are = record { scalars = n.text.scalars; fit = n.text.fit; shallow = n.text.shallow; whole = n.whole };
+        is = λ i. line_of (sym (ap (λ (o : Outline). o.offset) next.is) i) (sym (ap (λ (o : Outline). o.line) next.is) i) pieces;
+        same = line_told _ n.text n.whole r.place r.line l.end_len n.ends ∙ sym next.is;
+      }
+
+  -- it was read
+  pub read_is : {after : ℕ} {tokens : List Token} → HoldsTokens l.text.now l.end_len r.line tokens → IsLineAfter r.line l.text.now l.end_len after
+      → IsReadNext r l after tokens
+  read_is holds after = record { is = next; tokens_are = holds pieces is_line; after_is = after pieces is_line }
+
+  -- and with its tokens it is this line
+  module _ {tokens : List Token} (are : tokens ≡ tokens_from 0 r.line pieces) where
+    pub whole_is : with_tokens (outline_in l) tokens ≡ logical
+    whole_is = ap (λ (o : Outline). with_tokens o tokens) next.is
+        ∙ line_whole _ next.next.is.text next.next.is.whole r.place r.line l.end_len next.next.is.ends are
+
+    pub each_lies : EachLiesIn l.text.now tokens
+    each_lies = transport (λ i. EachLiesIn (is_line.0.spell i) (sym are i)) (each_after [] r.line pieces next.next.is.text.scalars)
+
+  -- the reader passes it
+  pub passes_it : (new : Reader) → r.fault ≡ None → new ≡ further r (length l.text.now) (line_ends (spelled pieces))
+      → PassesLine r logical new
+  passes_it new none is = subst (PassesLine r logical) (sym is) (passes_next r next.next refl none)
+
+-- the reader where a state stands in its text
+abbrev pub reader_at : List ℕ → LineState → Reader
+reader_at text t = record { text = text; place = t.place; line = t.line; fault = t.fault }
+
+-- where that is passed which is the next line
+pub moved : {text : List ℕ} {t new : LineState} {r : Reader} {after : ℕ} (len ends : ℕ) → reader_at text t ≡ r → new ≡ passed t len after → after ≡ r.line + ends
+    → reader_at text new ≡ further r len ends
+moved {text} {t} {new} {r} len ends same is after = λ i. record {
+  text = ap (λ (q : Reader). q.text) same i;
+  place = (ap (λ (s : LineState). s.place) is ∙ ap (λ (q : Reader). q.place + len) same) i;
+  line = (ap (λ (s : LineState). s.line) is ∙ after) i;
+  fault = (ap (λ (s : LineState). s.fault) is ∙ ap (λ (q : Reader). q.fault) same) i;
+}

@@ -1,0 +1,9 @@
+use Rattle.py_lines.proofs.Prelude.{take, ap, ◌∙◌}
+use Rattle.py_lines.specs.Private.Outline.{outline_at}
+use Rattle.py_lines.proofs.FieldScans.TextLengths.{rest_is}
+use Rattle.py_lines.proofs.source.Source.line.Goals as goal
+
+pub returns : goal.returns
+returns c =
+    let s = c.args.self.now in
+    c.of.ensures ∙ ap (λ t. outline_at (take s.state.scan.stop t) s.state.place s.state.line c.args.end_len) (rest_is s.bytes.now s.state.place)
