@@ -116,9 +116,10 @@ impl LineReader {
         ensures reads { ReadsOver lines.old result lines.new self.new }
         ensures markers { markers.new ≡ markers.old }
     {
-        let Some(unit) = lines.next_unit()? else {
+        let Some(line) = lines.next_line()? else {
             return Ok(false);
         };
+        let unit = lines.tokens(line)?;
         if !self.pass(&unit, markers) {
             let bindings = bindings_of(alloc, &unit)?;
             self.push(alloc, &unit, Actions::of(&unit, markers), bindings)?;

@@ -1,11 +1,13 @@
 -- What is known of the lines of a text as they are read, one after another.
-use Rattle.std.proofs.Common.{◌≡◌, true, false, Option, None, Some, Result, Ok, Err, List, [], ◌∷◌, ◌++◌, map, append-nil, append_assoc, inl, inr, refl, sym, ap, ◌∙◌, subst, arith}
+use Rattle.std.proofs.Common.{◌≡◌, true, false, Option, Some, Result, Ok, Err, List, [], ◌∷◌, ◌++◌, map, append-nil, append_assoc, inl, inr, refl, sym, ap, ◌∙◌, subst, arith}
+use Rattle.std.proofs.Math.Path.{transport}
 use Rattle.py_lines.specs.LogicalLine.{LogicalLine}
 use Rattle.py_lines.specs.Lexed.{IsLexed}
-use Rattle.py_lines.specs.Lines.{line_in, ReadsNext}
+use Rattle.py_lines.specs.Lines.{line_in, ReadsNextLine, ReadsTokens}
 use Rattle.py_lines.specs.Reader.{Reader, Continues, Ends, HasGiven}
 use Rattle.py_lines.specs.declared.fault.LexError.{LexError}
 use Rattle.py_lines.specs.declared.fault.LexError.TheVariants as lex
+use Rattle.py_lines.specs.declared.unit.Line as given_line
 use Rattle.py_lines.specs.declared.unit.Unit as unit
 use Rattle.py_imports.specs.Binds.{Binds, BindAll, Refuses}
 use Rattle.py_imports.specs.BindingValue.{BindingValue, binding_value}
@@ -30,13 +32,13 @@ pub BindAll-snoc : (lines : List LogicalLine) (line : LogicalLine) (values more 
 BindAll-snoc [] line values more h b = (more, [], ap (λ x. x ++ more) h ∙ sym (append-nil more), b, refl)
 BindAll-snoc (l ∷ ls) line values more h b = (h.0, h.1 ++ more, ap (λ x. x ++ more) h.2 ∙ append_assoc h.0 h.1 more, h.3, BindAll-snoc ls line h.1 more h.4 b)
 
--- a line that was read continues the lines before it
-pub continues : (old new : Reader) (result : Result (Option unit.Unit) LexError) (found : Option unit.Unit) (u : unit.Unit) → ReadsNext old result new → result ≡ Ok found → found ≡ Some u → Continues old (line_in u) new
-continues old new result found u reads is some = subst (λ r. ReadsNext old r new) (is ∙ ap Ok some) reads
-
--- no line is left
-pub ends : (old new : Reader) (result : Result (Option unit.Unit) LexError) (found : Option unit.Unit) → ReadsNext old result new → result ≡ Ok found → found ≡ None → Ends old new
-ends old new result found reads is none = subst (λ r. ReadsNext old r new) (is ∙ ap Ok none) reads
+-- a line that was given, and then read with its tokens, continues the lines before it
+pub continues : {old new last : Reader} {found : Option given_line.Line} {l : given_line.Line} {read : Result unit.Unit LexError} {u : unit.Unit}
+    → ReadsNextLine old (Ok found) new → found ≡ Some l → (last ≡ new) × ReadsTokens l read → read ≡ Ok u → Continues old (line_in u) last
+continues {old} {new} {last} {found} {l} {read} {u} next is (same, reads) was =
+    let (line, outline, passes) = subst (λ o. ReadsNextLine old (Ok o) new) is next in
+    let told : line_in u ≡ line = (subst (ReadsTokens l) was reads) line outline in
+    transport (λ i. Continues old (sym told i) (sym same i)) passes.continues
 
 -- a line that was read stands directly after those before it
 pub stands_after : (old new : Reader) (given : List LogicalLine) (line : LogicalLine) → Continues old line new → HasGiven old given → StandsAfter given line
@@ -72,8 +74,8 @@ reads_end old new r ends known = record {
 }
 
 -- the fault of a text whose next line can't be read
-pub refuses_text : (old new : Reader) (r : LineReader) (e : LexError) → ReadsNext old (Err e) new → IsKnown old r → IsRefused old.text (sort_error_of e)
-refuses_text old new r lex.Memory reads known = tt
+pub refuses_text : (old new : Reader) (r : LineReader) (e : LexError) → ReadsNextLine old (Err e) new → IsKnown old r → IsRefused old.text (sort_error_of e)
+refuses_text old new r lex.Memory reads known = absurd (reads)
 refuses_text old new r (lex.Fault fault) reads known = inr (record {
   lines = known.given;
   values = known.values;
