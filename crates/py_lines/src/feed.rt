@@ -2,8 +2,7 @@
 
 use crate::fault::{FaultKind, LexError};
 use crate::line_state::LineState;
-use crate::line_tokens::read_line;
-use crate::scan::Stop;
+use crate::scan::{LineFault, Stop};
 
 /// The text since the line that was released last, and how far it was scanned.
 #[derive(Drop)]
@@ -22,7 +21,7 @@ pub struct Feed {
 
 impl Feed {
     ghost use Rattle.std.specs.Prelude.{◌≡◌, ℕ, ◌+◌, ◌≤◌, ◌^◌, true, None, Option, length, OnOk};
-    ghost use Rattle.py_lines.specs.Private.Feed.{EndsText, FailsAt, HasRoom, HoldsLine, HoldsSo, IsHeldOpen, IsLineAfterHeld, IsReadyAt};
+    ghost use Rattle.py_lines.specs.Private.Feed.{EndsText, HasRoom, HoldsLine, HoldsSo, IsHeldOpen, IsLineAfterHeld, IsReadyAt};
     ghost use Rattle.py_lines.specs.Private.Feed.{IsSoundFeed, LetsGo, LogicalLine, Meets, ReadsTokens, ScansPiece, StandsAtLine, StopsHeld, Takes};
     ghost use Rattle.py_lines.specs.Private.Feed.{TakesSimple, TakesSo, scanning_of};
 
@@ -31,15 +30,6 @@ impl Feed {
         ensures { result ≡ true → StandsAtLine (scanning_of self.now) }
     {
         self.held.len() <= 1 && self.ready.is_none() && !self.ended && self.state.fault.is_none()
-    }
-
-    /// The text has this fault, from now on. It stands so many bytes after the lines that were released.
-    fn fail(&mut self, kind: FaultKind, offset: usize) -> LexError
-        requires cut { offset ≤ length self.old.held.items }
-        requires room { HasRoom self.old 0 }
-        ensures { FailsAt self.old kind offset result self.new }
-    {
-        self.state.fail(kind, &self.held[..offset])
     }
 
     /// Reads the tokens of the line that stands in what is held, if one does. If there is no memory for them, no line is ready: only so
@@ -53,17 +43,11 @@ impl Feed {
         let Some(end_len) = self.ready else {
             return Ok(());
         };
-        let state = &mut self.state;
-        let stop = state.scan.stop;
-        let read = read_line(
-            &mut state.tokens,
-            &mut state.scan,
-            &self.held[..stop],
-            end_len,
-            state.line,
-        );
+        let stop = self.state.scan.stop;
+        let line = self.state.line;
+        let read = self.state.read_line(&self.held[..stop], end_len, line);
         // The scan was lent for the strings of the line.
-        state.scan.stop = stop;
+        self.state.scan.stop = stop;
         match read {
             Ok(line) => {
                 self.next_line = line;
@@ -101,11 +85,13 @@ impl Feed {
             // An item that the bytes don't tell yet may end with a part of a character.
             Stop::TextEnd => match std::str::from_utf8(&self.held[scanned..]) {
                 Err(error) if error.error_len().is_some() => {
-                    Err(self.fail(FaultKind::BadUtf8, scanned + error.valid_up_to()))
+                    let kind = FaultKind::BadUtf8;
+                    let place = scanned + error.valid_up_to();
+                    Err(self.state.fail(LineFault { kind, place }, &self.held))
                 }
                 _ => Ok(self.held.len() - before),
             },
-            Stop::Wrong(line_fault) => Err(self.fail(line_fault.kind, line_fault.place)),
+            Stop::Wrong(line_fault) => Err(self.state.fail(line_fault, &self.held)),
         }
     }
 
@@ -228,7 +214,7 @@ impl Feed {
                 self.ready = Some(end_len);
                 Ok(())
             }
-            Err(line_fault) => Err(self.fail(line_fault.kind, line_fault.place)),
+            Err(line_fault) => Err(self.state.fail(line_fault, &self.held)),
         }
     }
 }

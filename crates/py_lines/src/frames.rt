@@ -4,7 +4,7 @@ ghost use Rattle.std.specs.Prelude.{◌≡◌, ◌==◌, ◌≤◌, List, [], �
 ghost use Rattle.py_lines.specs.Private.Frames.{ClosesBracket, Frame, IsInnermostFrame, OpensFrame, TakesFrame, closing_of, fields_of, has_field};
 ghost use Rattle.py_lines.specs.Private.Frames.{place_of};
 
-use crate::host::{Region, StringWithFields};
+use crate::mode::{Region, StringWithFields};
 use std::marker::Model;
 
 /// How many brackets and fields may be open at once.
@@ -153,9 +153,7 @@ impl Frames {
     pub fn pop(&mut self) -> Option<Frame>
         ensures { TakesFrame self.old result self.new }
     {
-        let Some(frame) = self.innermost() else {
-            return None;
-        };
+        let frame = self.innermost()?;
         self.depth -= 1;
         if let Frame::Field(_) = frame {
             self.fields -= 1;

@@ -6,7 +6,6 @@ mod class;
 mod fault;
 mod feed;
 mod frames;
-mod host;
 pub mod laws;
 mod line_ends;
 mod line_scan;
@@ -24,7 +23,6 @@ mod source;
 mod string_text;
 mod token;
 mod unit;
-mod utf8;
 mod whole_strings;
 
 pub use fault::{Fault, FaultKind, LexError};

@@ -2,11 +2,12 @@
 
 ghost use Rattle.py_lines.specs.Private.LineScan.{first_open};
 ghost use Rattle.py_lines.specs.Private.LineState.{first_mode};
-ghost use Rattle.std.specs.Prelude.{◌≡◌, ◌+◌, ◌<◌, ◌^◌, length, IfOk};
+ghost use Rattle.std.specs.Prelude.{◌≡◌, ◌+◌, ◌<◌, ◌≤◌, ◌^◌, length, take, IfOk, OnOk};
 ghost use Rattle.std.specs.Option.{IfSome};
 
-use crate::fault::{Fault, FaultKind, LexError};
+use crate::fault::{Fault, LexError};
 use crate::line_ends::line_ends;
+use crate::line_tokens::{mark_len, read_piece};
 use crate::mode::Mode;
 use crate::scan::{LineFault, Scan, Stop};
 use crate::simple_line::read_simple_line;
@@ -36,8 +37,8 @@ pub struct LineState {
 }
 
 impl LineState {
-    ghost use Rattle.py_lines.specs.Private.LineState.{BeginsAnew, BeginsAt, KeepsFault, ReadsLine, ScansLine, first_mode, passed, reread};
-    ghost use Rattle.py_lines.specs.Private.LineState.{rescanned};
+    ghost use Rattle.py_lines.specs.Private.LineState.{BeginsAnew, BeginsAt, HoldsTokens, IsLineAfter, IsLineText, KeepsFault, ReadsLine, ScansLine};
+    ghost use Rattle.py_lines.specs.Private.LineState.{first_mode, passed, reread, rescanned};
 
     /// At this byte of a text, which is on this line. Nothing of the next line is read.
     pub fn at(alloc: Global, place: u64, line: u64) -> LineState
@@ -100,14 +101,40 @@ impl LineState {
         }
     }
 
-    /// The text has this fault, from now on. It stands after these bytes, with which the next line begins.
-    pub fn fail(&mut self, kind: FaultKind, before: &[u8]) -> LexError
-        requires bytes { self.old.place + length before.now < 2 ^ 64 }
-        requires lines { self.old.line + length before.now + 1 < 2 ^ 64 }
-        ensures { KeepsFault self.old kind (length before.now) before.now result self.new }
+    /// Reads the tokens of a whole logical line without fault, which has this text and begins on this line: the line after it. Its last
+    /// `end_len` bytes are its line end. The scan is lent for its strings. Without memory nothing is said of the tokens that are held.
+    pub fn read_line(&mut self, text: &[u8], end_len: usize, line: u64) -> Result<u64, AllocError>
+        requires text { IsLineText text.now end_len }
+        requires lines { line + length text.now < 2 ^ 64 }
+        ensures same { self.new ≡ reread self.old self.new }
+        ensures tokens { OnOk result (HoldsTokens text.now end_len line self.new.tokens.items) }
+        ensures after { IfOk result (IsLineAfter line text.now end_len) }
     {
+        let LineState { scan, tokens, .. } = self;
+        tokens.clear();
+        let mut start = mark_len(text);
+        let mut line_here = line;
+        let content_len = text.len() - end_len;
+        'pieces: while start < content_len {
+            let (piece, line_ends) = read_piece(tokens, scan, text, start, line_here)?;
+            line_here += line_ends;
+            start += piece;
+            // Mostly no space follows, or one.
+            start += text[start..].starts_with(b" ") as usize;
+        }
+        Ok(line_here + (end_len > 0) as u64)
+    }
+
+    /// The text has this fault, from now on. It stands so far from the start of these bytes, with which the next line begins.
+    pub fn fail(&mut self, line_fault: LineFault, bytes: &[u8]) -> LexError
+        requires within { line_fault.place ≤ length bytes.now }
+        requires bytes { self.old.place + line_fault.place < 2 ^ 64 }
+        requires lines { self.old.line + line_fault.place < 2 ^ 64 }
+        ensures { KeepsFault self.old line_fault.kind line_fault.place (take line_fault.place bytes.now) result self.new }
+    {
+        let before = &bytes[..line_fault.place];
         let fault = Fault {
-            kind,
+            kind: line_fault.kind,
             offset: self.place + before.len() as u64,
             line: self.line + line_ends(before),
         };

@@ -157,7 +157,7 @@ pub fn read_anyway(
 
 /// Reads the piece that stands at this byte of a line, and on this line of the text, and is no mark: how many bytes it has, and how many line
 /// ends it holds.
-fn read_piece(
+pub fn read_piece(
     tokens: &mut Vec<Token>,
     scan: &mut Scan,
     text: &[u8],
@@ -189,32 +189,4 @@ fn read_piece(
         Class::Return => Ok((line_end_len(rest), 1)),
         _ => unreachable!(),
     }
-}
-
-/// Reads the tokens of a whole logical line without fault, which has this text and begins on this line: the line after it. Its last
-/// `end_len` bytes are its line end. The scan goes through its strings. Without memory nothing is said of the tokens that are held.
-pub fn read_line(
-    tokens: &mut Vec<Token>,
-    scan: &mut Scan,
-    text: &[u8],
-    end_len: usize,
-    line: u64,
-) -> Result<u64, AllocError>
-    requires text { IsLineText text.now end_len }
-    requires lines { line + length text.now < 2 ^ 64 }
-    ensures tokens { OnOk result (HoldsTokens text.now end_len line tokens.new.items) }
-    ensures after { IfOk result (IsLineAfter line text.now end_len) }
-{
-    tokens.clear();
-    let mut start = mark_len(text);
-    let mut line_here = line;
-    let content_len = text.len() - end_len;
-    'pieces: while start < content_len {
-        let (piece, line_ends) = read_piece(tokens, scan, text, start, line_here)?;
-        line_here += line_ends;
-        start += piece;
-        // Mostly no space follows, or one.
-        start += text[start..].starts_with(b" ") as usize;
-    }
-    Ok(line_here + (end_len > 0) as u64)
 }

@@ -54,12 +54,9 @@ impl<'t> Lines<'t> {
     {
         // So many lines stand before it at most.
         let place = offset.min(text.len()) as u64;
-        Ok(Lines {
-            source: Source {
-                bytes: text,
-                state: LineState::at(alloc, place, line.min(place + 1)),
-            },
-        })
+        let state = LineState::at(alloc, place, line.min(place + 1));
+        let source = Source { bytes: text, state };
+        Ok(Lines { source })
     }
 
     /// The byte up to which logical lines were given, from the text's start.

@@ -1,12 +1,11 @@
 //! What is open at a place of a line.
 
 ghost use Rattle.std.specs.Prelude.{◌≡◌, ◌<◌, length};
-ghost use Rattle.py_lines.specs.Private.Machine.{begins_string, first_spelling, is_field_spelling, is_raw_spelling, spelling_with};
+ghost use Rattle.py_lines.specs.Private.Machine.{begins_string, first_spelling, is_field_spelling, spelling_with};
 ghost use Rattle.py_lines.specs.Private.Run.{word_spelling};
 ghost use Rattle.py_lines.specs.Private.Scan.{grown, is_text, string_mode};
 
 use crate::character::{is_break, is_space, is_word_character};
-use crate::host::{Region, StringWithFields};
 
 /// Whether a word may be the prefix of a string, as far as it goes.
 #[derive(Clone, Copy)]
@@ -27,6 +26,26 @@ pub enum Spelling {
     Prefix,
     /// No prefix.
     Name,
+}
+
+/// A string with fields (Python Language Reference of Python 3.14, the sections on f-strings and t-strings).
+#[derive(Clone, Copy)]
+pub struct StringWithFields {
+    /// Its quote.
+    pub quote: char,
+    /// Whether three quotes stand at each end, as far as it is known.
+    pub is_long: bool,
+    /// Whether `r` is in its prefix.
+    pub is_raw: bool,
+}
+
+/// The two kinds of text that a string has outside its fields' code.
+#[derive(Clone, Copy)]
+pub enum Region {
+    /// The string's own text.
+    Literal,
+    /// The format specification of a field.
+    Specification,
 }
 
 /// What is open. A `char` is the quote of a string.
@@ -103,13 +122,6 @@ impl Spelling {
             Spelling::F | Spelling::Fr | Spelling::T | Spelling::Tr
         )
     }
-
-    /// Whether `r` is in the prefix of a string with fields.
-    pub fn is_raw(self) -> bool
-        ensures { result ≡ is_raw_spelling self }
-    {
-        matches!(self, Spelling::Fr | Spelling::Tr)
-    }
 }
 
 impl Mode {
@@ -140,7 +152,7 @@ impl Mode {
             let host = StringWithFields {
                 quote,
                 is_long,
-                is_raw: spelling.is_raw(),
+                is_raw: matches!(spelling, Spelling::Fr | Spelling::Tr),
             };
             Mode::Fields(host, Region::Literal, false)
         } else if is_long {

@@ -47,11 +47,7 @@ pub fn fields_after(plain: &[u8]) -> Option<bool>
         return Some(false);
     }
     let word = Spelling::of_word(&plain[start..]);
-    if word.is_prefix() {
-        Some(word.has_fields())
-    } else {
-        None
-    }
+    word.is_prefix().then_some(word.has_fields())
 }
 
 /// Where the string without fields ends that three quotes at this byte begin, after plain bytes from another on. `None` promises nothing. It
@@ -211,22 +207,6 @@ impl Passing {
         true
     }
 
-    /// Passes the string of three quotes that begins at this byte, and answers whether it did: it does for most without fields that the bytes
-    /// hold whole. `false` promises that nothing changed, and no more.
-    #[inline(always)]
-    fn pass_long_text(&mut self, bytes: &[u8], at: usize) -> bool
-        requires quote { MeetsString bytes.now at self.old 3 }
-        requires counted { IsCounted bytes.now self.old }
-        ensures passed { IsTrue result → PassesPiece bytes.now at self.old self.new }
-        ensures same { result ≡ false → self.new ≡ self.old }
-    {
-        let Some(end) = long_string_end(bytes, self.all, at) else {
-            return false;
-        };
-        self.pass_to(bytes, end);
-        true
-    }
-
     /// Passes the string that the quote at this byte begins, and answers whether it did: it does for most strings, as empty ones, those that
     /// are short and simple, and those of three quotes without fields. `false` promises that nothing changed, and no more.
     #[inline(always)]
@@ -251,7 +231,13 @@ impl Passing {
                 self.marks.pass(bytes, at + 2);
                 true
             }
-            Some(3) => self.pass_long_text(bytes, at),
+            Some(3) => match long_string_end(bytes, self.all, at) {
+                Some(end) => {
+                    self.pass_to(bytes, end);
+                    true
+                }
+                None => false,
+            },
             _ => false,
         }
     }

@@ -6,9 +6,8 @@ ghost use Rattle.py_lines.specs.Private.Scan.{HasQuote};
 ghost use Rattle.py_lines.specs.Private.Run.{IsRunOf, Marks, Spans, is_between, is_in_run, stays};
 ghost use Rattle.py_lines.specs.Private.Run.{is_ascii_word, is_body_byte, is_comment_byte, is_long_byte, is_wide_word};
 
-use crate::character::is_break;
+use crate::character::{is_break, utf8_prefix};
 use crate::mode::{Mode, Spelling};
-use crate::utf8::utf8_prefix;
 use std::simd::prelude::*;
 
 /// Whether the byte is an ASCII letter, a digit or the underscore.
@@ -157,14 +156,6 @@ pub fn comment_run(bytes: &[u8]) -> usize
     memchr::memchr2(b'\n', b'\r', bytes).unwrap_or(bytes.len())
 }
 
-/// How many bytes a string of three such quotes goes on, up to a quote of its kind or a backslash.
-#[tactic(auto, unfolding(crate::specs::Character::is_backslash))]
-fn long_run(quote: u8, bytes: &[u8]) -> usize
-    ensures { IsRunOf (is_long_byte quote) bytes.now result }
-{
-    memchr::memchr2(quote, b'\\', bytes).unwrap_or(bytes.len())
-}
-
 /// How many bytes of whole characters a text begins with that leave the open piece as it is, where that is no string with fields.
 #[inline(always)]
 pub fn characters_in(mode: Mode, bytes: &[u8]) -> usize
@@ -178,7 +169,7 @@ pub fn characters_in(mode: Mode, bytes: &[u8]) -> usize
             if ascii == bytes.len() || bytes[ascii] < 128 {
                 return ascii;
             }
-            long_run(quote as u8, bytes)
+            memchr::memchr2(quote as u8, b'\\', bytes).unwrap_or(bytes.len())
         }
         Mode::Comment => comment_run(bytes),
         Mode::Space => return ByteRun::Space.len_in(bytes),

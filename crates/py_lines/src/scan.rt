@@ -2,19 +2,17 @@
 //! it. It takes a line item after item, and stops before one that the bytes don't tell whole.
 
 ghost use Rattle.std.specs.Prelude.{◌≡◌, ◌==◌, ◌+◌, ◌<◌, ◌≤◌, ◌^◌, None, Some, false, true, length, nat_lt, slice_index};
-ghost use Rattle.py_lines.specs.Private.Scan.{begins, is_backslash, is_operator, is_quote, lone_of};
+ghost use Rattle.py_lines.specs.Private.Scan.{begins, is_backslash, is_operator, is_quote};
 
-use crate::character::{is_closing, is_opening, is_quote};
+use crate::character::{first_character, is_closing, is_opening, is_quote, utf8_prefix};
 use crate::class::Class;
 use crate::fault::FaultKind;
 use crate::frames::{Frame, Frames, MAX_DEPTH, OpenField};
-use crate::host::{Region, StringWithFields};
 use crate::line_ends::outer_end_len;
 use crate::line_scan::last_operator_end;
-use crate::mode::{Mode, Spelling};
+use crate::mode::{Mode, Region, Spelling, StringWithFields};
 use crate::run::{ByteRun, characters_in};
 use crate::string_text::{TextMove, fields_move, quotes_len, text_move};
-use crate::utf8::{first_character, utf8_prefix};
 use crate::whole_strings::{literal_run, text_len};
 
 /// What the next bytes came to.
@@ -61,14 +59,6 @@ pub struct Scan {
     pub frames: Frames,
     /// Where the scan stops.
     pub stop: usize,
-}
-
-/// The byte, where it is the only one.
-#[tactic(auto, using(crate::proofs::FieldScans::Ends::lone_is))]
-fn lone_byte(bytes: &[u8]) -> u8
-    ensures { result ≡ lone_of bytes.now }
-{
-    if bytes.len() == 1 { bytes[0] } else { 0 }
 }
 
 impl Scan {
@@ -358,7 +348,7 @@ impl Scan {
         requires pending { IsPending self.now.mode bytes.now }
         ensures { EndsOpen self.now bytes.now result }
     {
-        let lone = lone_byte(bytes);
+        let lone = if bytes.len() == 1 { bytes[0] } else { 0 };
         let (kind, place) = match self.mode {
             Mode::Fields(_, Region::Specification, _) => {
                 (FaultKind::OpenField, self.frames.last_place())

@@ -5,7 +5,7 @@ ghost use Rattle.std.specs.Prelude.{◌+◌, ◌≤◌, length};
 use crate::fault::LexError;
 use crate::line_ends::line_ends;
 use crate::line_state::LineState;
-use crate::line_tokens::{add_token, mark_len, read_line};
+use crate::line_tokens::{add_token, mark_len};
 use crate::token::TokKind;
 use crate::unit::{Line, UnitKind};
 use std::alloc::AllocError;
@@ -55,7 +55,7 @@ impl<'t> Source<'t> {
         let rest = &self.bytes[self.state.place as usize..];
         match self.state.scan_line(rest) {
             Ok(end_len) => Ok(self.line(end_len)),
-            Err(line_fault) => Err(self.state.fail(line_fault.kind, &rest[..line_fault.place])),
+            Err(line_fault) => Err(self.state.fail(line_fault, rest)),
         }
     }
 
@@ -87,13 +87,7 @@ impl<'t> Source<'t> {
             state.tokens.clear();
             return add_token(&mut state.tokens, TokKind::Remark, start, len, line.line);
         }
-        read_line(
-            &mut state.tokens,
-            &mut state.scan,
-            text,
-            line.end_len,
-            line.line,
-        )?;
+        state.read_line(text, line.end_len, line.line)?;
         Ok(())
     }
 
@@ -107,15 +101,8 @@ impl<'t> Source<'t> {
             return Ok((self.line(end_len), after));
         }
         let line = self.scan()?;
-        let state = &mut self.state;
         let text = line.text.as_bytes();
-        let after = read_line(
-            &mut state.tokens,
-            &mut state.scan,
-            text,
-            line.end_len,
-            line.line,
-        )?;
+        let after = self.state.read_line(text, line.end_len, line.line)?;
         Ok((line, after))
     }
 

@@ -5,9 +5,8 @@ ghost use Rattle.std.specs.Prelude.{◌≡◌, ◌<◌, false, true, length, sli
 ghost use Rattle.py_lines.specs.Character.{is_backslash, is_quote};
 ghost use Rattle.py_lines.specs.Private.Scan.{DoesInFields, DoesInText, StaysIn, escape_in, quotes_in};
 
-use crate::host::{Region, StringWithFields};
-use crate::mode::Mode;
-use crate::utf8::first_character;
+use crate::character::first_character;
+use crate::mode::{Mode, Region, StringWithFields};
 
 /// What the bytes are to the text of a string that goes on with them.
 #[derive(Clone, Copy)]

@@ -1,5 +1,5 @@
 //! Tokens, and of what kind each is.
-ghost use Rattle.std.specs.Prelude.{◌≡◌, ◌==◌, ℕ, Bool, false, MatchOption};
+ghost use Rattle.std.specs.Prelude.{◌≡◌, ◌==◌};
 ghost use Rattle.py_lines.specs.Token.{is_comment, is_operator_where, opens_bracket, closes_bracket};
 
 /// What a token is (Python Language Reference, chapter 2).
@@ -25,24 +25,11 @@ impl TokKind {
         matches!(self, TokKind::Remark)
     }
 
-    /// The byte of the operator or delimiter, if it is one.
-    #[inline(always)]
-    fn operator(self) -> Option<u8>
-        ensures { MatchOption result
-            ((passes : ℕ → Bool) → is_operator_where passes self ≡ false)
-            (λ byte. self ≡ TokKind.Op byte) }
-    {
-        match self {
-            TokKind::Op(byte) => Some(byte),
-            _ => None,
-        }
-    }
-
     /// Whether it is the operator or delimiter of this ASCII byte.
     pub fn is_operator(self, byte: u8) -> bool
         ensures { result ≡ is_operator_where (λ c. c == byte) self }
     {
-        self.operator() == Some(byte)
+        matches!(self, TokKind::Op(operator) if operator == byte)
     }
 
     /// Whether it is an opening bracket: `(`, `[` or `{`.
@@ -50,7 +37,7 @@ impl TokKind {
     pub fn is_opening(self) -> bool
         ensures { result ≡ opens_bracket self }
     {
-        matches!(self.operator(), Some(b'(' | b'[' | b'{'))
+        matches!(self, TokKind::Op(b'(' | b'[' | b'{'))
     }
 
     /// Whether it is a closing bracket: `)`, `]` or `}`.
@@ -58,7 +45,7 @@ impl TokKind {
     pub fn is_closing(self) -> bool
         ensures { result ≡ closes_bracket self }
     {
-        matches!(self.operator(), Some(b')' | b']' | b'}'))
+        matches!(self, TokKind::Op(b')' | b']' | b'}'))
     }
 }
 

@@ -17,23 +17,6 @@ pub enum UnitKind {
     Blank,
 }
 
-impl UnitKind {
-    ghost use Rattle.py_lines.specs.Private.Outline.{kind_from};
-
-    /// What a line holds of which these bytes come after mark and space.
-    #[inline(always)]
-    #[tactic(auto, unfolding(crate::specs::Character::is_break, crate::specs::Character::is_hash))]
-    fn from_first(bytes: &[u8]) -> UnitKind
-        ensures { result ≡ kind_from bytes.now }
-    {
-        match bytes {
-            [] | [b'\n' | b'\r', ..] => UnitKind::Blank,
-            [b'#', ..] => UnitKind::Comment,
-            _ => UnitKind::Code,
-        }
-    }
-}
-
 /// One logical line (2.1.1): the bytes up to and with the line end that closes it, or up to the text's end. All of it
 /// is lent out of the text and the reader.
 #[derive(Clone, Copy, Debug)]
@@ -102,8 +85,13 @@ impl<'t> Line<'t> {
     {
         let unmarked = &text[mark_len(text)..];
         let indent = space_len(unmarked);
+        let kind = match &unmarked[indent..] {
+            [] | [b'\n' | b'\r', ..] => UnitKind::Blank,
+            [b'#', ..] => UnitKind::Comment,
+            _ => UnitKind::Code,
+        };
         Line {
-            kind: UnitKind::from_first(&unmarked[indent..]),
+            kind,
             // The scan read it as characters.
             text: unsafe { std::str::from_utf8_unchecked(text) },
             offset,

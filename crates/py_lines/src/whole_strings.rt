@@ -5,7 +5,7 @@ ghost use Rattle.py_lines.specs.Private.FieldText.{BeginsPlainString, HasCode, H
 ghost use Rattle.py_lines.specs.Private.FieldText.{IsRunOf, begins, begins_open, is_literal_byte, is_quote};
 ghost use Rattle.py_lines.specs.Private.LongStrings.{HasLongText};
 
-use crate::character::{is_brace, is_quote};
+use crate::character::is_quote;
 use crate::frames::closing_of;
 use crate::mode::Mode;
 use crate::run::{ByteRun, characters_in, is_ascii_word};
@@ -93,11 +93,12 @@ fn part_len(quote: u8, bytes: &[u8]) -> Option<usize>
 }
 
 /// How many bytes of its text a string with fields goes on with, up to a brace or what may end it: none where a field follows another.
+#[tactic(auto, unfolding(crate::specs::Character::is_brace))]
 #[inline(always)]
 pub fn literal_run(quote: u8, bytes: &[u8]) -> usize
     ensures { IsRunOf (is_literal_byte quote) bytes.now result }
 {
-    if !bytes.is_empty() && is_brace(bytes[0] as char) {
+    if matches!(bytes, [b'{' | b'}', ..]) {
         return 0;
     }
     ByteRun::Literal(quote).len_in(bytes)

@@ -5,9 +5,9 @@ use Rattle.py_lines.specs.Lexed.{IsLexed}
 use Rattle.py_lines.specs.ScannerState.{IsScanning, fed_of, EndsFaulty, EndsScan, Finishes, ScannerState}
 use Rattle.py_lines.specs.Piece.{spelled}
 use Rattle.py_lines.specs.Private.LineState.{HasNextFault, HasNextLine, rescanned}
-use Rattle.py_lines.specs.Private.Feed.{EndsText, FailsAt, Fault, HasRoom, HoldsLine, IsHeldOpen, Holds, HasEndedText, HasReadTokens, HoldsSo, IsSoundFeed, ReadsTokens, StandsSo, with_line, LexError, LineFault, LineState, Scan, Feed, scanning_of, ready_of}
+use Rattle.py_lines.specs.Private.Feed.{EndsText, Fault, HasRoom, HoldsLine, IsHeldOpen, Holds, HasEndedText, HasReadTokens, HoldsSo, IsSoundFeed, ReadsTokens, StandsSo, with_line, LexError, LineFault, LineState, Scan, Feed, scanning_of, ready_of}
 use Rattle.py_lines.proofs.Feeds.Known.{first_at}
-use Rattle.py_lines.proofs.Feeds.OpenLine.{dropped, runs_out}
+use Rattle.py_lines.proofs.Feeds.OpenLine.{FailsAt, dropped, runs_out}
 use Rattle.py_lines.specs.Given.{AreFirstLines}
 use Rattle.py_lines.specs.Settled.{IsSettled}
 use Rattle.py_lines.proofs.Lexings.FirstLines.{all_first, begins_settled}

@@ -5,11 +5,11 @@ use Rattle.py_lines.specs.Settled.{IsHopeless}
 use Rattle.py_lines.specs.Private.FieldMachine.{FieldScanned}
 use Rattle.py_lines.specs.Private.Scan.{StandsAs, has_returned}
 use Rattle.py_lines.specs.Private.LineScan.{IsLeft, begins_line, Reached}
-use Rattle.py_lines.specs.Private.Feed.{Mode, Scan, IsHeldOpen, IsOpen, StopsHeld, Stop, Feed, DropsLine, FailsAt, FailsIn, HasRoom, Holds, HoldsAt, IsDecidedAt, IsSoundFeed, IsUnchanged, Meets, WhereHeld, Fault, FaultKind, LexError, scanning_of, LineState, LineFault}
+use Rattle.py_lines.specs.Private.Feed.{Mode, Scan, IsHeldOpen, IsOpen, StopsHeld, Stop, Feed, DropsLine, FailsIn, HasRoom, Holds, HoldsAt, IsDecidedAt, IsSoundFeed, IsUnchanged, Meets, WhereHeld, Fault, FaultKind, LexError, scanning_of, LineState, LineFault}
 use Rattle.py_lines.proofs.Text.Utf8Prefixes.{one_decoding}
 use Rattle.py_lines.proofs.LineScan.LineSteps.{rests_end, begun_reached}
 use Rattle.py_lines.specs.Piece.{begins}
-use Rattle.py_lines.specs.Private.LineState.{first_mode, BeginsAnew, IsFaultAfter}
+use Rattle.py_lines.specs.Private.LineState.{first_mode, BeginsAnew, IsFaultAfter, KeepsFault}
 use Rattle.py_lines.proofs.LogicalLines.Cuts.{byte_len-append}
 use Rattle.py_lines.proofs.FieldScans.Taking.{rests_more}
 use Rattle.py_lines.proofs.LineScan.TextSteps.{begun_sound}
@@ -144,6 +144,15 @@ dropped old mid new bytes {before} more size d = begun_unchanged old new mid.sta
   ended = ap (λ (f : Feed). f.ended) d.same ∙ more.ended;
   fault = more.fault;
 }) d.begins
+
+-- the text has this fault from now on, so far in what is held
+pub record FailsAt (old : Feed) (kind : FaultKind) (offset : ℕ) (error : LexError) (new : Feed) : Type 0 where
+  pub same : new ≡ record old { state = new.state }
+  pub keeps : KeepsFault old.state kind offset (take offset old.held.items) error new.state
+
+pub fails_so : (f : Feed) (state : LineState) (kind : FaultKind) (offset : ℕ) (error : LexError) {bytes : List ℕ} → bytes ≡ f.held.items
+    → KeepsFault f.state kind offset (take offset bytes) error state → FailsAt f kind offset error (record f { state = state })
+fails_so f state kind offset error is keeps = record { same = refl; keeps = subst (λ b. KeepsFault f.state kind offset (take offset b) error state) is keeps }
 
 module _ (f new : Feed) (kind : FaultKind) (offset : ℕ) (error : LexError) (fails : FailsAt f kind offset error new) where
   -- a fault keeps all that is held

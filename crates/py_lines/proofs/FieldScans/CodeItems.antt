@@ -32,9 +32,9 @@ use Rattle.py_lines.proofs.FieldScans.Moves.{said, word_meets}
 use Rattle.py_lines.proofs.FieldScans.Operators.{code_cause, fault_in_code}
 use Rattle.py_lines.proofs.FieldScans.Taking.{follows_open, rests_exact, IsTaken, Opening, Shut, break_starts, StandsAt, follows_at, goes_on, no_line_end, no_step, one_comes, over_one, stands_at, stands_begun, stands_grown, stands_shut, wrong_at, StepsOn, rests_ended}
 use Rattle.py_lines.specs.declared.frames.Frame.{Frame}
-use Rattle.py_lines.specs.declared.host.StringWithFields.{StringWithFields}
-use Rattle.py_lines.specs.declared.host.Region.{Region}
-use Rattle.py_lines.specs.declared.host.Region.TheVariants as regions
+use Rattle.py_lines.specs.declared.mode.StringWithFields.{StringWithFields}
+use Rattle.py_lines.specs.declared.mode.Region.{Region}
+use Rattle.py_lines.specs.declared.mode.Region.TheVariants as regions
 use Rattle.py_lines.specs.declared.mode.Spelling.TheVariants as spellings
 use Rattle.py_lines.specs.Private.FieldFaults.{cause_in}
 use Rattle.py_lines.proofs.Text.Utf8Prefixes.{nothing_bad}

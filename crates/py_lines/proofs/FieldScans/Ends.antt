@@ -12,7 +12,7 @@ use Rattle.py_lines.specs.declared.scan.LineFault.{LineFault}
 use Rattle.py_lines.specs.declared.scan.Scan.{Scan}
 use Rattle.py_lines.specs.Private.FieldMachine.{Level, FieldScanned, frames, before, At, FieldMode, FieldMove, plain, body, between, after_name, after_one, after_return, after_slash, after_two, grows, refused, between_move, body_move, escape_move, field_move, field_state, is_after_brace, room_step, text_place}
 use Rattle.py_lines.specs.Private.FieldFaults.{is_waiting, here, field_start, unfinished_code, unfinished_at, piece_start, unfinished_in}
-use Rattle.py_lines.specs.Private.Scan.{bracket_openers, lone_of, Follows, FramesFollow, EndsOpen, IsFieldEnd, Goes, IsPending, is_part_of_text, is_return_at, EndsReturned, GoesOverAll, HasPending, HasQuote, ends_before, has_returned, host_in, is_begun_after, is_lone_brace, is_part_of_code, is_pending, is_text, mode_from, passed, region_in, string_start}
+use Rattle.py_lines.specs.Private.Scan.{bracket_openers, Follows, FramesFollow, EndsOpen, IsFieldEnd, Goes, IsPending, is_part_of_text, is_return_at, EndsReturned, GoesOverAll, HasPending, HasQuote, ends_before, has_returned, host_in, is_begun_after, is_lone_brace, is_part_of_code, is_pending, is_text, mode_from, passed, region_in, string_start}
 use Rattle.py_lines.specs.Private.Frames.{IsInnermostFrame, place_of}
 use Rattle.py_lines.proofs.FieldScans.Frames.{innermost_bracket, innermost_field, none_outside}
 use Rattle.py_lines.specs.Character.{is_backslash, is_brace, is_break, is_quote, is_return}
@@ -26,9 +26,9 @@ use Rattle.py_lines.proofs.Machine.PieceSteps.{some_is}
 use Rattle.py_lines.proofs.FieldScans.Taking.{no_step, steps, StepsOn, follows_open}
 use Rattle.py_lines.proofs.FieldScans.TextItems.{InText, held_nothing, AreLow, low_encoded, low_scalars, one_low, two_low}
 use Rattle.py_lines.proofs.LineScan.AsciiRuns.{quote_ascii}
-use Rattle.py_lines.specs.declared.host.Region.{Region}
-use Rattle.py_lines.specs.declared.host.Region.TheVariants as regions
-use Rattle.py_lines.specs.declared.host.StringWithFields.{StringWithFields}
+use Rattle.py_lines.specs.declared.mode.Region.{Region}
+use Rattle.py_lines.specs.declared.mode.Region.TheVariants as regions
+use Rattle.py_lines.specs.declared.mode.StringWithFields.{StringWithFields}
 use Rattle.py_lines.specs.declared.mode.Mode.{Mode as OpenMode}
 use Rattle.py_lines.specs.declared.mode.Mode.TheVariants as opens
 use Rattle.py_lines.specs.declared.mode.Spelling.{Spelling}
@@ -200,6 +200,10 @@ one_quote_open : (b : Bool) (s : Spelling) (q : ℕ) → ((outer : List Level) (
 one_quote_open b s q = grind arith
 
 -- the byte that is left, if it is the only one
+abbrev pub lone_of : List ℕ → ℕ
+lone_of (b ∷ []) = b
+lone_of other = 0
+
 pub lone_is : (bytes : List ℕ) → lone_of bytes ≡ (if length bytes == 1 then slice_index bytes 0 else 0)
 lone_is bytes = grind arith
 

@@ -17,9 +17,9 @@ use Rattle.py_lines.specs.Private.Scan.{ComesTo, FieldFollows, Follows, FramesFo
 use Rattle.py_lines.specs.declared.fault.FaultKind.TheVariants as fault_kind
 use Rattle.py_lines.specs.declared.frames.OpenField.{OpenField}
 use Rattle.py_lines.specs.declared.frames.Frame.TheVariants as frame
-use Rattle.py_lines.specs.declared.host.Region.{Region}
-use Rattle.py_lines.specs.declared.host.Region.TheVariants as regions
-use Rattle.py_lines.specs.declared.host.StringWithFields.{StringWithFields}
+use Rattle.py_lines.specs.declared.mode.Region.{Region}
+use Rattle.py_lines.specs.declared.mode.Region.TheVariants as regions
+use Rattle.py_lines.specs.declared.mode.StringWithFields.{StringWithFields}
 use Rattle.py_lines.specs.declared.scan.LineFault.{LineFault}
 use Rattle.py_lines.specs.declared.scan.Progress.{Progress}
 use Rattle.py_lines.specs.declared.scan.Scan.{Scan}

@@ -8,7 +8,7 @@ use Rattle.py_lines.specs.Faults.{Cause, kind_of_cause, closes_wrong, opens_too_
 use Rattle.py_lines.specs.FieldStrings.{Host, literal, specification}
 use Rattle.py_lines.specs.declared.fault.FaultKind.{FaultKind}
 use Rattle.py_lines.specs.declared.fault.FaultKind.TheVariants as kinds
-use Rattle.py_lines.specs.declared.host.Region.TheVariants as regions
+use Rattle.py_lines.specs.declared.mode.Region.TheVariants as regions
 use Rattle.py_lines.specs.declared.frames.OpenField.{OpenField}
 use Rattle.py_lines.specs.declared.frames.Frame.{Frame}
 use Rattle.py_lines.specs.declared.frames.Frame.TheVariants as frame

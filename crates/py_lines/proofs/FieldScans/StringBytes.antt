@@ -2,9 +2,9 @@
 use Rattle.py_lines.proofs.Prelude.{◌≡◌, ℕ, ◌<◌, ◌≤◌, Bool, true, false, not, ◌&&◌, ◌==◌, Option, None, Some, List, [], ◌∷◌, ◌++◌, ◌+◌, length, drop, slice_index, refl, sym, ap, ◌∙◌, subst, arith, append-nil, inl, inr, ◌⊎◌, encode_utf8, encode_utf8_all, nat_lt, if◌then◌else◌, list_all, len_utf8, StartsWithNoChar, drop-append_seam, drop-cons, drop_all, and_from, cond_both, both_ways, eq-eqb, eqb-true, ltb-true, ltb-false, or_right, encode_ascii, len_utf8_ascii, len_utf8_bounds}
 use Rattle.py_lines.specs.Character.{is_backslash, is_brace, is_break, is_quote, is_return}
 use Rattle.py_lines.specs.FieldStrings.{literal}
-use Rattle.py_lines.specs.declared.host.StringWithFields.{StringWithFields}
-use Rattle.py_lines.specs.declared.host.Region.{Region}
-use Rattle.py_lines.specs.declared.host.Region.TheVariants as regions
+use Rattle.py_lines.specs.declared.mode.StringWithFields.{StringWithFields}
+use Rattle.py_lines.specs.declared.mode.Region.{Region}
+use Rattle.py_lines.specs.declared.mode.Region.TheVariants as regions
 use Rattle.py_lines.specs.declared.mode.Mode.{Mode as OpenMode}
 use Rattle.py_lines.specs.declared.mode.Mode.TheVariants as opens
 use Rattle.py_lines.specs.declared.string_text.TextMove.{TextMove}

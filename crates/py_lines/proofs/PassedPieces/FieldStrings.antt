@@ -1,8 +1,8 @@
 -- A short string with fields whose text is simple, after plain bytes that end with its prefix, as the scan would take it.
 use Rattle.py_lines.proofs.Prelude.{◌≡◌, ℕ, suc, ◌+◌, ◌<◌, ◌≤◌, Bool, true, false, Option, None, Some, List, ◌∷◌, length, drop, slice_index, refl, sym, ap, ◌∙◌, subst, drop-cons, both_ways, codes}
 use Rattle.py_lines.specs.Character.{is_backslash, is_quote}
-use Rattle.py_lines.specs.declared.host.Region.TheVariants as regions
-use Rattle.py_lines.specs.declared.host.StringWithFields.{StringWithFields}
+use Rattle.py_lines.specs.declared.mode.Region.TheVariants as regions
+use Rattle.py_lines.specs.declared.mode.StringWithFields.{StringWithFields}
 use Rattle.py_lines.specs.declared.mode.Mode.{Mode as OpenMode}
 use Rattle.py_lines.specs.declared.mode.Mode.TheVariants as opens
 use Rattle.py_lines.specs.declared.mode.Spelling.{Spelling}

@@ -11,7 +11,7 @@ use Rattle.py_lines.specs.ScannerState.{ScannerState, EndsExactly, Feeds, GoesOn
 pub use Rattle.py_lines.specs.ScannerState.{StandsAtLine}
 pub use Rattle.py_lines.specs.ScannerState.View.{line_of_feed, ready_of, scanning_of}
 use Rattle.py_lines.specs.Private.LineScan.{Reached, ScansIn}
-use Rattle.py_lines.specs.Private.LineState.{BeginsAnew, KeepsFault, first_mode}
+use Rattle.py_lines.specs.Private.LineState.{BeginsAnew, first_mode}
 use Rattle.py_lines.specs.Private.LineTokens.{AreLineText}
 pub use Rattle.py_lines.specs.declared.line_state.LineState.{LineState}
 pub use Rattle.py_lines.specs.declared.scan.LineFault.{LineFault}
@@ -59,11 +59,6 @@ StopsHeld f stop = ScansIn (first_mode f.state.place) f.held.items f.state.scan 
 abbrev pub IsScanned : Feed → Option ℕ → Type 0
 IsScanned f None = (s : StopsHeld f Stop.TextEnd) × ¬ (IsHopeless s.rest)
 IsScanned f (Some end_len) = StopsHeld f (Stop.LineEnd end_len)
-
--- the text has this fault from now on: so many bytes after the lines released
-pub record FailsAt (old : Feed) (kind : FaultKind) (offset : ℕ) (error : LexError) (new : Feed) : Type 0 where
-  pub same : new ≡ record old { state = new.state }
-  pub keeps : KeepsFault old.state kind offset (take offset old.held.items) error new.state
 
 -- no line is ready: so many bytes stay held, and their scan is begun anew
 pub record DropsLine (old : Feed) (before : ℕ) (new : Feed) : Type 0 where

@@ -17,9 +17,9 @@ use Rattle.py_lines.specs.declared.fault.FaultKind.TheVariants.{BadUtf8}
 use Rattle.py_lines.specs.declared.frames.OpenField.{OpenField}
 use Rattle.py_lines.specs.declared.frames.Frame.{Frame}
 use Rattle.py_lines.specs.declared.frames.Frame.TheVariants as frame
-use Rattle.py_lines.specs.declared.host.StringWithFields.{StringWithFields}
-use Rattle.py_lines.specs.declared.host.Region.{Region}
-use Rattle.py_lines.specs.declared.host.Region.TheVariants as regions
+use Rattle.py_lines.specs.declared.mode.StringWithFields.{StringWithFields}
+use Rattle.py_lines.specs.declared.mode.Region.{Region}
+use Rattle.py_lines.specs.declared.mode.Region.TheVariants as regions
 use Rattle.py_lines.specs.declared.mode.Mode.{Mode as OpenMode}
 use Rattle.py_lines.specs.declared.mode.Mode.TheVariants as opens
 use Rattle.py_lines.specs.declared.mode.Spelling.{Spelling}
@@ -598,11 +598,6 @@ DoesInText mode quote long bytes result = IsTextAt (mode_from mode) quote long (
 abbrev pub StaysIn : OpenMode → TextMove → Type 0
 StaysIn mode (text_moves.Grows next len) = next ≡ mode
 StaysIn mode other = Unit {0}
-
--- the byte that is left, if it is the only one
-abbrev pub lone_of : List ℕ → ℕ
-lone_of (b ∷ []) = b
-lone_of other = 0
 
 -- what is wrong where the text ends with these characters, if anything is
 abbrev pub EndsOpen : Scan → List ℕ → Option LineFault → Type 0

@@ -1,5 +1,6 @@
-use Rattle.py_lines.proofs.Prelude.{◌≡◌, ◌<◌, ℕ, Bool, List, true, rules, sym, and_parts, ltb-true, length-take-le}
-use Rattle.py_lines.specs.Character.{is_space}
+use Rattle.std.proofs.lemmas.Grind.{common_steps}
+use Rattle.py_lines.proofs.Prelude.{arith, ◌≡◌, ◌<◌, ℕ, Bool, List, true, rules, sym, and_parts, ltb-true, length-take-le}
+use Rattle.py_lines.specs.Character.{is_backslash, is_space}
 use Rattle.py_lines.specs.Private.Run.{IsRunOf, Spans, is_ascii_word, is_long_byte, is_long_text_byte, stays}
 use Rattle.py_lines.specs.declared.mode.Mode.{Mode as OpenMode}
 use Rattle.py_lines.specs.declared.mode.Mode.TheVariants as opens
@@ -57,9 +58,10 @@ returns-in_default-4 c = none (stays c.args.mode) c.args.bytes.now
 
 -- the run whose whole characters are taken
 run : (c : Joined-mode) → IsRunOf (stays c.args.mode) c.args.bytes.now c.match-mode.run
+unfolding is_backslash
 run c = elim c.match-mode.branch [
   | in-Short w ↦ rw (w.run-is, w.in-Short.is) w.len_in-run.ensures
-  | in-Long+else-ascii-bytes+else-bytes-ascii-lt128 w ↦ rw (w.run-is, w.in-Long.is) w.long_run-run.ensures
+  | in-Long+else-ascii-bytes+else-bytes-ascii-lt128 w ↦ rw (w.run-is, w.in-Long.is) (grind (arith, common_steps))
   | in-Comment w ↦ rw (w.run-is, w.in-Comment.is) w.comment_run-run.ensures
 ]
 

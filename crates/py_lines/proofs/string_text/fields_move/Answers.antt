@@ -1,8 +1,8 @@
 use Rattle.py_lines.proofs.Prelude.{◌≡◌, ◌∙◌, ◌==◌, ℕ, true, false, List, ◌∷◌, drop, slice_index, ap, inl, inr, arith, refl, subst, ne_eqb, nat_tests, take_rest, byte}
 use Rattle.py_lines.specs.Character.{is_backslash, is_break, is_quote}
 use Rattle.py_lines.specs.Piece.{begins}
-use Rattle.py_lines.specs.declared.host.Region.{Region}
-use Rattle.py_lines.specs.declared.host.Region.TheVariants as regions
+use Rattle.py_lines.specs.declared.mode.Region.{Region}
+use Rattle.py_lines.specs.declared.mode.Region.TheVariants as regions
 use Rattle.py_lines.specs.declared.mode.Mode.TheVariants as opens
 use Rattle.py_lines.specs.Private.FieldMachine.{between_move, body_move, field_move}
 use Rattle.py_lines.specs.Private.Run.{BeginsWith}

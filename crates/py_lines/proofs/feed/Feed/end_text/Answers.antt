@@ -1,10 +1,11 @@
-use Rattle.py_lines.proofs.Prelude.{◌≢◌, ◌∙◌, List, ℕ, Ok, Some, sym, subst, arith, vec_len, eqb-false}
-use Rattle.py_lines.specs.Private.Feed.{EndsText, HasRoomAt}
+use Rattle.py_lines.proofs.Prelude.{◌≢◌, ap, length, ◌∙◌, List, ℕ, Ok, Some, sym, subst, arith, vec_len, eqb-false}
+use Rattle.py_lines.specs.Private.Feed.{EndsText}
 use Rattle.py_lines.specs.Private.LineState.{HasNextFault, HasNextLine}
 use Rattle.py_lines.specs.declared.line_state.LineState.{LineState}
 use Rattle.py_lines.proofs.Feeds.EndedHeld.{last_fault, last_line, text_empty}
-use Rattle.py_lines.proofs.Feeds.OpenLine.{none_held}
+use Rattle.py_lines.proofs.Feeds.OpenLine.{fails_so, none_held}
 use Rattle.py_lines.proofs.feed.Feed.end_text.Goals as goal
+use Rattle.py_lines.proofs.feed.Feed.end_text.Goals.{In-Err}
 
 pub returns-then-is_empty : goal.returns-then-is_empty
 returns-then-is_empty c = text_empty c.requires.not_ready c.requires.opens (none_held c.args.self.now.held c.is_empty.ensures c.if-is_empty.true)
@@ -19,10 +20,23 @@ returns-in-Ok c =
 pub scan_line-requires : goal.scan_line-requires
 scan_line-requires c = omega (arith, eqb-false (vec_len c.args.self.now.held) 0 (sym c.is_empty.ensures ∙ c.if-is_empty.false), c.deref.ensures.len)
 
-pub fail-requires-clause-room : goal.fail-requires-clause-room
-fail-requires-clause-room c = subst (λ (s : LineState). HasRoomAt s.place s.line c.args.self.now.held.items 0) (sym c.in-Err.ensures.same) c.requires.room
+-- the fault stands in what is held
+faulty : (c : In-Err) → HasNextFault c.args.self.now.state c.args.self.now.held.items c.in-Err.line_fault
+faulty c = subst (λ (t : List ℕ). HasNextFault c.args.self.now.state t c.in-Err.line_fault) c.deref.ensures.value c.in-Err.ensures.scans
+
+pub fail-requires-clause-within : goal.fail-requires-clause-within
+fail-requires-clause-within c = omega (arith, (faulty (goal.at.fail-requires-clause-within c).In-Err).within, ap length c.deref-in-Err.ensures.value)
+
+pub fail-requires-clause-bytes : goal.fail-requires-clause-bytes
+fail-requires-clause-bytes c =
+    omega (arith, (faulty (goal.at.fail-requires-clause-bytes c).In-Err).within, c.requires.room.fits, ap (λ (s : LineState). s.place) c.in-Err.ensures.same)
+
+pub fail-requires-clause-lines : goal.fail-requires-clause-lines
+fail-requires-clause-lines c =
+    omega (arith, (faulty (goal.at.fail-requires-clause-lines c).In-Err).within, c.requires.room.fits, c.requires.room.few_lines, ap (λ (s : LineState). s.line) c.in-Err.ensures.same)
 
 pub returns-in-Err : goal.returns-in-Err
 returns-in-Err c =
     let f = c.args.self.now in
-    last_fault f c.fail.new.self c.requires.not_ready c.scan_line.new.self c.in-Err.ensures.same (subst (λ (t : List ℕ). HasNextFault f.state t c.in-Err.line_fault) c.deref.ensures.value c.in-Err.ensures.scans) c.fail.result c.fail.ensures
+    last_fault f _ c.requires.not_ready c.scan_line.new.self c.in-Err.ensures.same (faulty (goal.at.returns-in-Err c).In-Err) c.fail.result
+    (fails_so (record f { state = c.scan_line.new.self }) c.fail.new.self _ _ c.fail.result c.deref-in-Err.ensures.value c.fail.ensures)

@@ -1,4 +1,4 @@
-use Rattle.py_lines.proofs.Prelude.{◌≡◌, ℕ, ◌+◌, ◌-◌, ◌==◌, Ok, sym, ap, ◌∙◌, subst, arith, is_some, length, length-take, get_or_default_zero, vec_len}
+use Rattle.py_lines.proofs.Prelude.{◌≡◌, ◌≤◌, ℕ, ◌+◌, ◌-◌, ◌==◌, Ok, sym, ap, ◌∙◌, subst, arith, is_some, length, length-take, get_or_default_zero, vec_len}
 use Rattle.py_lines.specs.Private.Feed.{Feed, Meets, Stop, StopsHeld}
 use Rattle.py_lines.specs.LogicalLine.{byte_len}
 use Rattle.py_lines.specs.Settled.{IsHopeless}
@@ -7,7 +7,7 @@ use Rattle.py_lines.proofs.Readers.LineFaults.{refused_within}
 use Rattle.py_lines.proofs.Text.Incomplete.{tells_hopeless, tells_ok, tells_part}
 use Rattle.py_lines.proofs.Feeds.GivenBack.{returns_is, stays_line, stays_open, stop_some, stop_within}
 use Rattle.py_lines.proofs.Feeds.LastBytes.{one_most}
-use Rattle.py_lines.proofs.Feeds.OpenLine.{held_refused, hopeless_held, open_within, part_fails, part_held, within_held}
+use Rattle.py_lines.proofs.Feeds.OpenLine.{fails_so, held_refused, hopeless_held, open_within, part_fails, part_held, within_held}
 use Rattle.py_lines.proofs.feed.Feed.meet.Goals.{After-valid_up_to, In-LineEnd, In-TextEnd, In-Wrong, in_default-via-in-Err+else-is_some, in_default-via-in_default}
 use Rattle.py_lines.proofs.feed.Feed.meet.Goals as goal
 
@@ -51,16 +51,39 @@ hopeless c =
           (ap is_some (sym c.error_len.ensures) ∙ sym c.is_some.ensures ∙ c.if-is_some.true))),
     )
 
-pub fail-requires-clause-cut : goal.fail-requires-clause-cut
-fail-requires-clause-cut c = let (s, (at, never)) = hopeless c in (within_held c.args.self.now s.read s.rest s.spell _ (all_within s.read _ at)).0
+pub fail-requires-clause-within : goal.fail-requires-clause-within
+fail-requires-clause-within c =
+    let (s, (at, never)) = hopeless (goal.at.fail-requires-clause-within c).After-valid_up_to in
+    omega (arith, (within_held c.args.self.now s.read s.rest s.spell _ (all_within s.read _ at)).0, ap length c.deref-in-Err.ensures.value)
 
-pub fail-requires-in-Wrong-clause-cut : goal.fail-requires-in-Wrong-clause-cut
-fail-requires-in-Wrong-clause-cut c =
-    let f = c.args.self.now in let s = refused (goal.at.fail-requires-in-Wrong-clause-cut c).In-Wrong in let no = s.stops in
+pub fail-requires-clause-bytes : goal.fail-requires-clause-bytes
+fail-requires-clause-bytes c =
+    let (s, (at, never)) = hopeless (goal.at.fail-requires-clause-bytes c).After-valid_up_to in
+    omega (arith, (within_held c.args.self.now s.read s.rest s.spell _ (all_within s.read _ at)).0, c.requires.room.fits)
+
+pub fail-requires-clause-lines : goal.fail-requires-clause-lines
+fail-requires-clause-lines c =
+    let (s, (at, never)) = hopeless (goal.at.fail-requires-clause-lines c).After-valid_up_to in
+    omega (arith, (within_held c.args.self.now s.read s.rest s.spell _ (all_within s.read _ at)).0, c.requires.room.fits, c.requires.room.few_lines)
+
+-- the fault stands in what is held
+refused_held : (c : In-Wrong) → c.in-Wrong.line_fault.place ≤ length c.args.self.now.held.items
+refused_held c =
+    let f = c.args.self.now in let s = refused c in let no = s.stops in
     (within_held f s.read s.rest s.spell _ (refused_within f.state.place s.read no.way no.c no.none _ no.fault)).0
 
+pub fail-requires-in-Wrong-clause-within : goal.fail-requires-in-Wrong-clause-within
+fail-requires-in-Wrong-clause-within c = omega (arith, refused_held (goal.at.fail-requires-in-Wrong-clause-within c).In-Wrong, ap length c.deref-in-Wrong.ensures.value)
+
+pub fail-requires-in-Wrong-clause-bytes : goal.fail-requires-in-Wrong-clause-bytes
+fail-requires-in-Wrong-clause-bytes c = omega (arith, refused_held (goal.at.fail-requires-in-Wrong-clause-bytes c).In-Wrong, c.requires.room.fits)
+
+pub fail-requires-in-Wrong-clause-lines : goal.fail-requires-in-Wrong-clause-lines
+fail-requires-in-Wrong-clause-lines c =
+    omega (arith, refused_held (goal.at.fail-requires-in-Wrong-clause-lines c).In-Wrong, c.requires.room.fits, c.requires.room.few_lines)
+
 pub returns-in-Err-clause-meets : goal.returns-in-Err-clause-meets
-returns-in-Err-clause-meets c = let (s, (at, never)) = hopeless (goal.at.returns-in-Err-clause-meets c).After-valid_up_to in part_fails c.args.self.now c.fail.new.self c.args.before c.fail.result c.requires.not_ready _ s at never c.fail.ensures
+returns-in-Err-clause-meets c = let (s, (at, never)) = hopeless (goal.at.returns-in-Err-clause-meets c).After-valid_up_to in part_fails c.args.self.now _ c.args.before c.fail.result c.requires.not_ready _ s at never (fails_so c.args.self.now c.fail.new.self _ _ c.fail.result c.deref-in-Err.ensures.value c.fail.ensures)
 
 pub returns-in_default-clause-meets : goal.returns-in_default-clause-meets
 returns-in_default-clause-meets c =
@@ -73,13 +96,9 @@ returns-in_default-clause-meets c =
     (stays_open f c.args.before c.requires.within _ (omega (arith, c.len-in_default.ensures, ap (λ (x : Feed). vec_len x.held) same)) c.requires.not_ready (s, more))
 
 pub returns-in-Wrong-clause-meets : goal.returns-in-Wrong-clause-meets
-returns-in-Wrong-clause-meets c = held_refused c.args.self.now c.fail-in-Wrong.new.self c.args.before c.fail-in-Wrong.result c.requires.not_ready _ (refused (goal.at.returns-in-Wrong-clause-meets c).In-Wrong) c.fail-in-Wrong.ensures
-
-pub fail-requires-clause-room : goal.fail-requires-clause-room
-fail-requires-clause-room c = c.requires.room
-
-pub fail-requires-in-Wrong-clause-room : goal.fail-requires-in-Wrong-clause-room
-fail-requires-in-Wrong-clause-room c = c.requires.room
+returns-in-Wrong-clause-meets c =
+    held_refused c.args.self.now _ c.args.before c.fail-in-Wrong.result c.requires.not_ready _ (refused (goal.at.returns-in-Wrong-clause-meets c).In-Wrong)
+    (fails_so c.args.self.now c.fail-in-Wrong.new.self _ _ c.fail-in-Wrong.result c.deref-in-Wrong.ensures.value c.fail-in-Wrong.ensures)
 
 pub overflow_add-before : goal.overflow_add-before
 overflow_add-before c = omega (arith, c.requires.within, c.requires.room.fits)
@@ -95,5 +114,5 @@ overflow_sub-result-in_default c =
     ] in
     omega (arith, c.len-in_default.ensures, ap (λ (x : Feed). vec_len x.held) same, c.requires.within)
 
-pub overflow_add-scanned : goal.overflow_add-scanned
-overflow_add-scanned c = let (s, (at, never)) = hopeless c in omega (arith, (within_held c.args.self.now s.read s.rest s.spell _ (all_within s.read _ at)).0, c.requires.room.fits)
+pub overflow_add-place : goal.overflow_add-place
+overflow_add-place c = let (s, (at, never)) = hopeless c in omega (arith, (within_held c.args.self.now s.read s.rest s.spell _ (all_within s.read _ at)).0, c.requires.room.fits)

@@ -1,5 +1,6 @@
 use Rattle.py_lines.proofs.Prelude.{ℕ, List, sym, subst, length-take, take, arith}
-use Rattle.py_lines.specs.Private.Feed.{HoldsLine, HoldsSo}
+use Rattle.py_lines.specs.Private.Feed.{HasReadTokens, HoldsLine, HoldsSo, LineState}
+use Rattle.py_lines.specs.Private.LineState.{lent}
 use Rattle.py_lines.specs.Private.LineTokens.{HoldsTokens, IsLineAfter, IsLineText}
 use Rattle.py_lines.proofs.Feeds.ReadyLines.{held_line_text, held_within, some_read}
 use Rattle.py_lines.proofs.feed.Feed.read_tokens.Goals as goal
@@ -23,11 +24,11 @@ pub returns-in-Ok : goal.returns-in-Ok
 returns-in-Ok c =
     let f = c.args.self.now in
     let n = c.in-Some.end_len in
-    let new = c.read_line-read.new in
+    let new = c.read_line-read.new.self in
     let line = c.in-Ok.line in
     let text = λ (l : List ℕ). take f.state.scan.stop l in
     let held = c.deref.ensures.value in
     let tokens = subst (λ (l : List ℕ). HoldsTokens (text l) n f.state.line new.tokens.items) held c.in-Ok.ensures.tokens in
     let after = subst (λ (l : List ℕ). IsLineAfter f.state.line (text l) n line) held c.in-Ok.ensures.after in
-    some_read f (record f.state { tokens = new.tokens; scan = new.scan }) n line tokens after c.requires.no_fault c.requires.room c.in-Some.is
-    (stands (goal.at.returns-in-Ok c).In-Some)
+    subst (λ (s : LineState). HasReadTokens f (record f { state = record s { scan = lent f.state.scan s.scan }; next_line = line })) (sym c.in-Ok.ensures.same)
+    (some_read f new n line tokens after c.requires.no_fault c.requires.room c.in-Some.is (stands (goal.at.returns-in-Ok c).In-Some))

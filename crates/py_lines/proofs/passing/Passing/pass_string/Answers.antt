@@ -1,13 +1,15 @@
-use Rattle.py_lines.proofs.Prelude.{◌+◌, ◌∙◌, Some, ap, arith, drop, get_or-drop, length-drop, refl, slice_index, subst, sym, true, false, length, ◌<◌, ◌≡◌, both_ways}
+use Rattle.py_lines.proofs.Prelude.{◌+◌, ◌∙◌, Some, ap, arith, drop, get_or-drop, length-drop, refl, slice_index, subst, sym, true, false, length, ◌<◌, ◌≡◌, both_ways, drop-drop}
+use Rattle.py_lines.specs.Private.LongStrings.{TakesLong}
+use Rattle.py_lines.specs.Private.Marks.{HasMarks}
 use Rattle.py_lines.specs.Private.Passing.{MeetsString, TellsFields, word_before}
-use Rattle.py_lines.specs.Private.Scan.{quotes_in}
+use Rattle.py_lines.specs.Private.Scan.{passed, quotes_in}
 use Rattle.py_lines.proofs.FieldScans.TextLengths.{rest_is}
-use Rattle.py_lines.proofs.PassedPieces.Counts.{quoted_counts}
-use Rattle.py_lines.proofs.PassedPieces.FirstBytes.{bytes_from, first_later}
-use Rattle.py_lines.proofs.PassedPieces.Items.{empty_over}
+use Rattle.py_lines.proofs.PassedPieces.Counts.{plain_counts, quoted_counts}
+use Rattle.py_lines.proofs.PassedPieces.FirstBytes.{bytes_from, first_later, quotes_fit}
+use Rattle.py_lines.proofs.PassedPieces.Items.{empty_over, long_over}
 use Rattle.py_lines.proofs.PassedPieces.Passed.{passes_same}
 use Rattle.py_lines.proofs.PassedPieces.Reads.{second_quote}
-use Rattle.py_lines.proofs.passing.Passing.pass_string.Goals.{In-Some-eq1, In-Some-eq2}
+use Rattle.py_lines.proofs.passing.Passing.pass_string.Goals.{In-Some-eq1, In-Some-eq2, In-Some-eq3}
 use Rattle.py_lines.proofs.passing.Passing.pass_string.Goals as goal
 
 meets : (c : In-Some-eq1) → MeetsString c.args.bytes.now c.args.at c.args.self.now 1
@@ -38,8 +40,34 @@ returns-in-Some-true c = record { passed = c.pass_fields.ensures.passed; same = 
 pub returns-in-Some-false : goal.returns-in-Some-false
 returns-in-Some-false c = record { passed = λ so place. c.pass_text.ensures.passed so place c.args.frames.now; same = c.pass_text.ensures.same }
 
-pub returns-in-Some-eq3-clause-passed : goal.returns-in-Some-eq3-clause-passed
-returns-in-Some-eq3-clause-passed c = λ so place. c.pass_long_text.ensures.passed so place c.args.frames.now
+-- three quotes stand there
+three : (c : In-Some-eq3) → Some 3 ≡ quotes_in (drop c.args.at c.args.bytes.now)
+three c = ap Some (sym c.in-Some-eq3.field-0-test) ∙ sym c.in-Some-eq3.is ∙ c.quotes_len.ensures ∙ ap quotes_in (rest_is c.args.bytes.now c.args.at)
+
+pub long_string_end-requires-clause-within : goal.long_string_end-requires-clause-within
+long_string_end-requires-clause-within c =
+    let bytes = c.args.bytes.now in
+    let at = c.args.at in
+    omega (arith, quotes_fit (drop at bytes) 3 (three (goal.at.long_string_end-requires-clause-within c).In-Some-eq3), length-drop at bytes)
+
+pub returns-in-Some-clause-passed : goal.returns-in-Some-clause-passed
+returns-in-Some-clause-passed c = λ _ place.
+    let bytes = c.args.bytes.now in
+    let at = c.args.at in
+    let new = c.pass_to.new.self in
+    let next = c.requires.next in
+    let is = c.in-Some.ensures in
+    let n = is.len in
+    let many = three (goal.at.returns-in-Some-clause-passed c).In-Some-eq3 in
+    let to : new.all ≡ c.in-Some.end = ap (λ p. p.all) c.pass_to.ensures.passed in
+    let from = bytes_from bytes at c.requires.within in
+    let text = subst (λ xs. TakesLong passed (slice_index bytes at) xs n) (sym (drop-drop 3 at bytes) ∙ ap (drop 3) from) is.text in
+    passes_same bytes at c.args.self.now next c.requires.within _ c.args.frames.now (3 + n) place (omega arith)
+    (omega (arith, is.text.within, length-drop (at + 3) bytes, quotes_fit (drop at bytes) 3 many, length-drop at bytes)) (omega (arith, to, is.size))
+    (ap (λ p. p.lines) c.pass_to.ensures.passed)
+    (omega (arith, c.pass_to.ensures.counted, c.requires.counted, plain_counts bytes c.args.self.now.all at next.after next.within next.plain))
+    (subst (λ k. HasMarks bytes k new.marks) (sym to) c.pass_to.ensures.marked)
+    (λ scan p frames. long_over p _ (next.special c.requires.within) c.requires.quote _ n (many ∙ ap quotes_in from) text is.before)
 
 -- two quotes stand there
 told : (c : In-Some-eq2) → Some 2 ≡ quotes_in (drop c.args.at c.args.bytes.now)

@@ -1,5 +1,5 @@
 use Rattle.py_lines.proofs.Prelude.{length-take-le, ◌≡◌, ◌+◌, ◌≤◌, ◌∙◌, false, length, length-take, refl, subst, sym, arith}
-use Rattle.py_lines.specs.declared.host.Region.TheVariants as regions
+use Rattle.py_lines.specs.declared.mode.Region.TheVariants as regions
 use Rattle.py_lines.specs.declared.mode.Mode.{Mode as OpenMode}
 use Rattle.py_lines.specs.declared.mode.Mode.TheVariants as opens
 use Rattle.py_lines.specs.Private.Scan.{HasQuote, HoldsField}

@@ -52,7 +52,7 @@ returns c =
     let next = subst (λ (r : Reader). IsNext r l) back c.in_ok-line.ensures.1 in
     let text = c.as_bytes-text.ensures.value in
     let line : l.line ≡ s.state.line = ap (λ (o : Outline). o.line) next.is in (
-      c.in_ok-line.ensures.0 ∙ back,
-      read_is next (transport (λ i. HoldsTokens (text i) l.end_len (line i) c.read_line.new.tokens.items) c.in_ok-after.ensures.tokens)
+      ap (reader_at c.scan.new.self.bytes.now) c.in_ok-after.ensures.same ∙ c.in_ok-line.ensures.0 ∙ back,
+      read_is next (transport (λ i. HoldsTokens (text i) l.end_len (line i) c.read_line.new.self.tokens.items) c.in_ok-after.ensures.tokens)
           (transport (λ i. IsLineAfter (line i) (text i) l.end_len c.in_ok-after.after) c.in_ok-after.ensures.after),
     )

@@ -6,8 +6,8 @@ use Rattle.py_lines.specs.Private.LineTokens.{AreLineOf, BeginWithPiece, HaveRea
 use Rattle.py_lines.proofs.FieldScans.TextLengths.{rest_is}
 use Rattle.py_lines.proofs.LineScan.LineCount.{line_ends-bytes}
 use Rattle.py_lines.proofs.LineTokens.Lines.{IsReadNext, IsWholeRead, before_end, begun, byte_within, end_within, has_next, past_byte, read_next, whole_read}
-use Rattle.py_lines.proofs.line_tokens.read_line.Goals as goal
-use Rattle.py_lines.proofs.line_tokens.read_line.Goals.{After-pieces, In_ok-piece}
+use Rattle.py_lines.proofs.line_state.LineState.read_line.Goals as goal
+use Rattle.py_lines.proofs.line_state.LineState.read_line.Goals.{After-pieces, In_ok-piece}
 
 pub pieces-init : goal.pieces-init
 pieces-init c = subst (HaveRead _ _ _ _ _) (sym c.clear.ensures.items) (begun _ _ c.args.line c.args.end_len c.mark_len-start.ensures)

@@ -1,7 +1,7 @@
 use Rattle.py_lines.proofs.Prelude.{◌≡◌, ℕ, length, take, sym, ap, ◌∙◌, arith, length-take-le, take_all, IsValidUpTo}
 use Rattle.py_lines.proofs.Text.Utf8Prefixes.{whole_text, front_text}
-use Rattle.py_lines.proofs.utf8.utf8_prefix.Goals as goal
-use Rattle.py_lines.proofs.utf8.utf8_prefix.Goals.{After-valid_up_to}
+use Rattle.py_lines.proofs.character.utf8_prefix.Goals as goal
+use Rattle.py_lines.proofs.character.utf8_prefix.Goals.{After-valid_up_to}
 
 -- how far the bytes are UTF-8, and how many bytes that is
 front : (c : After-valid_up_to) → IsValidUpTo c.args.bytes.now c.valid_up_to.result

@@ -1,6 +1,0 @@
-use Rattle.py_lines.proofs.Prelude.{arith}
-use Rattle.std.proofs.lemmas.Grind.{common_steps}
-use Rattle.py_lines.proofs.feed.Feed.fail.Goals as goal
-
-pub returns : goal.returns
-returns c = grind (arith, common_steps)
