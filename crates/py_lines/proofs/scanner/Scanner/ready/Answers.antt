@@ -1,4 +1,5 @@
-use Rattle.py_lines.proofs.Prelude.{◌≡◌, take, sym, ap, ◌∙◌, subst, transport}
+use Rattle.py_lines.proofs.Prelude.{IsUtf8, ◌≡◌, take, sym, ap, ◌∙◌, subst, transport}
+use Rattle.py_lines.specs.Piece.{spelled}
 use Rattle.py_lines.specs.Outline.{Outline}
 use Rattle.py_lines.specs.Token.{EachLiesIn}
 use Rattle.py_lines.specs.Private.Feed.{StandsSo}
@@ -12,3 +13,9 @@ unit-requires c =
     = ap (λ (o : Outline). o.text) c.of-line.ensures ∙ ap (take f.state.scan.stop) c.deref.ensures.value in
     transport (λ i. EachLiesIn (sym text i) (sym c.as_slice.ensures.value i))
     (ready_lies f c.in_ok-end_len.end_len (subst (StandsSo f) c.in_ok-end_len.was c.self.invariant.state))
+
+pub of-line-requires-clause-utf8 : goal.of-line-requires-clause-utf8
+of-line-requires-clause-utf8 c =
+    let f = c.self.inside.feed in
+    let line = (subst (StandsSo f) c.in_ok-end_len.was c.self.invariant.state).holds in
+    subst (λ t. IsUtf8 (take f.state.scan.stop t)) (sym c.deref.ensures.value) (spelled line.pieces, (line.text.scalars, line.text.spell))
