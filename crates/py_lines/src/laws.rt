@@ -1,6 +1,6 @@
 //! Laws of the definitions, which the checker proves as contracts of functions that do nothing.
 
-ghost use Rattle.std.specs.Prelude.{◌≡◌, ℕ, ◌+◌, ◌<◌, false, true, Option, None, Some, List, [], ◌∷◌, ◌++◌, map, take};
+ghost use Rattle.std.specs.Prelude.{◌≡◌, ℕ, ◌+◌, ◌<◌, false, true, Option, Some, List, [], ◌∷◌, ◌++◌, map, take};
 ghost use Rattle.std.specs.Char.{is_ascii_alphabetic};
 ghost use Rattle.std.specs.List.{list_all, list_any};
 ghost use Rattle.py_lines.specs.Character.{is_break};
@@ -10,7 +10,7 @@ ghost use Rattle.py_lines.specs.FieldStrings.{Host, may_have_fields};
 ghost use Rattle.py_lines.specs.Fields.{IsField, AnyPieces, Fields, fielded, AreReadBefore, Reads, ReadsText, IsShallow, ShallowFields};
 ghost use Rattle.py_lines.specs.WithoutFields.{IsPlainReading, IsPlainLexed, HasNoFields};
 ghost use Rattle.py_lines.specs.LogicalLine.{LogicalLine, cut, line_of};
-ghost use Rattle.py_lines.specs.Reading.{Decodes, IsBalancedReading, EndsLine};
+ghost use Rattle.py_lines.specs.Reading.{IsBalancedReading, EndsLine};
 ghost use Rattle.py_lines.specs.Faults.{IsFaultAt, IsReadOrFaulty};
 ghost use Rattle.py_lines.specs.Lexed.{IsLexed, BeginsLexing};
 ghost use Rattle.py_lines.specs.Neighbours.{AreSimple, MayTouch, MayFollowLines};

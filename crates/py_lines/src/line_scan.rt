@@ -1,8 +1,8 @@
 //! The scan of logical lines: where each of them ends.
 
-ghost use Rattle.std.specs.Prelude.{◌≡◌, ℕ, ◌+◌, ◌-◌, ◌<◌, ◌≤◌, ◌^◌, true, List, drop, length, take, encode_utf8_all};
+ghost use Rattle.std.specs.Prelude.{◌≡◌, ◌+◌, ◌-◌, ◌<◌, ◌^◌, true, length, take};
 ghost use Rattle.py_lines.specs.Private.TakenPieces.{BeginWithLines, BeginWithPiece, BeginWithString, Free, IsOperatorEnd, IsWordStart, Piece};
-ghost use Rattle.py_lines.specs.Private.TakenPieces.{Reached, ReachedInSomeLine, ScansIn, TakesItems, TakesPieces, WhereverReached, byte_len};
+ghost use Rattle.py_lines.specs.Private.TakenPieces.{ReachedInSomeLine, ScansIn, TakesItems, TakesPieces, WhereverReached, byte_len};
 ghost use Rattle.py_lines.specs.Private.TakenPieces.{is_in_code, line_ends, opened_at, string};
 
 use crate::class::Class;

@@ -1,6 +1,6 @@
 //! What is open at a place of a line.
 
-ghost use Rattle.std.specs.Prelude.{◌≡◌, ◌<◌, length};
+ghost use Rattle.std.specs.Prelude.{◌≡◌, ◌<◌};
 ghost use Rattle.py_lines.specs.Private.Machine.{begins_string, first_spelling, is_field_spelling, spelling_with};
 ghost use Rattle.py_lines.specs.Private.Run.{word_spelling};
 ghost use Rattle.py_lines.specs.Private.Scan.{grown, is_text, string_mode};

@@ -4,7 +4,7 @@ ghost use Rattle.std.specs.Prelude.{◌≡◌, ◌<◌, ◌≤◌, ◌==◌, len
 ghost use Rattle.std.specs.List.{prefix_len};
 ghost use Rattle.py_lines.specs.Private.Scan.{HasQuote};
 ghost use Rattle.py_lines.specs.Private.Run.{IsRunOf, Marks, Spans, is_between, is_in_run, stays};
-ghost use Rattle.py_lines.specs.Private.Run.{is_ascii_word, is_body_byte, is_comment_byte, is_long_byte, is_wide_word};
+ghost use Rattle.py_lines.specs.Private.Run.{is_ascii_word, is_body_byte, is_comment_byte, is_wide_word};
 
 use crate::character::{is_break, utf8_prefix};
 use crate::mode::{Mode, Spelling};

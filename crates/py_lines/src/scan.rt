@@ -1,7 +1,7 @@
 //! The scan of a line: what is open where it stops, a piece of the line's code or the text of a string, and the brackets and fields round
 //! it. It takes a line item after item, and stops before one that the bytes don't tell whole.
 
-ghost use Rattle.std.specs.Prelude.{◌≡◌, ◌==◌, ◌+◌, ◌<◌, ◌≤◌, ◌^◌, None, Some, false, true, length, nat_lt, slice_index};
+ghost use Rattle.std.specs.Prelude.{◌≡◌, ◌==◌, ◌+◌, ◌<◌, ◌^◌, None, Some, false, true, length, slice_index};
 ghost use Rattle.py_lines.specs.Private.Scan.{begins, is_backslash, is_operator, is_quote};
 
 use crate::character::{first_character, is_closing, is_opening, is_quote, utf8_prefix};

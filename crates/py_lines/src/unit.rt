@@ -1,5 +1,5 @@
 //! Logical lines, with their tokens and without.
-ghost use Rattle.std.specs.Prelude.{◌≡◌, ℕ, ◌+◌, ◌^◌, ◌<◌, Some, length, slice_get, slice_range, IsUtf8};
+ghost use Rattle.std.specs.Prelude.{◌≡◌, ◌+◌, ◌^◌, ◌<◌, Some, length, slice_get, slice_range, IsUtf8};
 ghost use Rattle.py_lines.specs.Token.{EachLiesIn};
 ghost use Rattle.py_lines.specs.declared.token.Token.{Token};
 
