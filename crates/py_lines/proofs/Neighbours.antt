@@ -1,10 +1,9 @@
 -- Pieces of which each may touch the next are read.
-use Rattle.py_lines.proofs.Prelude.{◌≡◌, ℕ, Bool, true, false, not, List, [], ◌∷◌, ◌++◌, refl, sym, ap, subst, append_assoc, codes, list_all, and_parts, not-true, arith}
+use Rattle.py_lines.proofs.Prelude.{◌≡◌, ℕ, Bool, true, false, not, List, [], ◌∷◌, ◌++◌, refl, sym, ap, subst, append_assoc, codes, list_all, and_parts, not-true, arith, InClass, MayPrecede, AreReadBefore}
 use Rattle.unicode_ident.proofs.Computing.{unicode_ident}
 use Rattle.py_lines.specs.Character.{is_one_of, is_space, is_word_start, is_word_character, is_digit, is_quote, is_operator, is_line_feed, is_return, is_break, is_hash, is_backslash}
 use Rattle.py_lines.specs.Piece.{Class, mark, space, word, operator, comment, join, line_end, Piece, begins, is_mark_class, spelled}
 use Rattle.py_lines.specs.PieceGrammar.{feed, return_feed, return}
-use Rattle.py_lines.specs.Fields.{InClass, MayPrecede, AreReadBefore}
 use Rattle.py_lines.specs.LogicalLine.{is_line_end_class}
 use Rattle.py_lines.proofs.Text.CharacterTests.{none_of, excluded}
 use Rattle.py_lines.proofs.Fields.Elsewhere.{none_false}

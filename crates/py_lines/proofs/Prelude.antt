@@ -34,3 +34,49 @@ pub use Rattle.std.specs.Str.{all_scalars, byte, chars, is_utf8, IsCharBoundary,
 pub use Rattle.std.specs.Str.Lossy.{error_len_after_one, error_len_after_two, error_len_of_some, second_byte_max, second_byte_min}
 unfoldable pub use Rattle.std.specs.Str.Lossy.{utf8_error_len}
 pub use Rattle.std.specs.Vec.{vec_len}
+-- What most of them use of the definitions.
+pub use Rattle.py_lines.specs.Balance.{IsBalanced, closing_of, depth_after, depth_through}
+unfoldable pub use Rattle.py_lines.specs.Balance.{is_closing, is_opening}
+unfoldable pub use Rattle.py_lines.specs.Character.{is_backslash, is_brace, is_break, is_hash, is_line_feed, is_mark, is_operator, is_quote, is_return, is_space, is_word_character}
+pub use Rattle.py_lines.specs.LogicalLine.{LogicalLine, byte_len, line_ends, line_of}
+pub use Rattle.py_lines.specs.Piece.{Class, Piece, begins, begins_marked, ends, line_end, operator, spelled, string}
+pub use Rattle.py_lines.specs.declared.fault.Fault.{Fault}
+pub use Rattle.py_lines.specs.declared.fault.FaultKind.{FaultKind}
+pub use Rattle.py_lines.specs.declared.frames.Frame.{Frame}
+pub use Rattle.py_lines.specs.declared.frames.OpenField.{OpenField}
+pub use Rattle.py_lines.specs.declared.line_state.LineState.{LineState}
+pub use Rattle.py_lines.specs.declared.marks.Marks.{Marks}
+pub use Rattle.py_lines.specs.declared.mode.Region.{Region}
+pub use Rattle.py_lines.specs.declared.mode.Spelling.{Spelling}
+pub use Rattle.py_lines.specs.declared.mode.StringWithFields.{StringWithFields}
+pub use Rattle.py_lines.specs.declared.passing.Passing.{Passing}
+pub use Rattle.py_lines.specs.declared.scan.LineFault.{LineFault}
+pub use Rattle.py_lines.specs.declared.scan.Progress.{Progress}
+pub use Rattle.py_lines.specs.declared.scan.Scan.{Scan}
+pub use Rattle.py_lines.specs.declared.token.Token.{Token}
+pub use Rattle.py_lines.specs.FieldStrings.{Host, Place, literal, specification}
+pub use Rattle.py_lines.specs.Fields.{AreReadBefore, InClass, IsShallow, MayPrecede}
+pub use Rattle.py_lines.specs.Private.Run.{BeginsWith}
+unfoldable pub use Rattle.py_lines.specs.Private.Run.{is_ascii_word}
+pub use Rattle.py_lines.specs.Reading.{Decodes, EndsLine, IsBalancedReading}
+pub use Rattle.py_lines.specs.declared.mode.Mode.{Mode as OpenMode}
+pub use Rattle.py_lines.specs.Given.{AreFirstLines}
+pub use Rattle.py_lines.specs.Private.Frames.{has_field}
+pub use Rattle.py_lines.specs.Private.LineState.{first_mode}
+pub use Rattle.py_lines.specs.Private.Marks.{is_of_class}
+unfoldable pub use Rattle.py_lines.specs.Private.Marks.{is_plain}
+pub use Rattle.py_lines.specs.Reader.View.{reader_of}
+pub use Rattle.py_lines.specs.Token.{EachLiesIn}
+
+-- the bytes after the first ones, as a slice has them
+abbrev pub rest_of : List ℕ → ℕ → List ℕ
+rest_of bytes n = take (length bytes - n) (drop n bytes)
+
+pub rest_is : (bytes : List ℕ) (n : ℕ) → rest_of bytes n ≡ drop n bytes
+rest_is bytes n = take_all (length bytes - n) (drop n bytes) (omega (arith, length-drop n bytes))
+
+abbrev pub piece : Class → List ℕ → Piece
+piece class text = record { class = class; text = text }
+
+pub byte_len-append : (xs ys : List ℕ) → byte_len (xs ++ ys) ≡ byte_len xs + byte_len ys
+byte_len-append xs ys = ap length (encodes-append xs ys) ∙ length-append _ _

@@ -1,8 +1,6 @@
 -- What is open in a text that has no prefix of a string with fields before a quote is the same with fields and without, and so are
 -- its fault and its lexing.
-use Rattle.py_lines.proofs.Prelude.{◌≡◌, ℕ, true, false, List, [], ◌∷◌, ◌++◌, refl, sym, ap, ◌∙◌, inl, inr, ⊎_elim, append_assoc, append-nil, Option, None, Some, byte, or_parts, or_from, both_ways, arith}
-use Rattle.py_lines.specs.Character.{is_quote}
-use Rattle.py_lines.specs.Piece.{Piece, spelled}
+use Rattle.py_lines.proofs.Prelude.{◌≡◌, ℕ, true, false, List, [], ◌∷◌, ◌++◌, refl, sym, ap, ◌∙◌, inl, inr, ⊎_elim, append_assoc, append-nil, Option, None, Some, byte, or_parts, or_from, both_ways, arith, is_quote, Piece, spelled, FaultKind, Fault, LogicalLine}
 use Rattle.py_lines.specs.PieceGrammar.{AreReadIn, joined}
 use Rattle.py_lines.specs.FieldStrings.{Host, begins_fielded, may_have_fields, Place}
 use Rattle.py_lines.specs.Dialect.{Dialect, fielded_dialect, plain_dialect}
@@ -13,9 +11,6 @@ use Rattle.py_lines.specs.Faults.{IsLiveIn, DiesAtIn, IsFieldDueIn, IsAtDepthIn,
 use Rattle.py_lines.proofs.Fields.Parts.{not_nothing}
 use Rattle.py_lines.proofs.Fields.Elsewhere.{later, no_field_prefix, quotes_begin, read_with, read_without, balanced_with, balanced_without}
 use Rattle.py_lines.proofs.Elsewhere.SameRuns.{live_with, live_without}
-use Rattle.py_lines.specs.declared.fault.FaultKind.{FaultKind}
-use Rattle.py_lines.specs.declared.fault.Fault.{Fault}
-use Rattle.py_lines.specs.LogicalLine.{LogicalLine}
 use Rattle.py_lines.specs.Lexed.{IsLexedIn, IsLexed}
 use Rattle.py_lines.specs.WithoutFields.{IsPlainLexed, HasNoFields}
 use Rattle.py_lines.proofs.Text.Decoding.{decoded}

@@ -1,7 +1,6 @@
 -- A text that has no prefix of a string with fields before a quote is live with fields exactly if it is live without: the machine goes
 -- through it and opens no string with fields, and nor does what closes all that is open.
-use Rattle.py_lines.proofs.Prelude.{◌≡◌, ℕ, true, false, Option, None, Some, List, [], ◌∷◌, ◌++◌, refl, sym, ap, ◌∙◌, subst, inl, inr, append_assoc, append-nil, and_parts, both_ways, false_from_ne_true, append_cancel_left}
-use Rattle.py_lines.specs.Character.{is_mark, is_quote}
+use Rattle.py_lines.proofs.Prelude.{◌≡◌, ℕ, true, false, Option, None, Some, List, [], ◌∷◌, ◌++◌, refl, sym, ap, ◌∙◌, subst, inl, inr, append_assoc, append-nil, and_parts, both_ways, false_from_ne_true, append_cancel_left, is_mark, is_quote, piece}
 use Rattle.py_lines.specs.Piece.{Class, mark, string, operator, line_end, Piece, begins, spelled}
 use Rattle.py_lines.specs.PieceGrammar.{IsPrefix, InPlainClass, MayPrecedePlain, AreReadPlain}
 use Rattle.py_lines.specs.Balance.{IsBalanced, IsShallowPlain, OpensShallow}
@@ -14,7 +13,7 @@ use Rattle.py_lines.specs.Private.Machine.{Mode, Move, Start, class_of, closed, 
 use Rattle.py_lines.specs.Private.FieldMachine.{FieldMode, plain, plain_move, begins_host, Level, FieldScanned, field_state, field_text_start, field_pieces, field_moved, field_started, field_step, after_operator, openers_with, openers_through}
 use Rattle.py_lines.proofs.Text.Splits.{Either, either}
 use Rattle.py_lines.proofs.Text.CharacterTests.{prefix_word}
-use Rattle.py_lines.proofs.Pieces.PieceLists.{piece, AreReadIn-first, AreReadIn-second}
+use Rattle.py_lines.proofs.Pieces.PieceLists.{AreReadIn-first, AreReadIn-second}
 use Rattle.py_lines.proofs.Pieces.OpenBrackets.{EachAtDepth-parts, some_before}
 use Rattle.py_lines.proofs.Machine.Starts.{start-mark, start-quote, start-word, opens_no}
 use Rattle.py_lines.proofs.Machine.PieceSteps.{Grown, EndsWith, ends_before, ends_at, ends_after, IsRead, at_once, opened, is_read}

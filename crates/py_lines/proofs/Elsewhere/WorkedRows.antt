@@ -1,6 +1,5 @@
 -- A text with a prefix before a quote, where the dialects differ: rows worked out by hand.
-use Rattle.py_lines.proofs.Prelude.{[], ◌∷◌, refl, inl, inr, arith, codes}
-use Rattle.py_lines.specs.Piece.{string}
+use Rattle.py_lines.proofs.Prelude.{[], ◌∷◌, refl, inl, inr, arith, codes, string, piece}
 use Rattle.py_lines.specs.PieceGrammar.{IsShortString}
 use Rattle.py_lines.specs.Balance as balance
 use Rattle.py_lines.specs.Dialect.{plain_dialect}
@@ -8,7 +7,6 @@ use Rattle.py_lines.specs.OpenFields.{at_start}
 use Rattle.py_lines.specs.Faults.{IsLiveIn, open_short, IsFaultAtIn, at_end}
 use Rattle.py_lines.specs.declared.fault.FaultKind.TheVariants.{OpenString}
 use Rattle.py_lines.proofs.FieldMachine.WorkedRows.{tested}
-use Rattle.py_lines.proofs.Pieces.PieceLists.{piece}
 
 -- f"{x is live without fields: a quote closes the string
 live_without : IsLiveIn plain_dialect (codes "f\"{x")

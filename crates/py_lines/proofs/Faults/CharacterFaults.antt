@@ -1,8 +1,6 @@
 -- Where the machine with fields can't go on, or has no room to, the text dies: its state and the character tell the cause of the
 -- fault, and the fault's byte.
-use Rattle.py_lines.proofs.Prelude.{⊎_elim, ◌≡◌, ℕ, Bool, true, false, not, ◌&&◌, ◌||◌, ◌==◌, List, [], ◌⊎◌, inl, inr, refl, sym, ap, ◌∙◌, subst, ◌+◌, None, Some, ◌∷◌, ◌++◌, length, append_assoc, append-nil, arith, ◌≤◌, nat_lt, if◌then◌else◌, codes, both_ways, cond_both, and_from, or_parts, or_from, not_from_false, eq-eqb, and_parts, eqb-true, ltb-false, append_cancel_right}
-use Rattle.py_lines.specs.Character.{is_quote, is_line_feed, is_return, is_break}
-use Rattle.py_lines.specs.FieldStrings.{Host, Place, literal, specification}
+use Rattle.py_lines.proofs.Prelude.{⊎_elim, ◌≡◌, ℕ, Bool, true, false, not, ◌&&◌, ◌||◌, ◌==◌, List, [], ◌⊎◌, inl, inr, refl, sym, ap, ◌∙◌, subst, ◌+◌, None, Some, ◌∷◌, ◌++◌, length, append_assoc, append-nil, arith, ◌≤◌, nat_lt, if◌then◌else◌, codes, both_ways, cond_both, and_from, or_parts, or_from, not_from_false, eq-eqb, and_parts, eqb-true, ltb-false, append_cancel_right, is_quote, is_line_feed, is_return, is_break, operator, Piece, begins_marked, spelled, IsBalanced, is_opening, depth_after, depth_through, is_closing, byte_len, Host, Place, literal, specification, piece}
 use Rattle.py_lines.specs.Private.Machine.{Mode, Move, Holds, move_of, short_move, long_move, start_of}
 use Rattle.py_lines.specs.Private.Mode as modes
 use Rattle.py_lines.specs.Private.FieldMachine.{roomy, room_step, text_place, At, between, after_brace, FieldMode, plain, opened, empty, body, FieldMove, breaks, begins_code, opens_field, ends_field, refused, Level, is_after_brace, body_move, field_move, plain_move, begins_host, in_open_short, after_open_backslash, InSpecificationOf, before, FieldScanned, field_state, field_fresh, field_text_start, field_moved, field_started, field_step, field_steps_from, levels_open, frames, has_room, has_room_at, have_room, grows, closes, field_pieces, opened_level}
@@ -13,12 +11,10 @@ use Rattle.py_lines.proofs.FieldSoundness.Lists.{not_specification}
 use Rattle.py_lines.proofs.FieldSoundness.HostSteps.{opened_moves, sound_at}
 use Rattle.py_lines.proofs.FieldMachine.WholeRuns.{stops_there}
 use Rattle.py_lines.proofs.FieldSoundness.LiveTexts.{quotes_at, goes_live, steps-append}
-use Rattle.py_lines.specs.Piece.{operator, Piece, begins_marked, spelled}
-use Rattle.py_lines.specs.Balance.{IsBalanced, is_opening, depth_after, depth_through, is_closing}
 use Rattle.py_lines.specs.Fields.{HasNoColon, fielded}
 use Rattle.py_lines.specs.Faults.{DiesAt, IsAtDepth, InShortSpecification, IsFieldDue, OpensBraceTooDeep, BreaksString, OpensTooDeep, Cause, brace_too_deep, breaks_string, breaks_join, closes_wrong, opens_too_deep, ends_specification, begins_nothing, kind_of_cause, Explains, causes_before, NoneExplains, IsCharacterFault, open_short, open_join}
 use Rattle.py_lines.specs.OpenFields.{BeginsList, InSpecification}
-use Rattle.py_lines.proofs.Pieces.PieceLists.{piece, spelled-push, AreReadIn-first}
+use Rattle.py_lines.proofs.Pieces.PieceLists.{spelled-push, AreReadIn-first}
 use Rattle.py_lines.proofs.FieldSoundness.WholeTexts.{no_limit, any_rooms, two_hundred}
 use Rattle.py_lines.proofs.FieldSoundness.OpenEnds.{are_begun, list_begins, specification_is_open}
 use Rattle.py_lines.proofs.Text.CharacterTests.{none_of, each_of, break-not-others}
@@ -29,7 +25,6 @@ use Rattle.py_lines.proofs.FieldMachine.ListBrackets.{opening_pushes, none_some}
 use Rattle.py_lines.proofs.FieldMachine.PieceRuns.{IsNoColon, opening_operator, operator_stays}
 use Rattle.py_lines.proofs.Faults.EndFaults.{no_brace_at, EndsSo, due_at, brace_is_due, few_frames}
 use Rattle.py_lines.proofs.FieldMachine.WhatIsOpen.{comes_to, specification_comes, backslash_comes}
-use Rattle.py_lines.specs.LogicalLine.{byte_len}
 use Rattle.py_lines.proofs.Faults.Ends.{brace_more, short_unfinished, join_unfinished, deep_state, sound_to, text_is, open_now, end_named, specification_says, specification_named}
 
 -- a short string is open here, or a specification of one

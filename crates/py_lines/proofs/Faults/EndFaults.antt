@@ -1,12 +1,9 @@
 -- What is open where a text with fields ends, by the state in which the machine stands.
-use Rattle.py_lines.proofs.Prelude.{◌≡◌, ℕ, ◌+◌, ◌-◌, ◌<◌, ◌≤◌, Bool, true, false, not, ◌||◌, Option, None, Some, List, [], ◌∷◌, ◌++◌, length, nat_lt, refl, sym, ap, ◌∙◌, subst, inl, inr, append_assoc, append-nil, arith, both_ways, cond_both, ltb-true, ltb-false}
-use Rattle.py_lines.specs.Piece.{Piece, spelled}
+use Rattle.py_lines.proofs.Prelude.{◌≡◌, ℕ, ◌+◌, ◌-◌, ◌<◌, ◌≤◌, Bool, true, false, not, ◌||◌, Option, None, Some, List, [], ◌∷◌, ◌++◌, length, nat_lt, refl, sym, ap, ◌∙◌, subst, inl, inr, append_assoc, append-nil, arith, both_ways, cond_both, ltb-true, ltb-false, Piece, spelled, byte_len, IsShallow}
 use Rattle.py_lines.specs.Balance as balance
 use Rattle.py_lines.specs.Balance.{is_opener, is_closer, depth_after, depth_through}
-use Rattle.py_lines.specs.Fields.{IsShallow}
 use Rattle.py_lines.specs.Faults.{IsFieldDue, OpensBraceTooDeep, InOpenBracket, Unfinished, open_brace, open_short, open_long, open_inside, IsOpenAtEnd}
 use Rattle.py_lines.specs.OpenFields.{IsSlash, AreBegun, BeginsList, IsPlainShortPrefix, IsPlainLongPrefix, in_field, InFieldCode}
-use Rattle.py_lines.specs.LogicalLine.{byte_len}
 use Rattle.py_lines.specs.FieldStrings.{Host, Place, literal, specification, begins_open}
 use Rattle.py_lines.specs.Private.Machine.{Mode, is_final, in_short, in_long, is_after_backslash}
 use Rattle.py_lines.specs.Private.FieldMachine.{text_place, before, At, after_brace, FieldMode, plain, opened, empty, body, Level, FieldScanned, field_state, field_closed, levels_open, may_end, IsFieldFinal}

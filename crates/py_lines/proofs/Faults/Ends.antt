@@ -1,24 +1,19 @@
 -- What is open where a text with fields ends, and where it starts, are told by the state of the machine there. So a live text that
 -- has no reading has a fault at its end, and one alone.
-use Rattle.py_lines.proofs.Prelude.{if◌then◌else◌, encode, ◌≡◌, ℕ, ◌+◌, Bool, true, false, not, ◌||◌, arith, Option, None, Some, List, [], ◌∷◌, ◌++◌, refl, sym, ap, ◌∙◌, subst, ◌<◌, ◌⊎◌, inl, inr, length, nat_lt, append_assoc, append-nil, both_ways, cond_both}
-use Rattle.py_lines.specs.Piece.{Piece, spelled, string}
+use Rattle.py_lines.proofs.Prelude.{if◌then◌else◌, encode, ◌≡◌, ℕ, ◌+◌, Bool, true, false, not, ◌||◌, arith, Option, None, Some, List, [], ◌∷◌, ◌++◌, refl, sym, ap, ◌∙◌, subst, ◌<◌, ◌⊎◌, inl, inr, length, nat_lt, append_assoc, append-nil, both_ways, cond_both, Piece, spelled, string, FaultKind, Host, literal, specification, IsBalancedReading, piece, byte_len-append}
 use Rattle.py_lines.specs.LogicalLine.{byte_len, first_or_zero}
 use Rattle.py_lines.specs.Balance.{is_opener, IsBalanced}
 use Rattle.py_lines.specs.Faults.{Unfinished, open_brace, open_short, open_long, open_join, open_bracket, open_inside, InOpenBracket, OpensBraceTooDeep, kind_of_unfinished, IsOpenAtEnd, IsEndFault}
-use Rattle.py_lines.specs.FieldStrings.{Host, literal, specification}
 use Rattle.py_lines.specs.Private.Mode as modes
 use Rattle.py_lines.specs.Private.Machine.{Bracket, brackets_of}
 use Rattle.py_lines.specs.Private.FieldMachine.{text_place, before, after_brace, in_open_short, in_open_long, after_open_backslash, InSpecificationOf, FieldMode, plain, body, Level, FieldScanned, field_state, field_text_start, field_steps_from, field_pieces, may_end, openers_through, have_room, IsFieldFinal, levels_open, frames, field_closed}
-use Rattle.py_lines.proofs.Pieces.PieceLists.{spelled-append, piece}
+use Rattle.py_lines.proofs.Pieces.PieceLists.{spelled-append}
 use Rattle.py_lines.proofs.Faults.EndFaults.{IsDeepBrace, EndsSo, brace_open, open_in}
 use Rattle.py_lines.proofs.FieldMachine.Runs.{NoLimit, Goes, steps_of}
 use Rattle.py_lines.proofs.FieldMachine.OpenLists.{pieces_run, list_runs}
-use Rattle.py_lines.proofs.LogicalLines.Cuts.{byte_len-append}
 use Rattle.py_lines.proofs.Fields.Parts.{some_head}
 use Rattle.py_lines.proofs.FieldMachine.ListBrackets.{openers_through-append, opener_pushes, balanced_openers, none_some}
 use Rattle.py_lines.specs.Private.FieldFaults.{unfinished_code, unfinished_in, unfinished_at, is_waiting, unfinished_literal, here, piece_start}
-use Rattle.py_lines.specs.Reading.{IsBalancedReading}
-use Rattle.py_lines.specs.declared.fault.FaultKind.{FaultKind}
 use Rattle.py_lines.proofs.FieldMachine.Completeness.{reading_reached, may_begin}
 use Rattle.py_lines.proofs.FieldMachine.WhatIsOpen.{Comes, comes_to, short_open_comes, long_open_comes, backslash_comes, SpecificationAt, specification_comes, CodeAt, in_code, at_brace, code_comes, brace_comes}
 use Rattle.py_lines.proofs.FieldMachine.OpenStrings.{HasOpened}

@@ -1,12 +1,8 @@
 -- The place of a fault of a text with fields stands after some characters of the text.
-use Rattle.py_lines.proofs.Prelude.{⊎_elim, ◌≡◌, ℕ, List, [], ◌∷◌, ◌++◌, sym, ap, ◌∙◌, inl, inr, append_assoc, append-nil, byte, arith}
-use Rattle.py_lines.specs.Piece.{spelled}
+use Rattle.py_lines.proofs.Prelude.{⊎_elim, ◌≡◌, ℕ, List, [], ◌∷◌, ◌++◌, sym, ap, ◌∙◌, inl, inr, append_assoc, append-nil, byte, arith, spelled, byte_len, FaultKind, Host, literal, specification}
 use Rattle.py_lines.specs.PieceGrammar.{joined}
 use Rattle.py_lines.specs.Faults.{Cause, brace_too_deep, breaks_string, breaks_join, ends_specification, begins_nothing, Explains, IsUndecodable, Unfinished, open_brace, open_bracket, open_inside, IsOpenAtEnd, IsFaultAt, at_character, at_bytes, at_end}
 use Rattle.py_lines.specs.OpenFields.{Spot, IsOpenString, in_literal, in_specification, InSpecification}
-use Rattle.py_lines.specs.LogicalLine.{byte_len}
-use Rattle.py_lines.specs.FieldStrings.{Host, literal, specification}
-use Rattle.py_lines.specs.declared.fault.FaultKind.{FaultKind}
 use Rattle.py_lines.specs.declared.fault.FaultKind.TheVariants as faults
 use Rattle.py_lines.proofs.Pieces.PieceLists.{spelled-append}
 

@@ -1,7 +1,6 @@
 -- A text with fields has one fault at most. At a character it is one: so is the first place that can't be passed, the first cause that
 -- fits there, and the byte where its fault stands.
-use Rattle.py_lines.proofs.Prelude.{◌≡◌, ℕ, List, [], ◌∷◌, ◌++◌, sym, ◌∙◌, subst, append_assoc, ◌⊎◌, inl, inr, refl, ap}
-use Rattle.py_lines.specs.declared.fault.FaultKind.{FaultKind}
+use Rattle.py_lines.proofs.Prelude.{◌≡◌, ℕ, List, [], ◌∷◌, ◌++◌, sym, ◌∙◌, subst, append_assoc, ◌⊎◌, inl, inr, refl, ap, FaultKind}
 use Rattle.py_lines.specs.Faults.{IsLive, IsCharacterFault, IsFaultAt, at_character, at_bytes, at_end, Cause, brace_too_deep, breaks_string, breaks_join, closes_wrong, opens_too_deep, ends_specification, begins_nothing, kind_of_cause, Explains, causes_before, NoneExplains}
 use Rattle.py_lines.proofs.FieldSoundness.LiveTexts.{live_before, live_goes}
 use Rattle.py_lines.proofs.Faults.Ends.{one_end}

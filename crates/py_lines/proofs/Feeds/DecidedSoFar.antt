@@ -1,13 +1,8 @@
 -- Which faults the known bytes decide: where the machine refuses a character, where no bytes complete one, and where the text ends.
-use Rattle.py_lines.proofs.Prelude.{◌≡◌, ℕ, ◌+◌, ◌<◌, ◌≤◌, false, true, not, ◌&&◌, Some, None, List, [], ◌∷◌, ◌++◌, length, take, drop, refl, sym, ap, ◌∙◌, subst, ⊎_elim, inl, inr, append_assoc, append-nil, arith, length-append, encode_utf8, encode_utf8_all, take-append-drop, take_all, IsScalar, StartsWithNoChar, all_scalars, and_from, both_ways, cases_Bool, false_from_ne_true, length-le-encodes}
-use Rattle.py_lines.specs.Character.{is_line_feed}
-use Rattle.py_lines.specs.Piece.{spelled}
-use Rattle.py_lines.specs.Fields.{AreReadBefore}
-use Rattle.py_lines.specs.Reading.{Decodes}
+use Rattle.py_lines.proofs.Prelude.{◌≡◌, ℕ, ◌+◌, ◌<◌, ◌≤◌, false, true, not, ◌&&◌, Some, None, List, [], ◌∷◌, ◌++◌, length, take, drop, refl, sym, ap, ◌∙◌, subst, ⊎_elim, inl, inr, append_assoc, append-nil, arith, length-append, encode_utf8, encode_utf8_all, take-append-drop, take_all, IsScalar, StartsWithNoChar, all_scalars, and_from, both_ways, cases_Bool, false_from_ne_true, length-le-encodes, is_line_feed, spelled, LogicalLine, byte_len, AreReadBefore, Decodes, byte_len-append}
 use Rattle.py_lines.specs.Faults.{IsCharacterFault, IsLive}
 use Rattle.py_lines.specs.Lexed.{IsLexed, IsLexedToFault}
 use Rattle.py_lines.specs.Settled.{IsHopeless, Decides, StaysFaulty}
-use Rattle.py_lines.specs.LogicalLine.{LogicalLine, byte_len}
 use Rattle.py_lines.specs.ScannerState.{GoesOnWith}
 use Rattle.py_lines.specs.Private.FieldMachine.{room_step}
 use Rattle.py_lines.specs.Private.LineScan.{IsUnderWay, begins_line}
@@ -21,7 +16,6 @@ use Rattle.py_lines.proofs.Lexings.Existence.{IsLineOf}
 use Rattle.py_lines.proofs.Lexings.LinePrefix.{HasPrefix, refused_at_character, refused_at_bytes, refused_at_end}
 use Rattle.py_lines.proofs.Lexings.DecidedFaults.{decided_lexing}
 use Rattle.py_lines.proofs.Lexings.FirstLines.{base_lines}
-use Rattle.py_lines.proofs.LogicalLines.Cuts.{byte_len-append}
 use Rattle.py_lines.proofs.FieldMachine.OuterLists.{outer_pieces}
 use Rattle.py_lines.proofs.FieldMachine.WholeRuns.{runs_live}
 use Rattle.py_lines.proofs.LineScan.LineSteps.{returned_at}

@@ -1,18 +1,14 @@
 -- The text ends with what is held: its last line, or the fault that stands there.
-use Rattle.py_lines.proofs.Prelude.{◌≡◌, ℕ, ◌+◌, ◌<◌, ⊎_elim, true, None, Some, Ok, Err, List, [], ◌∷◌, ◌++◌, length, refl, sym, ap, ◌∙◌, subst, append-nil, arith, Option, drop, length-drop, encode_utf8_all, length-append, length-take-le, take-append-drop, take_all}
-use Rattle.py_lines.specs.LogicalLine.{LogicalLine, byte_len}
+use Rattle.py_lines.proofs.Prelude.{◌≡◌, ℕ, ◌+◌, ◌<◌, ⊎_elim, true, None, Some, Ok, Err, List, [], ◌∷◌, ◌++◌, length, refl, sym, ap, ◌∙◌, subst, append-nil, arith, Option, drop, length-drop, encode_utf8_all, length-append, length-take-le, take-append-drop, take_all, LogicalLine, byte_len, spelled, AreFirstLines, byte_len-append}
 use Rattle.py_lines.specs.Lexed.{IsLexed}
 use Rattle.py_lines.specs.ScannerState.{IsScanning, fed_of, EndsFaulty, EndsScan, Finishes, ScannerState}
-use Rattle.py_lines.specs.Piece.{spelled}
 use Rattle.py_lines.specs.Private.LineState.{HasNextFault, HasNextLine, rescanned}
 use Rattle.py_lines.specs.Private.Feed.{EndsText, Fault, HasRoom, HoldsLine, IsHeldOpen, Holds, HasEndedText, HasReadTokens, HoldsSo, IsSoundFeed, ReadsTokens, StandsSo, with_line, LexError, LineFault, LineState, Scan, Feed, scanning_of, ready_of}
 use Rattle.py_lines.proofs.Feeds.Known.{first_at}
 use Rattle.py_lines.proofs.Feeds.OpenLine.{FailsAt, dropped, runs_out}
-use Rattle.py_lines.specs.Given.{AreFirstLines}
 use Rattle.py_lines.specs.Settled.{IsSettled}
 use Rattle.py_lines.proofs.Lexings.FirstLines.{all_first, begins_settled}
 use Rattle.py_lines.proofs.Lexings.LineEnds.{none_both}
-use Rattle.py_lines.proofs.LogicalLines.Cuts.{byte_len-append}
 use Rattle.py_lines.proofs.Feeds.FedScanner.{settled_held}
 
 -- nothing is held

@@ -1,13 +1,9 @@
 -- Bytes of a piece were taken: what they settle and decide, where they were scanned, and what the call that feeds it answers.
-use Rattle.py_lines.proofs.Prelude.{◌≡◌, ℕ, ◌+◌, ◌<◌, false, None, Some, List, [], ◌∷◌, ◌++◌, length, take, sym, ap, ◌∙◌, subst, ⊎_elim, inl, inr, append-nil, arith, length-append, encode_utf8_all, ◌-◌, ◌≤◌, ◌^◌, Option, Err, drop, refl, append_assoc, length-drop, ◌⊎◌, true, is_some, cases_lt, all_scalars, length-take-le, nil_from_length, take-append-drop, take_all, take-add}
-use Rattle.py_lines.specs.Character.{is_return}
-use Rattle.py_lines.specs.Piece.{ends, spelled}
-use Rattle.py_lines.specs.LogicalLine.{LogicalLine, line_of}
+use Rattle.py_lines.proofs.Prelude.{◌≡◌, ℕ, ◌+◌, ◌<◌, false, None, Some, List, [], ◌∷◌, ◌++◌, length, take, sym, ap, ◌∙◌, subst, ⊎_elim, inl, inr, append-nil, arith, length-append, encode_utf8_all, ◌-◌, ◌≤◌, ◌^◌, Option, Err, drop, refl, append_assoc, length-drop, ◌⊎◌, true, is_some, cases_lt, all_scalars, length-take-le, nil_from_length, take-append-drop, take_all, take-add, is_return, ends, spelled, LogicalLine, line_of, first_mode}
 use Rattle.py_lines.specs.Lexed.{IsLexed}
 use Rattle.py_lines.specs.Settled.{IsSettled, Decides, DecideNone}
 use Rattle.py_lines.specs.ScannerState.{GoesOnWith, EndsExactly, HoldsReady, ScannerState, IsScanning, TakesBytes, WhereFed, fed_of, ready_lines, Feeds, FeedsNaming, LacksBoth, MeetsFault, Releases, TakesNaming}
 use Rattle.py_lines.specs.Private.LineScan.{EndsWhole, IsApart, ScansIn}
-use Rattle.py_lines.specs.Private.LineState.{first_mode}
 use Rattle.py_lines.specs.Private.Feed.{IsScanned, Scan, Stop, Feed, AreFirstLines, EndsWithLine, FailsAfter, Holds, HoldsLine, HoldsMore, HoldsSo, IsSoundFeed, IsUnchanged, StandsSo, Takes, TakesLine, TakesSo, line_held, Fault, LexError, ready_of, scanning_of, HasReadTokens, LetsGo, ReadsTokens, with_line, line_of_feed}
 use Rattle.py_lines.proofs.Text.Utf8Prefixes.{all_scalars-parts, nothing_bad}
 use Rattle.py_lines.proofs.Lexings.DecidedFaults.{decided_fault, decided_more}

@@ -1,10 +1,7 @@
 -- What stays held where a line is ready.
 use mir.Val.{bool_byte}
-use Rattle.py_lines.proofs.Prelude.{Bool, ◌≡◌, ℕ, zero, suc, ◌+◌, ◌-◌, ◌==◌, ◌<◌, ◌≤◌, ◌⊎◌, true, false, None, Some, Ok, Err, Result, List, ◌++◌, length, take, drop, refl, sym, ap, ◌∙◌, subst, ⊎_elim, inl, inr, arith, length-append, length-drop, length-take, encode_utf8_all, max, slice_index, min, take_all, Vec, cases_lt, length-take-le, take-take, take_min, take-add, take-append-add, take-append_seam, drop-append_seam}
+use Rattle.py_lines.proofs.Prelude.{Bool, ◌≡◌, ℕ, zero, suc, ◌+◌, ◌-◌, ◌==◌, ◌<◌, ◌≤◌, ◌⊎◌, true, false, None, Some, Ok, Err, Result, List, ◌++◌, length, take, drop, refl, sym, ap, ◌∙◌, subst, ⊎_elim, inl, inr, arith, length-append, length-drop, length-take, encode_utf8_all, max, slice_index, min, take_all, Vec, cases_lt, length-take-le, take-take, take_min, take-add, take-append-add, take-append_seam, drop-append_seam, is_return, ends, byte_len}
 use Rattle.py_lines.proofs.Feeds.OpenLine.{fails_later, holds_on}
-use Rattle.py_lines.specs.Character.{is_return}
-use Rattle.py_lines.specs.Piece.{ends}
-use Rattle.py_lines.specs.LogicalLine.{byte_len}
 use Rattle.py_lines.specs.Private.LineScan.{EndsWhole, ScansIn}
 use Rattle.py_lines.specs.ScannerState.{EndsExactly}
 use Rattle.py_lines.specs.Private.LineState.{reread}

@@ -1,15 +1,10 @@
 -- The bytes of a text that are known: those of the lines given, characters after them, and a part of a character.
-use Rattle.py_lines.proofs.Prelude.{◌≡◌, ℕ, ◌+◌, ◌<◌, true, List, [], ◌∷◌, ◌++◌, length, take, drop, refl, sym, ap, ◌∙◌, subst, ⊎_elim, append_assoc, arith, length-append, encode_utf8_all, all_scalars, StartsWithNoChar, drop-drop, drop-take, length-take, take-append-drop, take-take, encodes-append, take-add, take-append_seam, drop-append_seam}
-use Rattle.py_lines.specs.Piece.{Piece, spelled}
-use Rattle.py_lines.specs.Balance.{IsBalanced}
+use Rattle.py_lines.proofs.Prelude.{◌≡◌, ℕ, ◌+◌, ◌<◌, true, List, [], ◌∷◌, ◌++◌, length, take, drop, refl, sym, ap, ◌∙◌, subst, ⊎_elim, append_assoc, arith, length-append, encode_utf8_all, all_scalars, StartsWithNoChar, drop-drop, drop-take, length-take, take-append-drop, take-take, encodes-append, take-add, take-append_seam, drop-append_seam, Piece, spelled, IsBalanced, Decodes, EndsLine, IsBalancedReading, AreFirstLines, first_mode}
 use Rattle.py_lines.specs.Fields.{fielded, AreReadBefore, IsShallow}
-use Rattle.py_lines.specs.Reading.{Decodes, EndsLine, IsBalancedReading}
-use Rattle.py_lines.specs.Given.{AreFirstLines}
 use Rattle.py_lines.specs.LogicalLine.{LogicalLine, cut, line_of, lines_of, byte_len, line_ends}
 use Rattle.py_lines.specs.ScannerState.{GoesOnWith}
 use Rattle.py_lines.specs.Private.FieldMachine.{FieldScanned}
 use Rattle.py_lines.specs.Private.LineScan.{line_begun}
-use Rattle.py_lines.specs.Private.LineState.{first_mode}
 use Rattle.py_lines.specs.Private.Scan.{Goes}
 use Rattle.py_lines.proofs.Text.Utf8Prefixes.{goes_on, all_scalars-parts, all_scalars-append}
 use Rattle.py_lines.proofs.LogicalLines.NextLine.{lines_of-push}

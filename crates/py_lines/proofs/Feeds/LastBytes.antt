@@ -1,8 +1,6 @@
 -- The last byte of characters: it is CR just where their last character is.
 use mir.Val.{bool_byte}
-use Rattle.py_lines.proofs.Prelude.{take-suc, ◌≡◌, ℕ, suc, ◌-◌, ◌<◌, ◌≤◌, Bool, true, false, List, [], ◌∷◌, ◌++◌, ◌==◌, eqb, length, take, slice_index, refl, sym, ap, ◌∙◌, append-nil, arith, encode_utf8, encode_utf8_all, ends_with, or-false, nat_tests, cases_lt, false_from_ne_true, length-le-encodes}
-use Rattle.py_lines.specs.Character.{is_return}
-use Rattle.py_lines.specs.Piece.{ends}
+use Rattle.py_lines.proofs.Prelude.{take-suc, ◌≡◌, ℕ, suc, ◌-◌, ◌<◌, ◌≤◌, Bool, true, false, List, [], ◌∷◌, ◌++◌, ◌==◌, eqb, length, take, slice_index, refl, sym, ap, ◌∙◌, append-nil, arith, encode_utf8, encode_utf8_all, ends_with, or-false, nat_tests, cases_lt, false_from_ne_true, length-le-encodes, is_return, ends}
 use Rattle.py_lines.specs.ScannerState.{EndsExactly}
 use Rattle.py_lines.specs.Private.LineScan.{EndsWhole}
 use Rattle.py_lines.proofs.Text.CharacterTests.{return_is}

@@ -1,6 +1,5 @@
 -- What is held of a line that is open, what a scan of it comes to, and what is left where the scan stops before bytes that do not tell.
-use Rattle.py_lines.proofs.Prelude.{◌≡◌, ℕ, ◌+◌, ◌<◌, true, false, None, Some, List, [], ◌∷◌, ◌++◌, length, take, drop, refl, sym, ap, ◌∙◌, subst, arith, append-nil, length-append, encode_utf8_all, IsUtf8, length-take-le, take-append-drop, ◌-◌, ◌≤◌, Bool, append_assoc, length-drop, ◌^◌, Option, Err, ⊎_elim, ◌==◌, StartsWithNoChar, eqb-true, cases_lt, Vec, vec_len, encodes-append, nil_from_length, take_all, take-append_seam, drop-append_seam}
-use Rattle.py_lines.specs.LogicalLine.{byte_len}
+use Rattle.py_lines.proofs.Prelude.{◌≡◌, ℕ, ◌+◌, ◌<◌, true, false, None, Some, List, [], ◌∷◌, ◌++◌, length, take, drop, refl, sym, ap, ◌∙◌, subst, arith, append-nil, length-append, encode_utf8_all, IsUtf8, length-take-le, take-append-drop, ◌-◌, ◌≤◌, Bool, append_assoc, length-drop, ◌^◌, Option, Err, ⊎_elim, ◌==◌, StartsWithNoChar, eqb-true, cases_lt, Vec, vec_len, encodes-append, nil_from_length, take_all, take-append_seam, drop-append_seam, byte_len, begins, byte_len-append}
 use Rattle.py_lines.specs.Settled.{IsHopeless}
 use Rattle.py_lines.specs.Private.FieldMachine.{FieldScanned}
 use Rattle.py_lines.specs.Private.Scan.{StandsAs, has_returned}
@@ -8,9 +7,7 @@ use Rattle.py_lines.specs.Private.LineScan.{IsLeft, begins_line, Reached}
 use Rattle.py_lines.specs.Private.Feed.{Mode, Scan, IsHeldOpen, IsOpen, StopsHeld, Stop, Feed, DropsLine, FailsIn, HasRoom, Holds, HoldsAt, IsDecidedAt, IsSoundFeed, IsUnchanged, Meets, WhereHeld, Fault, FaultKind, LexError, scanning_of, LineState, LineFault}
 use Rattle.py_lines.proofs.Text.Utf8Prefixes.{one_decoding}
 use Rattle.py_lines.proofs.LineScan.LineSteps.{rests_end, begun_reached}
-use Rattle.py_lines.specs.Piece.{begins}
 use Rattle.py_lines.specs.Private.LineState.{first_mode, BeginsAnew, IsFaultAfter, KeepsFault}
-use Rattle.py_lines.proofs.LogicalLines.Cuts.{byte_len-append}
 use Rattle.py_lines.proofs.FieldScans.Taking.{rests_more}
 use Rattle.py_lines.proofs.LineScan.TextSteps.{begun_sound}
 use Rattle.py_lines.proofs.Readers.LineFaults.{Within, refused_within}

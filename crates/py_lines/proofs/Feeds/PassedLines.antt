@@ -1,8 +1,6 @@
 -- Lines that a scanner passed over are the next ones of each text that goes on with them.
 use mir.Val.{bool_byte}
-use Rattle.py_lines.proofs.Prelude.{◌≡◌, ℕ, ◌+◌, ◌<◌, ◌≤◌, ◌^◌, ⊎_elim, inl, inr, Bool, true, Option, None, List, [], ◌∷◌, ◌++◌, ◌-◌, eqb, length, take, drop, refl, sym, ap, ◌∙◌, subst, append_assoc, append-nil, arith, length-append, encode_utf8_all, flat_map, min, Vec, cases_lt, Decides-eqb, starts_is, ends_with, starts_with, drop-append_seam, take-add, take-append_seam, length-drop, length-take-le, length-take, encodes-append, length-le-encodes}
-use Rattle.py_lines.specs.Character.{is_return}
-use Rattle.py_lines.specs.Piece.{ends}
+use Rattle.py_lines.proofs.Prelude.{◌≡◌, ℕ, ◌+◌, ◌<◌, ◌≤◌, ◌^◌, ⊎_elim, inl, inr, Bool, true, Option, None, List, [], ◌∷◌, ◌++◌, ◌-◌, eqb, length, take, drop, refl, sym, ap, ◌∙◌, subst, append_assoc, append-nil, arith, length-append, encode_utf8_all, flat_map, min, Vec, cases_lt, Decides-eqb, starts_is, ends_with, starts_with, drop-append_seam, take-add, take-append_seam, length-drop, length-take-le, length-take, encodes-append, length-le-encodes, is_return, ends}
 use Rattle.py_lines.specs.LogicalLine.{LogicalLine, byte_len, first_or_zero, line_ends, line_of}
 use Rattle.py_lines.specs.Settled.{IsSettled}
 use Rattle.py_lines.specs.ScannerState.{EndsExactly, GoesOnWith, HasSettled, HoldsAfterLines, HoldsReady, IsScanning, PassesPieceLines, ScannerState, StandsAtLine, ready_lines}

@@ -1,8 +1,5 @@
 -- The line that stands in what is held: the logical line of the pieces that the scan found.
-use Rattle.py_lines.proofs.Prelude.{◌≡◌, ℕ, ◌+◌, ◌≤◌, true, false, Option, Some, None, List, [], ◌∷◌, ◌++◌, length, take, refl, sym, ap, ◌∙◌, subst, arith, length-append, encode_utf8_all, is_some, all_scalars, encodes_same, take-append_seam}
-use Rattle.py_lines.specs.Piece.{Piece, spelled}
-use Rattle.py_lines.specs.LogicalLine.{LogicalLine, byte_len, line_ends}
-use Rattle.py_lines.specs.Token.{EachLiesIn}
+use Rattle.py_lines.proofs.Prelude.{◌≡◌, ℕ, ◌+◌, ◌≤◌, true, false, Option, Some, None, List, [], ◌∷◌, ◌++◌, length, take, refl, sym, ap, ◌∙◌, subst, arith, length-append, encode_utf8_all, is_some, all_scalars, encodes_same, take-append_seam, Piece, spelled, LogicalLine, byte_len, line_ends, EachLiesIn}
 use Rattle.py_lines.specs.Private.LineScan.{IsAtLineEnd, ScansIn}
 use Rattle.py_lines.specs.Private.LineState.{first_mode, with_tokens}
 use Rattle.py_lines.specs.Private.LineTokens.{AreLineText, HoldsTokens, IsLineAfter, IsLineText}

@@ -1,12 +1,8 @@
 -- A settled line is released, or the text's last: the lines before it and this one are the first of the whole text.
-use Rattle.py_lines.proofs.Prelude.{◌≡◌, ℕ, ◌+◌, List, [], ◌∷◌, ◌++◌, length, take, drop, refl, sym, ap, ◌∙◌, subst, inr, append_assoc, append-nil, arith, None, Some, length-append, encode_utf8_all, IsSome, take-append-drop, append_cancel_left, drop-drop, encodes-append, encodes_same, drop-append_seam}
-use Rattle.py_lines.specs.Piece.{spelled}
-use Rattle.py_lines.specs.Fields.{AreReadBefore}
+use Rattle.py_lines.proofs.Prelude.{◌≡◌, ℕ, ◌+◌, List, [], ◌∷◌, ◌++◌, length, take, drop, refl, sym, ap, ◌∙◌, subst, inr, append_assoc, append-nil, arith, None, Some, length-append, encode_utf8_all, IsSome, take-append-drop, append_cancel_left, drop-drop, encodes-append, encodes_same, drop-append_seam, spelled, LogicalLine, byte_len, line_ends, AreReadBefore, byte_len-append}
 use Rattle.py_lines.specs.Lexed.{IsLexedWhole, IsLexed}
 use Rattle.py_lines.specs.Settled.{IsSettled}
-use Rattle.py_lines.specs.LogicalLine.{LogicalLine, byte_len, line_ends}
 use Rattle.py_lines.proofs.Text.Decoding.{decoded}
-use Rattle.py_lines.proofs.LogicalLines.Cuts.{byte_len-append}
 use Rattle.py_lines.proofs.LogicalLines.NextLine.{texts, texts-append, texts-lines}
 use Rattle.py_lines.proofs.Lexings.FirstLines.{base_lines, settled_first}
 use Rattle.py_lines.proofs.Feeds.Known.{first_at, goes_after, goes_at}

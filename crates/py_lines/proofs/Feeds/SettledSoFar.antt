@@ -1,16 +1,9 @@
 -- What the known bytes settle: the lines given, where the machine has found no line end after them, or one line more.
-use Rattle.py_lines.proofs.Prelude.{◌≡◌, Bool, true, ℕ, ◌<◌, ◌⊎◌, false, List, [], ◌∷◌, ◌++◌, length, refl, sym, ap, ◌∙◌, subst, ⊎_elim, inl, inr, append-nil, arith, length-append, encode_utf8_all, StartsWithNoChar, cases_lt, and_from, false_from_ne_true, nil_from_length, encodes-append, encodes_same, encode_ascii, low_scalar}
-use Rattle.py_lines.specs.Character.{is_line_feed, is_return}
-use Rattle.py_lines.specs.Piece.{line_end, Piece, ends, spelled}
-use Rattle.py_lines.specs.Balance.{depth_through}
-use Rattle.py_lines.specs.Fields.{AreReadBefore}
-use Rattle.py_lines.specs.Reading.{Decodes, IsBalancedReading, EndsLine}
+use Rattle.py_lines.proofs.Prelude.{◌≡◌, Bool, true, ℕ, ◌<◌, ◌⊎◌, false, List, [], ◌∷◌, ◌++◌, length, refl, sym, ap, ◌∙◌, subst, ⊎_elim, inl, inr, append-nil, arith, length-append, encode_utf8_all, StartsWithNoChar, cases_lt, and_from, false_from_ne_true, nil_from_length, encodes-append, encodes_same, encode_ascii, low_scalar, is_line_feed, is_return, line_end, Piece, ends, spelled, depth_through, LogicalLine, byte_len, line_of, Scan, AreReadBefore, Decodes, IsBalancedReading, EndsLine, first_mode}
 use Rattle.py_lines.specs.ScannerState.{EndsExactly}
 use Rattle.py_lines.specs.Settled.{EndsForGood, IsSettled}
-use Rattle.py_lines.specs.LogicalLine.{LogicalLine, byte_len, line_of}
 use Rattle.py_lines.specs.Private.FieldMachine.{field_closed}
 use Rattle.py_lines.specs.Private.LineScan.{EndsNoLine, IsApart, IsAtLineEnd, IsUnderWay, begins_line}
-use Rattle.py_lines.specs.Private.LineState.{first_mode}
 use Rattle.py_lines.specs.Private.Scan.{has_returned}
 use Rattle.py_lines.specs.Private.Machine.{Mode}
 use Rattle.py_lines.proofs.Text.CharacterTests.{feed_is}
@@ -23,7 +16,6 @@ use Rattle.py_lines.proofs.FieldMachine.OuterLists.{outer_alone, outer_pieces}
 use Rattle.py_lines.proofs.LineScan.LineSteps.{returned_at, way_one_line}
 use Rattle.py_lines.proofs.LineScan.TextSteps.{begun_sound}
 use Rattle.py_lines.proofs.Readers.LineFaults.{open_line}
-use Rattle.py_lines.specs.declared.scan.Scan.{Scan}
 use Rattle.py_lines.proofs.Readers.LineAnswers.{fits_on, IsReadLine, balanced_after, ends_after, fits_after, shallow_after, spelled_after}
 use Rattle.py_lines.proofs.Feeds.LastBytes.{ends-later}
 use Rattle.py_lines.proofs.Feeds.Known as of

@@ -1,12 +1,11 @@
 -- The machine with fields goes through lists of pieces, and so through fields, where it goes through those in them: so through all.
-use Rattle.py_lines.proofs.Prelude.{◌≡◌, ℕ, ◌+◌, true, false, Some, List, [], ◌∷◌, ◌++◌, length, refl, sym, ap, ◌∙◌, subst, inl, inr, append_assoc, append-nil, add-zero, Bool, ◌==◌, arith, both_ways}
+use Rattle.py_lines.proofs.Prelude.{◌≡◌, ℕ, ◌+◌, true, false, Some, List, [], ◌∷◌, ◌++◌, length, refl, sym, ap, ◌∙◌, subst, inl, inr, append_assoc, append-nil, add-zero, Bool, ◌==◌, arith, both_ways, is_quote, is_operator, is_backslash, is_break, piece}
 use Rattle.py_lines.specs.Piece.{Class, mark, string, operator, Piece, is_mark_class, begins_marked, spelled}
 use Rattle.py_lines.specs.PieceGrammar.{InClassIn, MayPrecedeIn, AreReadIn, joined, has_triple}
 use Rattle.py_lines.specs.Balance.{is_opener, depth_after, is_opening}
 use Rattle.py_lines.specs.Fields.{HasNoColon, AreInside, IsField, simple, specified}
 use Rattle.py_lines.specs.FieldStrings.{Host, with_fields, Place, literal, specification, begins_double, named_through, AreParts}
 use Rattle.py_lines.specs.Private.FieldMachine.{Level, FieldScanned, field_state, field_pieces, openers_by, openers_through, levels_open, frames, At, between, after_brace, FieldMode, body, begins_code, ends_field, field_fresh, field_ended, opening_move, between_move, body_move, field_move, field_moved, field_started, code_operator}
-use Rattle.py_lines.proofs.Pieces.PieceLists.{piece}
 use Rattle.py_lines.proofs.Fields.Parts.{BeginOpen, some_head}
 use Rattle.py_lines.proofs.Pieces.OpenBrackets.{some_before}
 use Rattle.py_lines.proofs.Machine.StringSteps.{short_ends, long_ends}
@@ -16,7 +15,6 @@ use Rattle.py_lines.proofs.FieldMachine.ListBrackets.{depth_is, balanced_openers
 use Rattle.py_lines.proofs.FieldMachine.PieceRuns.{FieldFinds, IsNoColon, plain_found, string_found, operator_found}
 use Rattle.py_lines.proofs.FieldMachine.StringParts.{FieldsGo, settled, MayGoOn, goes_on, body_moves, open_moves, parts_go}
 use Rattle.py_lines.proofs.FieldMachine.StringRuns.{field_string_found}
-use Rattle.py_lines.specs.Character.{is_quote, is_operator, is_backslash, is_break}
 use Rattle.py_lines.specs.Private.Machine.{Start, start_of}
 use Rattle.py_lines.proofs.Text.CharacterTests.{not_quote}
 use Rattle.py_lines.proofs.Machine.Starts.{start-operator}

@@ -1,15 +1,11 @@
 -- The machine with fields goes through all fields, however many stand one in another, and so through every text that is read with fields: it finds its pieces.
-use Rattle.py_lines.proofs.Prelude.{◌≡◌, ℕ, true, false, Some, List, [], ◌∷◌, ◌++◌, refl, sym, ap, ◌∙◌, subst, zero, suc, length, false_from_ne_true}
-use Rattle.py_lines.specs.Character.{is_mark}
+use Rattle.py_lines.proofs.Prelude.{◌≡◌, ℕ, true, false, Some, List, [], ◌∷◌, ◌++◌, refl, sym, ap, ◌∙◌, subst, zero, suc, length, false_from_ne_true, is_mark, depth_after, IsBalancedReading, piece}
 use Rattle.py_lines.specs.Piece.{Class, mark, Piece, begins, spelled, begins_marked}
 use Rattle.py_lines.specs.PieceGrammar.{AreReadIn, InClassIn}
 use Rattle.py_lines.specs.Fields.{Fields, fielded, ShallowFields, AnyPieces, FieldsWithin, IsShallowWith, ShallowWithin}
-use Rattle.py_lines.specs.Balance.{depth_after}
-use Rattle.py_lines.specs.Reading.{IsBalancedReading}
 use Rattle.py_lines.specs.FieldStrings.{Host, with_fields}
 use Rattle.py_lines.specs.Private.Machine.{Mode, move_of}
 use Rattle.py_lines.specs.Private.FieldMachine.{plain, closes, breaks, FieldScanned, field_state, field_fresh, field_text_start, field_pieces, field_move, field_moved, field_started, field_step, field_steps_from, openers_through, have_room, IsFieldFinal, frames}
-use Rattle.py_lines.proofs.Pieces.PieceLists.{piece}
 use Rattle.py_lines.proofs.Machine.Starts.{start-mark}
 use Rattle.py_lines.proofs.Fields.Parts.{BeginOpen, fields_begin, field_begins, within_begin}
 use Rattle.py_lines.proofs.FieldMachine.Runs.{MayBegin, NoLimit, BelowLimit, HasRoomFor, Goes, StopsAt, goes-append, goes-closes, stops-fresh, steps_of, room_of}

@@ -1,15 +1,11 @@
 -- From a state with pieces before the others of its outermost list, the machine with fields goes as it goes without them: those pieces stay,
 -- and it finds the same after them.
-use Rattle.py_lines.proofs.Prelude.{◌≡◌, ℕ, ◌+◌, ◌==◌, ◌&&◌, Bool, true, false, Option, None, Some, List, [], ◌∷◌, ◌++◌, refl, sym, ap, ◌∙◌, append_assoc, append-nil, arith}
-use Rattle.py_lines.specs.Piece.{string, operator, line_end, Piece, spelled}
-use Rattle.py_lines.specs.FieldStrings.{Place, literal, specification}
-use Rattle.py_lines.specs.LogicalLine.{byte_len}
+use Rattle.py_lines.proofs.Prelude.{◌≡◌, ℕ, ◌+◌, ◌==◌, ◌&&◌, Bool, true, false, Option, None, Some, List, [], ◌∷◌, ◌++◌, refl, sym, ap, ◌∙◌, append_assoc, append-nil, arith, string, operator, line_end, Piece, spelled, byte_len, Place, literal, specification, piece, byte_len-append}
 use Rattle.py_lines.specs.Private.Machine.{Start, start_of}
 use Rattle.py_lines.specs.Private.FieldMachine.{between, FieldMode, plain, body, FieldMove, closes, breaks, begins_code, Level, FieldScanned, field_state, field_fresh, field_class_of, field_closed, field_move, openers_with, after_operator, field_moved, field_started, field_operator, field_step, code_operator, opened_level, levels_open, frames, has_room, has_room_at, room_step, roomy, text_place, before}
 use Rattle.py_lines.specs.Private.FieldFaults.{here, piece_start}
 use Rattle.py_lines.specs.Private.Scan.{Goes, ends_line, is_line_ending, is_return_at}
-use Rattle.py_lines.proofs.Pieces.PieceLists.{piece, spelled-append}
-use Rattle.py_lines.proofs.LogicalLines.Cuts.{byte_len-append}
+use Rattle.py_lines.proofs.Pieces.PieceLists.{spelled-append}
 use Rattle.py_lines.proofs.Machine.EarlierPieces.{closed-after}
 use Rattle.py_lines.proofs.FieldMachine.OuterLists.{outer_list, outer_text, outer_open, outer_done, outer_held, outer_mode, outer_pieces}
 

@@ -1,11 +1,9 @@
 -- The brackets that are open in a list of pieces.
-use Rattle.py_lines.proofs.Prelude.{◌≡◌, ℕ, ◌+◌, ◌-◌, true, false, ◌==◌, Option, None, Some, List, [], ◌∷◌, ◌++◌, length, refl, ap, ◌∙◌, arith, if◌then◌else◌, or_parts, both_ways}
-use Rattle.py_lines.specs.Piece.{Class, operator, Piece}
+use Rattle.py_lines.proofs.Prelude.{◌≡◌, ℕ, ◌+◌, ◌-◌, true, false, ◌==◌, Option, None, Some, List, [], ◌∷◌, ◌++◌, length, refl, ap, ◌∙◌, arith, if◌then◌else◌, or_parts, both_ways, Class, operator, Piece, piece}
 use Rattle.py_lines.specs.Balance as balance
 use Rattle.py_lines.specs.Balance.{is_opening, is_closing, closing_of, is_operator_that, is_opener, is_closer, IsBalanced, depth_after}
 use Rattle.py_lines.specs.LogicalLine.{first_or_zero}
 use Rattle.py_lines.specs.Private.FieldMachine.{openers_with, openers_by, openers_through}
-use Rattle.py_lines.proofs.Pieces.PieceLists.{piece}
 use Rattle.py_lines.proofs.Pieces.OpenBrackets.{closing-not-opening, pair_kind}
 
 pub openers_through-append : (o : Option (List ℕ)) (ps qs : List Piece) → openers_through o (ps ++ qs) ≡ openers_through (openers_through o ps) qs

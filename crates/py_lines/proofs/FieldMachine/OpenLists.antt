@@ -1,8 +1,5 @@
 -- The machine with fields goes from the text's start to a list of pieces that begins in fields, and through its first pieces.
-use Rattle.py_lines.proofs.Prelude.{◌≡◌, ℕ, ◌+◌, false, Some, List, [], ◌∷◌, ◌++◌, ◌⊎◌, inl, inr, length, refl, sym, ap, ◌∙◌, subst, append_assoc, append-nil, add-zero, arith}
-use Rattle.py_lines.specs.Character.{is_mark}
-use Rattle.py_lines.specs.Piece.{Piece, begins, spelled}
-use Rattle.py_lines.specs.Balance.{IsBalanced, depth_through}
+use Rattle.py_lines.proofs.Prelude.{◌≡◌, ℕ, ◌+◌, false, Some, List, [], ◌∷◌, ◌++◌, ◌⊎◌, inl, inr, length, refl, sym, ap, ◌∙◌, subst, append_assoc, append-nil, add-zero, arith, is_mark, Piece, begins, spelled, IsBalanced, depth_through}
 use Rattle.py_lines.specs.OpenFields.{AreBegun, BeginsList, at_start, in_field}
 use Rattle.py_lines.specs.FieldStrings.{Host, Place, literal, specification, begins_open}
 use Rattle.py_lines.specs.Private.FieldMachine.{before, after_brace, FieldMode, body, Level, FieldScanned, field_state, field_fresh, field_text_start, field_closed, field_pieces, opening_move, field_move, field_moved, frames, openers_by, openers_through, levels_open}

@@ -1,7 +1,5 @@
 -- The machine with fields goes from the start of a string that is open up to a spot into that spot.
-use Rattle.py_lines.proofs.Prelude.{◌≡◌, ℕ, ◌+◌, ◌==◌, eqb, Bool, true, false, List, [], ◌∷◌, ◌++◌, inl, inr, length, refl, sym, ap, ◌∙◌, subst, append_assoc, append-nil, arith}
-use Rattle.py_lines.specs.Character.{is_mark, is_quote}
-use Rattle.py_lines.specs.Piece.{Piece, begins, spelled}
+use Rattle.py_lines.proofs.Prelude.{◌≡◌, ℕ, ◌+◌, ◌==◌, eqb, Bool, true, false, List, [], ◌∷◌, ◌++◌, inl, inr, length, refl, sym, ap, ◌∙◌, subst, append_assoc, append-nil, arith, is_mark, is_quote, Piece, begins, spelled}
 use Rattle.py_lines.specs.PieceGrammar.{joined, has_triple}
 use Rattle.py_lines.specs.Fields.{Fields}
 use Rattle.py_lines.specs.OpenFields.{Spot, literal_after, specification_after, IsOpenString, in_literal, in_specification, IsOpenUpTo, IsUnescaped}

@@ -1,11 +1,8 @@
 -- The outermost list of pieces, where the machine with fields stands: its finished pieces, and the text after them, which is that of the
 -- piece that is open there. While a field is open, that is the string in whose field all else stands.
-use Rattle.py_lines.proofs.Prelude.{◌≡◌, ℕ, false, Option, None, Some, List, [], ◌∷◌, ◌++◌, refl, sym, ap, ◌∙◌, subst, append_assoc, append-nil, arith}
-use Rattle.py_lines.specs.Piece.{string, Piece, spelled}
-use Rattle.py_lines.specs.FieldStrings.{Place, literal, specification}
+use Rattle.py_lines.proofs.Prelude.{◌≡◌, ℕ, false, Option, None, Some, List, [], ◌∷◌, ◌++◌, refl, sym, ap, ◌∙◌, subst, append_assoc, append-nil, arith, string, Piece, spelled, Place, literal, specification, piece}
 use Rattle.py_lines.specs.Private.Machine.{Start, start_of, closed}
 use Rattle.py_lines.specs.Private.FieldMachine.{between, FieldMode, plain, body, FieldMove, closes, breaks, Level, FieldScanned, field_state, field_fresh, field_class_of, field_closed, field_pieces, field_move, field_moved, field_started, field_operator, field_step, field_steps_from, after_operator, openers_with, code_operator, text_place, before}
-use Rattle.py_lines.proofs.Pieces.PieceLists.{piece}
 use Rattle.py_lines.proofs.Machine.EarlierPieces.{closed-after}
 use Rattle.py_lines.proofs.Machine.PieceSteps.{some_is}
 use Rattle.py_lines.proofs.FieldSoundness.Holds.{Limit, IsFieldSound}

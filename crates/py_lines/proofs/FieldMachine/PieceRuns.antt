@@ -1,13 +1,11 @@
 -- The machine with fields goes through the text of a piece that has no fields.
-use Rattle.py_lines.proofs.Prelude.{◌≡◌, ℕ, true, false, ◌&&◌, ◌==◌, Some, List, [], ◌∷◌, ◌++◌, length, refl, sym, ap, ◌∙◌, subst, inl, inr, append_assoc, arith, list_all}
+use Rattle.py_lines.proofs.Prelude.{◌≡◌, ℕ, true, false, ◌&&◌, ◌==◌, Some, List, [], ◌∷◌, ◌++◌, length, refl, sym, ap, ◌∙◌, subst, inl, inr, append_assoc, arith, list_all, is_opening, is_closing, piece}
 use Rattle.py_lines.specs.Character.{is_word_character, is_word_start, is_quote, is_operator}
 use Rattle.py_lines.specs.Piece.{Class, word, string, operator, line_end, Piece, begins}
 use Rattle.py_lines.specs.PieceGrammar.{is_prefix, IsPrefix, InPlainClass, MayPrecedeIn}
-use Rattle.py_lines.specs.Balance.{is_opening, is_closing}
 use Rattle.py_lines.specs.FieldStrings.{is_field_prefix, Host, with_fields}
 use Rattle.py_lines.specs.Private.Machine.{Spelling, Mode, Start, class_of, start_of, first_spelling, spelling_on}
 use Rattle.py_lines.specs.Private.FieldMachine.{FieldMode, plain, grows, Level, FieldScanned, field_state, field_fresh, plain_move, field_pieces, field_closed, field_move, openers_with, code_operator, field_operator, field_started, frames}
-use Rattle.py_lines.proofs.Pieces.PieceLists.{piece}
 use Rattle.py_lines.proofs.Text.CharacterTests.{prefix_word}
 pub use Rattle.py_lines.proofs.Machine.Starts.{opening_operator}
 use Rattle.py_lines.proofs.Machine.Starts.{start-word, start-operator, start-quote}

@@ -1,7 +1,5 @@
 -- The machine with fields goes through the text of a piece without fields as the other machine does.
-use Rattle.py_lines.proofs.Prelude.{◌≡◌, ℕ, false, List, [], ◌∷◌, ◌++◌, refl, sym, ap, ◌∙◌, subst, inl, inr, arith, list_any, list_any-append, or_parts, both_ways}
-use Rattle.py_lines.specs.Character.{is_quote}
-use Rattle.py_lines.specs.Piece.{Class}
+use Rattle.py_lines.proofs.Prelude.{◌≡◌, ℕ, false, List, [], ◌∷◌, ◌++◌, refl, sym, ap, ◌∙◌, subst, inl, inr, arith, list_any, list_any-append, or_parts, both_ways, is_quote, Class}
 use Rattle.py_lines.specs.Private.Machine.{Mode, Move, class_of, move_of, short_move, long_move}
 use Rattle.py_lines.specs.Private.FieldMachine.{plain, plain_move, begins_host, field_move}
 use Rattle.py_lines.proofs.Machine.PieceSteps.{Grown, is_word_mode, IsQuiet}

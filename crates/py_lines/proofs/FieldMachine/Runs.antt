@@ -1,11 +1,7 @@
 -- The machine with fields goes through a text: from one state to another, with room for what each character opens.
-use Rattle.py_lines.proofs.Prelude.{◌≡◌, ℕ, ◌+◌, ◌<◌, true, false, Some, List, [], ◌∷◌, ◌++◌, refl, sym, ap, ◌∙◌, subst, append_assoc, append-nil, arith, and_from, nat_tests}
-use Rattle.py_lines.specs.Character.{is_mark}
-use Rattle.py_lines.specs.Piece.{Piece, begins}
-use Rattle.py_lines.specs.Balance.{is_opening}
+use Rattle.py_lines.proofs.Prelude.{◌≡◌, ℕ, ◌+◌, ◌<◌, true, false, Some, List, [], ◌∷◌, ◌++◌, refl, sym, ap, ◌∙◌, subst, append_assoc, append-nil, arith, and_from, nat_tests, is_mark, Piece, begins, is_opening, piece}
 use Rattle.py_lines.specs.Private.Machine.{Mode, move_of, start_of}
 use Rattle.py_lines.specs.Private.FieldMachine.{FieldMode, plain, FieldMove, grows, closes, breaks, begins_code, opens_field, Level, FieldScanned, field_state, field_fresh, field_class_of, field_pieces, field_move, field_moved, field_started, field_step, field_steps_from, frames, has_room_at, has_room, have_room, may_end}
-use Rattle.py_lines.proofs.Pieces.PieceLists.{piece}
 
 -- a bracket or field may open at a depth that is no limit
 abbrev pub NoLimit : ℕ → Type 0

@@ -1,7 +1,6 @@
 -- The machine with fields goes through the parts of a string, where it goes through the fields among them.
-use Rattle.py_lines.proofs.Prelude.{◌≡◌, ℕ, Bool, true, false, not, ◌&&◌, ◌||◌, eqb, List, [], ◌∷◌, ◌++◌, refl, sym, ap, ◌∙◌, subst, append_assoc, append-nil, arith, and-true, eq-eqb, eqb-true, nat_tests}
+use Rattle.py_lines.proofs.Prelude.{◌≡◌, ℕ, Bool, true, false, not, ◌&&◌, ◌||◌, eqb, List, [], ◌∷◌, ◌++◌, refl, sym, ap, ◌∙◌, subst, append_assoc, append-nil, arith, and-true, eq-eqb, eqb-true, nat_tests, Piece, begins}
 use Rattle.py_lines.specs.Character.{is_quote, is_line_feed, is_return, is_break, is_backslash, is_barred, is_brace}
-use Rattle.py_lines.specs.Piece.{Piece, begins}
 use Rattle.py_lines.specs.PieceGrammar.{joined, has_triple}
 use Rattle.py_lines.specs.FieldStrings.{Host, Place, literal, specification, is_ordinary, may_stand, may_be_escaped, names, begins_open, begins_double, IsPart, bare, slash, escape, escaped_end, name, double, field, named_after, named_through, AreParts}
 use Rattle.py_lines.specs.Private.FieldMachine.{At, between, after_one, after_two, after_slash, after_return, after_name, after_brace, FieldMode, body, grows, Level, FieldScanned, field_state, is_after_brace, is_after_two, with_quote, opening_move, between_move, escape_move, body_move, field_move}

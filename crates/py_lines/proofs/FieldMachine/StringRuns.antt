@@ -1,12 +1,10 @@
 -- The machine with fields goes through a string with fields, where it goes through these.
-use Rattle.py_lines.proofs.Prelude.{◌≡◌, ℕ, Bool, true, false, not, ◌&&◌, ◌==◌, eqb, List, [], ◌∷◌, ◌++◌, refl, sym, ap, ◌∙◌, subst, inr, append_assoc, append-nil, arith, list_all, list_any, and_parts, both_ways, eq-eqb, eqb-true, false_from_ne_true, or_right}
+use Rattle.py_lines.proofs.Prelude.{◌≡◌, ℕ, Bool, true, false, not, ◌&&◌, ◌==◌, eqb, List, [], ◌∷◌, ◌++◌, refl, sym, ap, ◌∙◌, subst, inr, append_assoc, append-nil, arith, list_all, list_any, and_parts, both_ways, eq-eqb, eqb-true, false_from_ne_true, or_right, Piece, string, begins, piece}
 use Rattle.py_lines.specs.Character.{is_word_character, is_word_start, is_quote, is_r}
-use Rattle.py_lines.specs.Piece.{Piece, string, begins}
 use Rattle.py_lines.specs.PieceGrammar.{has_triple, joined, is_prefix, MayPrecedeIn}
 use Rattle.py_lines.specs.FieldStrings.{is_field_prefix, Host, Place, literal, quotes_of, IsPart, named_through, AreParts, IsFieldString, with_fields}
 use Rattle.py_lines.specs.Private.Machine.{Mode, first_spelling, spelling_on}
 use Rattle.py_lines.specs.Private.FieldMachine.{Level, At, between, after_one, after_two, FieldMode, plain, opened, empty, body, FieldMove, grows, closes, FieldScanned, field_state, field_fresh, host_of, is_after_two, between_move, field_move, field_pieces, field_moved}
-use Rattle.py_lines.proofs.Pieces.PieceLists.{piece}
 use Rattle.py_lines.proofs.Fields.Prefixes.{field_letters}
 use Rattle.py_lines.proofs.Fields.Parts.{BeginOpen, short_part}
 use Rattle.py_lines.proofs.Fields.Elsewhere.{none_false, quotes_begin}

@@ -1,8 +1,6 @@
 -- What is open at a place is told by the state of the machine with fields there, so nothing else is: a string, a backslash, a
 -- specification, code of a field, or a spot where a field may open.
-use Rattle.py_lines.proofs.Prelude.{◌≡◌, ℕ, Bool, true, false, Some, List, [], ◌∷◌, ◌++◌, inl, inr, refl, sym, ap, ◌∙◌, subst, append_assoc, ⊎_elim, ◌<◌, append-nil, arith, byte, if◌then◌else◌}
-use Rattle.py_lines.specs.Character.{is_mark, is_quote}
-use Rattle.py_lines.specs.Piece.{begins, spelled}
+use Rattle.py_lines.proofs.Prelude.{◌≡◌, ℕ, Bool, true, false, Some, List, [], ◌∷◌, ◌++◌, inl, inr, refl, sym, ap, ◌∙◌, subst, append_assoc, ⊎_elim, ◌<◌, append-nil, arith, byte, if◌then◌else◌, is_mark, is_quote, begins, spelled}
 use Rattle.py_lines.specs.PieceGrammar.{IsPrefix}
 use Rattle.py_lines.specs.OpenFields.{Spot, StandsOpen, IsOpenUpTo, IsOpenLiteral, InOpenShort, InOpenLong, AfterOpenBackslash, InSpecification, BeginsList, InFieldCode}
 use Rattle.py_lines.specs.FieldStrings.{is_field_prefix, Host, Place, literal, specification}

@@ -1,11 +1,7 @@
 -- The machine with fields, from a text's start: a text is live exactly where it goes through it, with room for each character; and where it
 -- may end, its pieces read the text. It goes through every list of pieces that is read before what follows, and finds those pieces.
-use Rattle.py_lines.proofs.Prelude.{◌≡◌, ℕ, Bool, true, false, Option, None, Some, List, [], ◌∷◌, ◌++◌, refl, sym, ap, ◌∙◌, subst, both_ways, arith}
-use Rattle.py_lines.specs.Piece.{Piece, spelled}
-use Rattle.py_lines.specs.Balance.{IsBalanced}
+use Rattle.py_lines.proofs.Prelude.{◌≡◌, ℕ, Bool, true, false, Option, None, Some, List, [], ◌∷◌, ◌++◌, refl, sym, ap, ◌∙◌, subst, both_ways, arith, Piece, spelled, IsBalanced, literal, IsBalancedReading}
 use Rattle.py_lines.specs.Fields.{AreReadBefore, Fields, IsShallow, ShallowFields}
-use Rattle.py_lines.specs.FieldStrings.{literal}
-use Rattle.py_lines.specs.Reading.{IsBalancedReading}
 use Rattle.py_lines.specs.Faults.{IsLive}
 use Rattle.py_lines.specs.Private.Mode as modes
 use Rattle.py_lines.specs.Private.Machine.{Mode}

@@ -1,7 +1,5 @@
 -- How many bytes a text has with one more character.
-use Rattle.py_lines.proofs.Prelude.{◌≡◌, ℕ, ◌+◌, List, [], ◌∷◌, ◌++◌, sym, ap, ◌∙◌, append_assoc, append-nil, arith, length, encode_utf8, len_utf8, length-encode}
-use Rattle.py_lines.specs.LogicalLine.{byte_len}
-use Rattle.py_lines.proofs.LogicalLines.Cuts.{byte_len-append}
+use Rattle.py_lines.proofs.Prelude.{◌≡◌, ℕ, ◌+◌, List, [], ◌∷◌, ◌++◌, sym, ap, ◌∙◌, append_assoc, append-nil, arith, length, encode_utf8, len_utf8, length-encode, byte_len, byte_len-append}
 
 pub byte_len-one : (c : ℕ) → byte_len (c ∷ []) ≡ len_utf8 c
 byte_len-one c = ap length (append-nil (encode_utf8 c)) ∙ length-encode c

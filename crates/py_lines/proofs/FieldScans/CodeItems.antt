@@ -1,23 +1,14 @@
 -- What bytes come to in code, by what their first character begins or adds to; and the quotes with which a string begins there: it is empty, or
 -- its text is open.
-use Rattle.py_lines.proofs.Prelude.{◌≡◌, ℕ, ◌+◌, ◌<◌, ◌==◌, Bool, true, false, Option, None, Some, List, [], ◌∷◌, ◌++◌, length, drop, refl, sym, ap, ◌∙◌, subst, arith, ◌&&◌, slice_index, codes, if◌then◌else◌, len_utf8, StartsWithNoChar, both_ways, cond_both, false_from_ne_true, eq-eqb, len_utf8_ascii, len_utf8_bounds}
-use Rattle.py_lines.specs.Balance.{is_closing}
-use Rattle.py_lines.specs.Character.{is_backslash, is_break, is_mark, is_operator, is_quote}
+use Rattle.py_lines.proofs.Prelude.{◌≡◌, ℕ, ◌+◌, ◌<◌, ◌==◌, Bool, true, false, Option, None, Some, List, [], ◌∷◌, ◌++◌, length, drop, refl, sym, ap, ◌∙◌, subst, arith, ◌&&◌, slice_index, codes, if◌then◌else◌, len_utf8, StartsWithNoChar, both_ways, cond_both, false_from_ne_true, eq-eqb, len_utf8_ascii, len_utf8_bounds, is_closing, is_backslash, is_break, is_mark, is_operator, is_quote, begins, Piece, Spelling, Progress, Scan, Frame, StringWithFields, Region, literal, OpenMode, BeginsWith}
 use Rattle.py_lines.specs.Faults.{kind_of_cause}
-use Rattle.py_lines.specs.Piece.{begins, Piece}
-use Rattle.py_lines.specs.FieldStrings.{literal}
 use Rattle.py_lines.specs.declared.fault.FaultKind.TheVariants as kinds
-use Rattle.py_lines.specs.declared.mode.Mode.{Mode as OpenMode}
 use Rattle.py_lines.specs.declared.mode.Mode.TheVariants as opens
-use Rattle.py_lines.specs.declared.mode.Spelling.{Spelling}
-use Rattle.py_lines.specs.declared.scan.Progress.{Progress}
 use Rattle.py_lines.specs.declared.scan.Progress.TheVariants as progress
-use Rattle.py_lines.specs.declared.scan.Scan.{Scan}
 use Rattle.py_lines.specs.Private.Machine.{Mode, move_of, start_of, Start as starts, begins_string, is_field_spelling, is_raw_spelling}
 use Rattle.py_lines.specs.Private.Mode as modes
 use Rattle.py_lines.specs.Private.FieldMachine.{FieldMode, FieldScanned, breaks, closes, field_closed, field_move, field_started, field_state, grows, plain, text_place, between, body, empty, frames, opened}
 use Rattle.py_lines.specs.Private.LineEnds.{BeginsOuterEnd, HasOuterEnd}
-use Rattle.py_lines.specs.Private.Run.{BeginsWith}
 use Rattle.py_lines.specs.Private.Scan.{ComesTo, Follows, GoesOver, HasQuote, HoldsCode, TakesOperator, begun_at, ends_before, grown, has_returned, is_text, line_end_progress, mode_from, passed, wrong_here, host_in, is_break_move, is_ending, is_part_of_code, is_return_at, quotes_in, string_from, string_mode, string_start}
 use Rattle.py_lines.proofs.Machine.LiveTexts.{closing-operator}
 use Rattle.py_lines.proofs.Machine.Soundness.{StartHolds, start_holds}
@@ -31,9 +22,6 @@ use Rattle.py_lines.proofs.FieldScans.StringBytes.{first_byte_is, first_is, by_q
 use Rattle.py_lines.proofs.FieldScans.Moves.{said, word_meets}
 use Rattle.py_lines.proofs.FieldScans.Operators.{code_cause, fault_in_code}
 use Rattle.py_lines.proofs.FieldScans.Taking.{follows_open, rests_exact, IsTaken, Opening, Shut, break_starts, StandsAt, follows_at, goes_on, no_line_end, no_step, one_comes, over_one, stands_at, stands_begun, stands_grown, stands_shut, wrong_at, StepsOn, rests_ended}
-use Rattle.py_lines.specs.declared.frames.Frame.{Frame}
-use Rattle.py_lines.specs.declared.mode.StringWithFields.{StringWithFields}
-use Rattle.py_lines.specs.declared.mode.Region.{Region}
 use Rattle.py_lines.specs.declared.mode.Region.TheVariants as regions
 use Rattle.py_lines.specs.declared.mode.Spelling.TheVariants as spellings
 use Rattle.py_lines.specs.Private.FieldFaults.{cause_in}

@@ -1,37 +1,24 @@
 -- What is open where the text ends, with characters that don't tell yet what they are: a string, or the field whose specification is open or
 -- that a `{` would open; a backslash; a string that they begin; or else a bracket or a field.
-use Rattle.py_lines.proofs.Prelude.{◌≡◌, ℕ, zero, suc, Bool, ◌<◌, ◌-◌, false, Option, None, Some, List, [], ◌∷◌, length, refl, sym, ap, ◌∙◌, true, ◌==◌, ◌&&◌, ◌++◌, subst, ⊎_elim, drop, slice_index, take, take-append-drop, arith, if◌then◌else◌, encode_utf8_all, nat_eq, nat_lt, starts_with, and_parts, both_ways, eq-eqb, eqb-true, or_cases, false_from_ne_true, StartsWithNoChar, all_scalars}
-use Rattle.py_lines.specs.LogicalLine.{byte_len}
+use Rattle.py_lines.proofs.Prelude.{◌≡◌, ℕ, zero, suc, Bool, ◌<◌, ◌-◌, false, Option, None, Some, List, [], ◌∷◌, length, refl, sym, ap, ◌∙◌, true, ◌==◌, ◌&&◌, ◌++◌, subst, ⊎_elim, drop, slice_index, take, take-append-drop, arith, if◌then◌else◌, encode_utf8_all, nat_eq, nat_lt, starts_with, and_parts, both_ways, eq-eqb, eqb-true, or_cases, false_from_ne_true, StartsWithNoChar, all_scalars, byte_len, OpenField, Frame, LineFault, Scan, is_backslash, is_brace, is_break, is_quote, is_return, Piece, spelled, begins, FaultKind, Region, StringWithFields, Spelling, literal, Host, Place, specification, OpenMode}
 use Rattle.py_lines.specs.Faults.{open_bracket, open_inside, Unfinished, open_long, open_short, open_brace, open_join}
-use Rattle.py_lines.specs.FieldStrings.{literal, Host, Place, specification}
 use Rattle.py_lines.specs.declared.fault.FaultKind.TheVariants as fault_kind
-use Rattle.py_lines.specs.declared.frames.OpenField.{OpenField}
-use Rattle.py_lines.specs.declared.frames.Frame.{Frame}
 use Rattle.py_lines.specs.declared.frames.Frame.TheVariants as frame
-use Rattle.py_lines.specs.declared.scan.LineFault.{LineFault}
-use Rattle.py_lines.specs.declared.scan.Scan.{Scan}
 use Rattle.py_lines.specs.Private.FieldMachine.{Level, FieldScanned, frames, before, At, FieldMode, FieldMove, plain, body, between, after_name, after_one, after_return, after_slash, after_two, grows, refused, between_move, body_move, escape_move, field_move, field_state, is_after_brace, room_step, text_place}
 use Rattle.py_lines.specs.Private.FieldFaults.{is_waiting, here, field_start, unfinished_code, unfinished_at, piece_start, unfinished_in}
 use Rattle.py_lines.specs.Private.Scan.{bracket_openers, Follows, FramesFollow, EndsOpen, IsFieldEnd, Goes, IsPending, is_part_of_text, is_return_at, EndsReturned, GoesOverAll, HasPending, HasQuote, ends_before, has_returned, host_in, is_begun_after, is_lone_brace, is_part_of_code, is_pending, is_text, mode_from, passed, region_in, string_start}
 use Rattle.py_lines.specs.Private.Frames.{IsInnermostFrame, place_of}
 use Rattle.py_lines.proofs.FieldScans.Frames.{innermost_bracket, innermost_field, none_outside}
-use Rattle.py_lines.specs.Character.{is_backslash, is_brace, is_break, is_quote, is_return}
-use Rattle.py_lines.specs.Piece.{Piece, spelled, begins}
 use Rattle.py_lines.specs.Private.Mode as modes
 use Rattle.py_lines.specs.Private.Machine.{move_of, short_move, long_move}
-use Rattle.py_lines.specs.declared.fault.FaultKind.{FaultKind}
 use Rattle.py_lines.proofs.Text.CharacterTests.{not_quote, the_one}
 use Rattle.py_lines.proofs.FieldMachine.Runs.{room_grows}
 use Rattle.py_lines.proofs.Machine.PieceSteps.{some_is}
 use Rattle.py_lines.proofs.FieldScans.Taking.{no_step, steps, StepsOn, follows_open}
 use Rattle.py_lines.proofs.FieldScans.TextItems.{InText, held_nothing, AreLow, low_encoded, low_scalars, one_low, two_low}
 use Rattle.py_lines.proofs.LineScan.AsciiRuns.{quote_ascii}
-use Rattle.py_lines.specs.declared.mode.Region.{Region}
 use Rattle.py_lines.specs.declared.mode.Region.TheVariants as regions
-use Rattle.py_lines.specs.declared.mode.StringWithFields.{StringWithFields}
-use Rattle.py_lines.specs.declared.mode.Mode.{Mode as OpenMode}
 use Rattle.py_lines.specs.declared.mode.Mode.TheVariants as opens
-use Rattle.py_lines.specs.declared.mode.Spelling.{Spelling}
 use Rattle.py_lines.proofs.Text.Utf8Prefixes.{one_decoding}
 use Rattle.py_lines.proofs.FieldScans.LineEnds.{half, returns, slashes}
 use Rattle.py_lines.proofs.FieldScans.Operators.{in_field, open-length}

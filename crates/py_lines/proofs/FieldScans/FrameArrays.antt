@@ -1,6 +1,5 @@
 -- The frames that are open are the first of an array.
-use Rattle.py_lines.proofs.Prelude.{◌≡◌, ℕ, ◌+◌, ◌-◌, ◌<◌, ◌≤◌, List, [], ◌∷◌, length, take, refl, sym, ap, ◌∙◌, arith, reverse, get_or, nat_lt, slice_set, lt-ltb, length-set, length-take-le, length-reverse, reverse-append, take_more, take_more_set}
-use Rattle.py_lines.specs.declared.frames.Frame.{Frame}
+use Rattle.py_lines.proofs.Prelude.{◌≡◌, ℕ, ◌+◌, ◌-◌, ◌<◌, ◌≤◌, List, [], ◌∷◌, length, take, refl, sym, ap, ◌∙◌, arith, reverse, get_or, nat_lt, slice_set, lt-ltb, length-set, length-take-le, length-reverse, reverse-append, take_more, take_more_set, Frame}
 use Rattle.py_lines.specs.declared.frames.Frame.TheVariants as frame
 use Rattle.py_lines.specs.Private.Frames.{fields_of, has_field}
 

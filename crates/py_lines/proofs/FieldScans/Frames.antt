@@ -1,18 +1,11 @@
 -- The frames that the scan of a line keeps are the brackets and fields that are open in the machine.
-use Rattle.py_lines.proofs.Prelude.{◌≡◌, ℕ, ◌+◌, ◌<◌, true, false, ◌==◌, Some, List, [], ◌∷◌, ◌++◌, length, refl, sym, ap, ◌∙◌, subst, arith, length-append, zero-add, length-map}
-use Rattle.py_lines.specs.Piece.{Class, operator, Piece, spelled}
-use Rattle.py_lines.specs.LogicalLine.{byte_len}
+use Rattle.py_lines.proofs.Prelude.{◌≡◌, ℕ, ◌+◌, ◌<◌, true, false, ◌==◌, Some, List, [], ◌∷◌, ◌++◌, length, refl, sym, ap, ◌∙◌, subst, arith, length-append, zero-add, length-map, Class, operator, Piece, spelled, byte_len, OpenField, Frame, literal, specification, piece, byte_len-append}
 use Rattle.py_lines.specs.Balance.{is_opening, is_closing, is_opener, is_closer, closing_of}
-use Rattle.py_lines.specs.FieldStrings.{literal, specification}
-use Rattle.py_lines.specs.declared.frames.OpenField.{OpenField}
-use Rattle.py_lines.specs.declared.frames.Frame.{Frame}
 use Rattle.py_lines.specs.declared.frames.Frame.TheVariants as frame
 use Rattle.py_lines.specs.Private.Machine.{Bracket, brackets_of}
 use Rattle.py_lines.specs.Private.FieldMachine.{Level, levels_open, before}
 use Rattle.py_lines.specs.Private.Scan.{bracket_frames, bracket_openers, FieldFollows, FramesFollow, NoListAt}
-use Rattle.py_lines.proofs.Pieces.PieceLists.{piece}
 use Rattle.py_lines.proofs.Pieces.OpenBrackets.{stack_push, opener_pushes, closer_pops, other_keeps}
-use Rattle.py_lines.proofs.LogicalLines.Cuts.{byte_len-append}
 
 -- so many are open
 pub frames-length : (outer : List Level) (done : List Piece) (openers : List ℕ) (fs : List Frame) → FramesFollow outer done openers fs → length fs ≡ length openers + levels_open outer

@@ -1,27 +1,17 @@
 -- What a line end and a join of two lines come to in code, and which pieces end before which characters.
-use Rattle.py_lines.proofs.Prelude.{◌≡◌, ℕ, ◌+◌, ◌-◌, ◌<◌, ◌==◌, ◌&&◌, ◌⊎◌, inl, inr, Bool, true, false, Option, None, Some, List, [], ◌∷◌, ◌++◌, length, take, drop, slice_index, refl, sym, ap, ◌∙◌, subst, arith, MatchOption, codes, encode_utf8, encode_utf8_all, len_utf8, StartsWithNoChar, and_from, both_ways, false_from_ne_true, not-true, and-true, drop-append_seam, length-take-le, take-append-drop, take_rest}
+use Rattle.py_lines.proofs.Prelude.{◌≡◌, ℕ, ◌+◌, ◌-◌, ◌<◌, ◌==◌, ◌&&◌, ◌⊎◌, inl, inr, Bool, true, false, Option, None, Some, List, [], ◌∷◌, ◌++◌, length, take, drop, slice_index, refl, sym, ap, ◌∙◌, subst, arith, MatchOption, codes, encode_utf8, encode_utf8_all, len_utf8, StartsWithNoChar, and_from, both_ways, false_from_ne_true, not-true, and-true, drop-append_seam, length-take-le, take-append-drop, take_rest, is_backslash, is_break, is_line_feed, is_mark, is_quote, is_return, is_space, is_word_character, Piece, begins, line_end, Frame, Spelling, Progress, Scan, literal, OpenMode, BeginsWith, piece}
 use Rattle.unicode_ident.proofs.Computing.{unicode_ident}
-use Rattle.py_lines.specs.Character.{is_backslash, is_break, is_line_feed, is_mark, is_quote, is_return, is_space, is_word_character}
-use Rattle.py_lines.specs.Piece.{Piece, begins, line_end}
 use Rattle.py_lines.specs.Faults.{breaks_join, kind_of_cause}
-use Rattle.py_lines.specs.FieldStrings.{literal}
 use Rattle.py_lines.specs.declared.fault.FaultKind.TheVariants as kinds
-use Rattle.py_lines.specs.declared.frames.Frame.{Frame}
-use Rattle.py_lines.specs.declared.mode.Mode.{Mode as OpenMode}
 use Rattle.py_lines.specs.declared.mode.Mode.TheVariants as opens
-use Rattle.py_lines.specs.declared.mode.Spelling.{Spelling}
-use Rattle.py_lines.specs.declared.scan.Progress.{Progress}
 use Rattle.py_lines.specs.declared.scan.Progress.TheVariants as progress
-use Rattle.py_lines.specs.declared.scan.Scan.{Scan}
 use Rattle.py_lines.specs.Private.Machine.{Start as starts, move_of}
 use Rattle.py_lines.specs.Private.Mode as modes
 use Rattle.py_lines.specs.Private.FieldMachine.{FieldMode, FieldScanned, breaks, closes, field_closed, field_fresh, field_move, field_started, field_state, frames, grows, plain, refused, room_step, text_place}
 use Rattle.py_lines.specs.Private.FieldFaults.{cause_in, cause_place}
 use Rattle.py_lines.specs.Private.LineEnds.{BeginsOuterEnd, HasOuterEnd, IsOuterEnd}
-use Rattle.py_lines.specs.Private.Run.{BeginsWith}
 use Rattle.py_lines.specs.Private.Scan.{ComesTo, EndsWithFeed, EndsWithReturn, Follows, Goes, GoesOver, IsFieldFault, IsFirstByte, IsOneItem, Rests, ends_before, ends_line, has_returned, is_begun_after, is_break_move, is_part_of_code, is_pending, is_text, line_end_progress, mode_from, passed, wrong_here}
 use Rattle.py_lines.proofs.Machine.Starts.{opens_no, start-feed, start-return, start-slash}
-use Rattle.py_lines.proofs.Pieces.PieceLists.{piece}
 use Rattle.py_lines.proofs.Text.CharacterTests.{feed_is, none_of, the_one}
 use Rattle.py_lines.proofs.Text.Utf8Prefixes.{nothing_bad}
 use Rattle.py_lines.proofs.FieldScans.Frames.{frames-length, frames_alike, neutral_alike}

@@ -1,13 +1,10 @@
 -- What a character does to the open piece: a word is known by its spelling; and what each move leaves open.
-use Rattle.py_lines.proofs.Prelude.{not, ◌≡◌, ℕ, Bool, true, false, ◌==◌, List, [], ◌∷◌, ◌++◌, refl, sym, ap, ◌&&◌, ◌∙◌, subst, append-nil, arith, if◌then◌else◌, byte, cond_both, both_ways}
-use Rattle.py_lines.specs.Character.{is_quote, is_word_character, is_backslash, is_break}
-use Rattle.py_lines.specs.Piece.{string, Piece, spelled}
-use Rattle.py_lines.specs.FieldStrings.{Host, Place, literal, specification}
+use Rattle.py_lines.proofs.Prelude.{not, ◌≡◌, ℕ, Bool, true, false, ◌==◌, List, [], ◌∷◌, ◌++◌, refl, sym, ap, ◌&&◌, ◌∙◌, subst, append-nil, arith, if◌then◌else◌, byte, cond_both, both_ways, is_quote, is_word_character, is_backslash, is_break, string, Piece, spelled, Host, Place, literal, specification, piece}
 use Rattle.py_lines.specs.Private.Machine.{Mode, Move, Spelling, Move as moves, Holds, begins_string, closed, class_of, is_field_spelling, is_raw_spelling, long_move, move_of, short_move, spelling_with}
 use Rattle.py_lines.specs.Private.Mode as modes
 use Rattle.py_lines.specs.Private.FieldMachine.{At, Level, between, after_slash, after_brace, FieldMode, plain, opened, empty, body, FieldMove, grows, closes, breaks, begins_code, opens_field, ends_field, refused, host_of, long_host, begins_host, plain_move, between_move, escape_move, body_move, is_after_brace, field_move, is_after_two, with_quote, closing_move, opening_move, ending_move, field_closed, field_class_of, text_place}
 use Rattle.py_lines.specs.Private.Scan.{HoldsCode, HasNoList, NoListAt, is_ending}
-use Rattle.py_lines.proofs.Pieces.PieceLists.{piece, spelled-push}
+use Rattle.py_lines.proofs.Pieces.PieceLists.{spelled-push}
 use Rattle.py_lines.proofs.Machine.LiveTexts as live
 use Rattle.py_lines.proofs.Machine.PieceSteps.{closing_neutral}
 use Rattle.py_lines.proofs.Machine.Spellings.{word_told, other_begins}

@@ -1,29 +1,16 @@
 -- What opens and ends in a string's text: a field, at its `{` in the literal part or in a specification, and its specification with the
 -- field.
-use Rattle.py_lines.proofs.Prelude.{◌≡◌, ℕ, ◌+◌, ◌-◌, ◌<◌, Bool, true, false, ◌&&◌, ◌==◌, None, Some, List, [], ◌∷◌, ◌++◌, drop, length, nat_lt, refl, sym, ap, ◌∙◌, subst, arith, append-nil, append_assoc, length-append, encode_utf8_all, encode_utf8, len_utf8, both_ways, eq-eqb, eqb-true, le-ltb, lt-ltb, ltb-true, ne_eqb, low_scalar, nat_tests, encode_ascii, length-encode, len_utf8_ascii, len_utf8_bounds}
+use Rattle.py_lines.proofs.Prelude.{◌≡◌, ℕ, ◌+◌, ◌-◌, ◌<◌, Bool, true, false, ◌&&◌, ◌==◌, None, Some, List, [], ◌∷◌, ◌++◌, drop, length, nat_lt, refl, sym, ap, ◌∙◌, subst, arith, append-nil, append_assoc, length-append, encode_utf8_all, encode_utf8, len_utf8, both_ways, eq-eqb, eqb-true, le-ltb, lt-ltb, ltb-true, ne_eqb, low_scalar, nat_tests, encode_ascii, length-encode, len_utf8_ascii, len_utf8_bounds, is_closing, is_opening, is_break, is_backslash, is_quote, byte_len, Piece, begins, spelled, OpenField, Region, StringWithFields, LineFault, Progress, Scan, Host, Place, literal, specification, BeginsWith, OpenMode}
 use Rattle.py_lines.proofs.FieldScans.Bytes.{byte_len-one}
-use Rattle.py_lines.specs.Balance.{is_closing, is_opening}
-use Rattle.py_lines.specs.Character.{is_break, is_backslash, is_quote}
 use Rattle.py_lines.specs.Faults.{Cause, brace_too_deep, opens_too_deep, kind_of_cause, begins_nothing, closes_wrong}
-use Rattle.py_lines.specs.FieldStrings.{Host, Place, literal, specification}
-use Rattle.py_lines.specs.LogicalLine.{byte_len}
-use Rattle.py_lines.specs.Piece.{Piece, begins, spelled}
 use Rattle.py_lines.specs.Private.Mode as modes
 use Rattle.py_lines.specs.Private.Machine.{move_of}
 use Rattle.py_lines.specs.Private.FieldMachine.{FieldMode, FieldMove, FieldScanned, Level, plain, body, between, after_brace, grows, breaks, begins_code, opens_field, ends_field, before, field_ended, field_fresh, field_move, field_moved, field_state, frames, has_room_at, opened_level, room_step, roomy, specification_ended, text_place, At, between_move, body_move, opening_move}
 use Rattle.py_lines.specs.Private.FieldFaults.{cause_in, cause_place, here}
-use Rattle.py_lines.specs.Private.Run.{BeginsWith}
 use Rattle.py_lines.specs.Private.Scan.{ComesTo, FieldFollows, Follows, FramesFollow, IsOneItem, GoAlike, Goes, GoesOver, IsFieldFault, IsFirstByte, IsWrongIn, OpensInText, StandsAs, EndsField, ended_in, ends_line, entered, host_in, is_break_move, is_line_ending, is_text, mode_from, region_in, with_bytes, HasNoList, HasQuote}
 use Rattle.py_lines.specs.declared.fault.FaultKind.TheVariants as fault_kind
-use Rattle.py_lines.specs.declared.frames.OpenField.{OpenField}
 use Rattle.py_lines.specs.declared.frames.Frame.TheVariants as frame
-use Rattle.py_lines.specs.declared.mode.Region.{Region}
 use Rattle.py_lines.specs.declared.mode.Region.TheVariants as regions
-use Rattle.py_lines.specs.declared.mode.StringWithFields.{StringWithFields}
-use Rattle.py_lines.specs.declared.scan.LineFault.{LineFault}
-use Rattle.py_lines.specs.declared.scan.Progress.{Progress}
-use Rattle.py_lines.specs.declared.scan.Scan.{Scan}
-use Rattle.py_lines.specs.declared.mode.Mode.{Mode as OpenMode}
 use Rattle.py_lines.specs.declared.mode.Mode.TheVariants as opens
 use Rattle.py_lines.proofs.Text.CharacterTests.{not_quote}
 use Rattle.py_lines.proofs.Text.FirstBytes.{first_low, first_other}

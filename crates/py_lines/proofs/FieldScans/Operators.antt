@@ -1,20 +1,10 @@
 -- What an operator of code comes to: it opens or closes a bracket, ends a field, begins its specification, or is a sign.
-use Rattle.py_lines.proofs.Prelude.{◌≡◌, ℕ, ◌+◌, true, false, not, ◌||◌, ◌&&◌, ◌==◌, Option, None, Some, List, [], ◌∷◌, ◌++◌, length, nat_lt, refl, sym, ap, ◌∙◌, subst, arith, append-nil, append_assoc, byte, len_utf8, if◌then◌else◌, and_right, eq-eqb, le-ltb, lt-ltb, ne_eqb}
-use Rattle.py_lines.specs.Character.{is_break, is_operator, is_quote}
-use Rattle.py_lines.specs.Piece.{operator, Piece, spelled}
-use Rattle.py_lines.specs.LogicalLine.{byte_len}
-use Rattle.py_lines.specs.Balance.{is_opening, is_closing, closing_of}
+use Rattle.py_lines.proofs.Prelude.{◌≡◌, ℕ, ◌+◌, true, false, not, ◌||◌, ◌&&◌, ◌==◌, Option, None, Some, List, [], ◌∷◌, ◌++◌, length, nat_lt, refl, sym, ap, ◌∙◌, subst, arith, append-nil, append_assoc, byte, len_utf8, if◌then◌else◌, and_right, eq-eqb, le-ltb, lt-ltb, ne_eqb, is_break, is_operator, is_quote, operator, Piece, spelled, byte_len, is_opening, is_closing, closing_of, FaultKind, OpenField, Frame, Scan, Progress, Host, literal, specification, piece}
 use Rattle.py_lines.specs.Faults.{Cause, kind_of_cause, closes_wrong, opens_too_deep, begins_nothing}
-use Rattle.py_lines.specs.FieldStrings.{Host, literal, specification}
-use Rattle.py_lines.specs.declared.fault.FaultKind.{FaultKind}
 use Rattle.py_lines.specs.declared.fault.FaultKind.TheVariants as kinds
 use Rattle.py_lines.specs.declared.mode.Region.TheVariants as regions
-use Rattle.py_lines.specs.declared.frames.OpenField.{OpenField}
-use Rattle.py_lines.specs.declared.frames.Frame.{Frame}
 use Rattle.py_lines.specs.declared.frames.Frame.TheVariants as frame
 use Rattle.py_lines.specs.declared.mode.Mode.TheVariants as opens
-use Rattle.py_lines.specs.declared.scan.Scan.{Scan}
-use Rattle.py_lines.specs.declared.scan.Progress.{Progress}
 use Rattle.py_lines.specs.declared.scan.Progress.TheVariants as progress
 use Rattle.py_lines.specs.Private.Machine.{start_of, Bracket, brackets_of, Start as starts}
 use Rattle.py_lines.specs.Private.FieldMachine.{between, body, breaks, Level, FieldScanned, field_state, field_fresh, field_closed, field_move, field_started, field_operator, code_operator, openers_with, field_ended, before, frames, has_room_at, room_step, text_place}
@@ -23,7 +13,6 @@ use Rattle.py_lines.specs.Private.Scan.{bracket_openers, Follows, FramesFollow, 
 use Rattle.py_lines.proofs.Machine.Starts.{start-operator}
 use Rattle.py_lines.proofs.LineScan.AsciiRuns.{operator-no_break}
 use Rattle.py_lines.proofs.Text.CharacterTests.{each_of, none_of}
-use Rattle.py_lines.proofs.Pieces.PieceLists.{piece}
 use Rattle.py_lines.proofs.Pieces.OpenBrackets.{closing-not-opening}
 use Rattle.py_lines.proofs.FieldMachine.ListBrackets.{opening_pushes, closing_pops, others_keep}
 use Rattle.py_lines.proofs.FieldMachine.PieceRuns.{IsNoColon, operator_stays}

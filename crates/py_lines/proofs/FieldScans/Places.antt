@@ -1,12 +1,6 @@
 -- The machine is as many bytes further after characters as they have.
-use Rattle.py_lines.proofs.Prelude.{◌≡◌, ℕ, ◌+◌, Bool, false, Option, None, Some, List, [], ◌∷◌, ◌++◌, refl, sym, ap, ◌∙◌, subst, append_assoc, append-nil, arith, len_utf8, both_ways, cond_both}
-use Rattle.py_lines.specs.FieldStrings.{Host, Place, literal, specification}
-use Rattle.py_lines.specs.LogicalLine.{byte_len}
-use Rattle.py_lines.specs.Piece.{Class, Piece, line_end, operator, spelled}
-use Rattle.py_lines.specs.declared.frames.Frame.{Frame}
-use Rattle.py_lines.specs.declared.mode.Mode.{Mode as OpenMode}
+use Rattle.py_lines.proofs.Prelude.{◌≡◌, ℕ, ◌+◌, Bool, false, Option, None, Some, List, [], ◌∷◌, ◌++◌, refl, sym, ap, ◌∙◌, subst, append_assoc, append-nil, arith, len_utf8, both_ways, cond_both, byte_len, Class, Piece, line_end, operator, spelled, Frame, Scan, Host, Place, literal, specification, OpenMode, piece}
 use Rattle.py_lines.specs.declared.mode.Mode.TheVariants as opens
-use Rattle.py_lines.specs.declared.scan.Scan.{Scan}
 use Rattle.py_lines.specs.Private.Machine.{Start, long_move, move_of, short_move, start_of, Start as starts}
 use Rattle.py_lines.specs.Private.FieldFaults.{here}
 use Rattle.py_lines.specs.Private.FieldMachine.{At, after_brace, between_move, FieldMode, FieldMove, FieldScanned, Level, after_operator, before, begins_code, between, body, body_move, breaks, closes, code_operator, ends_field, field_class_of, field_closed, field_ended, field_fresh, field_move, field_moved, field_operator, field_started, field_step, grows, has_room, is_after_brace, opened_level, opens_field, refused, specification_ended, text_place}
@@ -15,7 +9,7 @@ use Rattle.py_lines.proofs.FieldScans.Bytes.{byte_len-more, push_three, push_two
 use Rattle.py_lines.proofs.FieldScans.Moves.{BodyMoved, bare_in, body_moved, holds_plain, list_at, said}
 use Rattle.py_lines.proofs.FieldMachine.WholeRuns.{roomy_parts}
 use Rattle.py_lines.proofs.Machine.Soundness.{StartHolds, start_holds}
-use Rattle.py_lines.proofs.Pieces.PieceLists.{piece, spelled-push}
+use Rattle.py_lines.proofs.Pieces.PieceLists.{spelled-push}
 
 -- no `{` of a specification waits for what follows
 abbrev IsWhole : FieldMode → Type 0

@@ -1,24 +1,12 @@
 -- Runs of words, space and operators that are no brackets: the scan after them is what it would come to by one of them after another.
-use Rattle.py_lines.proofs.Prelude.{◌≡◌, ℕ, ◌+◌, ◌-◌, ◌<◌, Bool, true, false, ◌&&◌, ◌||◌, not, ◌==◌, Option, None, Some, List, [], ◌∷◌, ◌++◌, length, take, drop, slice_index, refl, sym, ap, ◌∙◌, subst, arith, take-append-drop, ⊎_elim, if◌then◌else◌, codes, len_utf8, list_all, and_parts, both_ways, cond_both, or_cases, length-take-le, take_more, len_utf8_ascii}
-use Rattle.py_lines.specs.Balance.{is_opening, is_closing}
-use Rattle.py_lines.specs.Character.{is_operator, is_quote, is_space, is_word_character}
-use Rattle.py_lines.specs.FieldStrings.{literal}
-use Rattle.py_lines.specs.LogicalLine.{byte_len}
-use Rattle.py_lines.specs.Piece.{Piece}
+use Rattle.py_lines.proofs.Prelude.{◌≡◌, ℕ, ◌+◌, ◌-◌, ◌<◌, Bool, true, false, ◌&&◌, ◌||◌, not, ◌==◌, Option, None, Some, List, [], ◌∷◌, ◌++◌, length, take, drop, slice_index, refl, sym, ap, ◌∙◌, subst, arith, take-append-drop, ⊎_elim, if◌then◌else◌, codes, len_utf8, list_all, and_parts, both_ways, cond_both, or_cases, length-take-le, take_more, len_utf8_ascii, is_opening, is_closing, is_operator, is_quote, is_space, is_word_character, byte_len, Piece, Frame, OpenField, Spelling, Scan, literal, OpenMode, has_field, is_of_class, is_plain}
 use Rattle.py_lines.specs.declared.class.Class.TheVariants as class
-use Rattle.py_lines.specs.declared.frames.Frame.{Frame}
 use Rattle.py_lines.specs.declared.frames.Frame.TheVariants as frame
-use Rattle.py_lines.specs.declared.frames.OpenField.{OpenField}
-use Rattle.py_lines.specs.declared.mode.Mode.{Mode as OpenMode}
 use Rattle.py_lines.specs.declared.mode.Mode.TheVariants as opens
-use Rattle.py_lines.specs.declared.mode.Spelling.{Spelling}
-use Rattle.py_lines.specs.declared.scan.Scan.{Scan}
 use Rattle.py_lines.specs.Private.Machine.{Bracket, Mode, first_spelling, move_of, spelling_with, start_of, Start as starts}
 use Rattle.py_lines.specs.Private.Mode as modes
 use Rattle.py_lines.specs.Private.FieldMachine.{FieldMove, FieldScanned, Level, before, breaks, field_move, grows, plain, text_place}
 use Rattle.py_lines.specs.Private.FieldText.{is_code_mode}
-use Rattle.py_lines.specs.Private.Frames.{has_field}
-use Rattle.py_lines.specs.Private.Marks.{is_of_class, is_plain}
 use Rattle.py_lines.specs.Private.Passing.{tail_on, tail_with}
 use Rattle.py_lines.specs.Private.Run.{HasRun, is_ascii_word}
 use Rattle.py_lines.specs.Private.Scan.{Follows, FramesFollow, Goes, HasQuote, HoldsCode, KeepsOpen, Takes, begun_at, bracket_frames, frames_of, mode_from, passed, with_bytes}

@@ -1,23 +1,14 @@
 -- What is held in one step: characters that leave the open piece as it is, simple text of a string with fields, and words, spaces and
 -- signs of a field's code up to the last sign.
-use Rattle.py_lines.proofs.Prelude.{◌≡◌, ℕ, zero, suc, ◌+◌, ◌<◌, ◌≤◌, Bool, true, false, ◌&&◌, ◌==◌, List, [], ◌∷◌, ◌++◌, length, take, drop, refl, sym, ap, ◌∙◌, subst, append_assoc, append-nil, arith, take-append-drop, Some, encode_utf8_all, len_utf8, list_all, all_scalars, and_parts, and_right, length-take-le, take-take}
-use Rattle.py_lines.specs.Character.{is_quote}
-use Rattle.py_lines.specs.FieldStrings.{literal}
-use Rattle.py_lines.specs.LogicalLine.{byte_len}
-use Rattle.py_lines.specs.Piece.{spelled}
-use Rattle.py_lines.specs.declared.mode.Region.{Region}
+use Rattle.py_lines.proofs.Prelude.{◌≡◌, ℕ, zero, suc, ◌+◌, ◌<◌, ◌≤◌, Bool, true, false, ◌&&◌, ◌==◌, List, [], ◌∷◌, ◌++◌, length, take, drop, refl, sym, ap, ◌∙◌, subst, append_assoc, append-nil, arith, take-append-drop, Some, encode_utf8_all, len_utf8, list_all, all_scalars, and_parts, and_right, length-take-le, take-take, is_quote, byte_len, spelled, Region, StringWithFields, Scan, literal, OpenMode, has_field}
 use Rattle.py_lines.specs.declared.mode.Region.TheVariants as regions
-use Rattle.py_lines.specs.declared.mode.StringWithFields.{StringWithFields}
-use Rattle.py_lines.specs.declared.mode.Mode.{Mode as OpenMode}
 use Rattle.py_lines.specs.declared.mode.Mode.TheVariants as opens
 use Rattle.py_lines.specs.declared.mode.Spelling.TheVariants as spellings
-use Rattle.py_lines.specs.declared.scan.Scan.{Scan}
 use Rattle.py_lines.specs.Private.Machine.{long_move, move_of, short_move, spelling_with}
 use Rattle.py_lines.specs.Private.FieldMachine.{FieldMode, FieldScanned, Level, before, between, body, field_move, field_moved, field_state, frames, grows, has_room_at, levels_open, room_step, roomy, text_place}
 use Rattle.py_lines.specs.Private.FieldFaults.{here}
 use Rattle.py_lines.specs.Private.Scan.{Follows, Goes, HoldsCode, HoldsField, HasQuote, KeepsOpen, ends_line, is_line_ending, is_shut, mode_from, host_in, passed, region_in, with_bytes}
 use Rattle.py_lines.specs.Private.FieldText.{HasText}
-use Rattle.py_lines.specs.Private.Frames.{has_field}
 use Rattle.py_lines.specs.Private.Run.{IsRunOf, Spans, is_code_byte, is_line_byte, is_literal_byte, stays}
 use Rattle.py_lines.specs.Private.TakenPieces.{IsOperatorEnd}
 use Rattle.py_lines.proofs.FieldScans.Bytes.{byte_len-more, push_three}

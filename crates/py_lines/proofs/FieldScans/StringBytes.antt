@@ -1,16 +1,10 @@
 -- What the bytes with which a string's text goes on do to it, item after item.
-use Rattle.py_lines.proofs.Prelude.{◌≡◌, ℕ, ◌<◌, ◌≤◌, Bool, true, false, not, ◌&&◌, ◌==◌, Option, None, Some, List, [], ◌∷◌, ◌++◌, ◌+◌, length, drop, slice_index, refl, sym, ap, ◌∙◌, subst, arith, append-nil, inl, inr, ◌⊎◌, encode_utf8, encode_utf8_all, nat_lt, if◌then◌else◌, list_all, len_utf8, StartsWithNoChar, drop-append_seam, drop-cons, drop_all, and_from, cond_both, both_ways, eq-eqb, eqb-true, ltb-true, ltb-false, or_right, encode_ascii, len_utf8_ascii, len_utf8_bounds}
-use Rattle.py_lines.specs.Character.{is_backslash, is_brace, is_break, is_quote, is_return}
-use Rattle.py_lines.specs.FieldStrings.{literal}
-use Rattle.py_lines.specs.declared.mode.StringWithFields.{StringWithFields}
-use Rattle.py_lines.specs.declared.mode.Region.{Region}
+use Rattle.py_lines.proofs.Prelude.{◌≡◌, ℕ, ◌<◌, ◌≤◌, Bool, true, false, not, ◌&&◌, ◌==◌, Option, None, Some, List, [], ◌∷◌, ◌++◌, ◌+◌, length, drop, slice_index, refl, sym, ap, ◌∙◌, subst, arith, append-nil, inl, inr, ◌⊎◌, encode_utf8, encode_utf8_all, nat_lt, if◌then◌else◌, list_all, len_utf8, StartsWithNoChar, drop-append_seam, drop-cons, drop_all, and_from, cond_both, both_ways, eq-eqb, eqb-true, ltb-true, ltb-false, or_right, encode_ascii, len_utf8_ascii, len_utf8_bounds, is_backslash, is_brace, is_break, is_quote, is_return, StringWithFields, Region, literal, OpenMode, BeginsWith}
 use Rattle.py_lines.specs.declared.mode.Region.TheVariants as regions
-use Rattle.py_lines.specs.declared.mode.Mode.{Mode as OpenMode}
 use Rattle.py_lines.specs.declared.mode.Mode.TheVariants as opens
 use Rattle.py_lines.specs.declared.string_text.TextMove.{TextMove}
 use Rattle.py_lines.specs.declared.string_text.TextMove.TheVariants as text_moves
 use Rattle.py_lines.specs.Private.FieldMachine.{At, FieldMode, after_brace, after_name, after_slash, between, between_move, body, body_move, closing_move, escape_move, field_move, grows, is_barred_escape, text_place, refused}
-use Rattle.py_lines.specs.Private.Run.{BeginsWith}
 use Rattle.py_lines.specs.Private.Scan.{BreaksInText, DoesText, GrowsInText, HasQuote, IsTextAt, QuotesInText, TextAlike, TextAs, TextGoes, WaitsInText, WouldDo, escape_in, host_in, region_in, is_part_of_text, is_pending, is_text, mode_from, quotes_in}
 use Rattle.py_lines.proofs.Text.CharacterTests.{not_quote, the_one}
 use Rattle.py_lines.proofs.Text.Utf8Prefixes.{nothing_bad}

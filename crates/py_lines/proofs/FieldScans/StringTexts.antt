@@ -1,14 +1,11 @@
 -- What a character does to the text of a string: its own quote, a backslash and what it escapes, and any other character.
-use Rattle.py_lines.proofs.Prelude.{◌≡◌, ℕ, ◌<◌, ◌≤◌, Bool, true, false, not, ◌&&◌, ◌==◌, List, [], ◌∷◌, slice_index, refl, sym, ap, ◌∙◌, subst, arith, ⊎_elim, and_left, both_ways, cases_Bool, cases_lt, eq-eqb, ne_eqb, or_from, encode_ascii}
-use Rattle.py_lines.specs.Character.{is_backslash, is_brace, is_break, is_line_feed, is_quote, is_return}
+use Rattle.py_lines.proofs.Prelude.{◌≡◌, ℕ, ◌<◌, ◌≤◌, Bool, true, false, not, ◌&&◌, ◌==◌, List, [], ◌∷◌, slice_index, refl, sym, ap, ◌∙◌, subst, arith, ⊎_elim, and_left, both_ways, cases_Bool, cases_lt, eq-eqb, ne_eqb, or_from, encode_ascii, is_backslash, is_brace, is_break, is_line_feed, is_quote, is_return, OpenMode, BeginsWith}
 use Rattle.py_lines.specs.FieldStrings.{Host, Place, literal, specification, names}
-use Rattle.py_lines.specs.declared.mode.Mode.{Mode as OpenMode}
 use Rattle.py_lines.specs.declared.mode.Mode.TheVariants as opens
 use Rattle.py_lines.specs.Private.Mode as modes
 use Rattle.py_lines.specs.Private.Machine.{Mode, class_of, is_after_backslash, long_move, move_of, short_move}
 use Rattle.py_lines.specs.Private.FieldMachine.{At, FieldMode, after_name, after_open_backslash, after_return, after_slash, between, between_move, body, body_move, closing_move, escape_move, field_move, grows, is_after_brace, is_barred_escape, plain, refused, text_place, with_quote}
 use Rattle.py_lines.specs.Private.FieldFaults.{is_waiting, quotes_specification}
-use Rattle.py_lines.specs.Private.Run.{BeginsWith}
 use Rattle.py_lines.specs.Private.Scan.{HasQuote, IsFirstByte, IsTextAt, TextAlike, TextAs, is_part_of_text, is_pending, is_specification, is_text, mode_from}
 use Rattle.py_lines.proofs.Text.CharacterTests.{break-not-others, not_quote}
 pub use Rattle.py_lines.proofs.Text.FirstBytes.{first_low as the_low}

@@ -1,12 +1,9 @@
 -- What the scan takes in one step or several: the machine goes through it, and the scan follows.
-use Rattle.py_lines.proofs.Prelude.{◌≡◌, ℕ, ◌+◌, ◌<◌, true, List, [], ◌∷◌, ◌++◌, drop, refl, sym, ap, ◌∙◌, subst, append_assoc, arith, encode_utf8_all, all_scalars, drop-drop, encodes-append}
-use Rattle.py_lines.specs.LogicalLine.{byte_len}
+use Rattle.py_lines.proofs.Prelude.{◌≡◌, ℕ, ◌+◌, ◌<◌, true, List, [], ◌∷◌, ◌++◌, drop, refl, sym, ap, ◌∙◌, subst, append_assoc, arith, encode_utf8_all, all_scalars, drop-drop, encodes-append, byte_len, Scan, byte_len-append}
 use Rattle.py_lines.specs.declared.scan.Progress.TheVariants as progress
-use Rattle.py_lines.specs.declared.scan.Scan.{Scan}
 use Rattle.py_lines.specs.Private.FieldMachine.{FieldScanned}
 use Rattle.py_lines.specs.Private.Scan.{ComesOver, Follows, Goes, GoesOver, Rests, StandsAs, Steps, Takes, TakesFrom}
 use Rattle.py_lines.proofs.FieldScans.Taking.{goes_real, rests_exact}
-use Rattle.py_lines.proofs.LogicalLines.Cuts.{byte_len-append}
 use Rattle.py_lines.proofs.Text.Utf8Prefixes.{all_scalars-append}
 
 -- over two runs, one after the other

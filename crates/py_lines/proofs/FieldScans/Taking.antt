@@ -1,27 +1,16 @@
 -- Where the scan stands as the machine does before some bytes: what holds of the state that it keeps count of holds of the one in which
 -- the machine is. And what one more character comes to, by what it does there: the open piece goes on, closes, or ends before another.
-use Rattle.py_lines.proofs.Prelude.{◌≡◌, ℕ, ◌<◌, ◌==◌, ◌&&◌, not, inl, inr, ◌⊎◌, Bool, true, false, None, List, [], ◌∷◌, ◌++◌, length, refl, sym, ap, ◌∙◌, subst, arith, append_assoc, append-nil, slice_index, drop, ◌+◌, Some, ◌||◌, nat_lt, encode_utf8, encode_utf8_all, IsScalar, len_utf8, all_scalars, and_from, and_parts, both_ways, and_right, false_from_ne_true, encode_ascii, encodes-append, length-encode, len_utf8_bounds, len_utf8_ascii}
+use Rattle.py_lines.proofs.Prelude.{◌≡◌, ℕ, ◌<◌, ◌==◌, ◌&&◌, not, inl, inr, ◌⊎◌, Bool, true, false, None, List, [], ◌∷◌, ◌++◌, length, refl, sym, ap, ◌∙◌, subst, arith, append_assoc, append-nil, slice_index, drop, ◌+◌, Some, ◌||◌, nat_lt, encode_utf8, encode_utf8_all, IsScalar, len_utf8, all_scalars, and_from, and_parts, both_ways, and_right, false_from_ne_true, encode_ascii, encodes-append, length-encode, len_utf8_bounds, len_utf8_ascii, LineFault, Progress, Scan, Piece, spelled, Class, is_line_feed, is_break, is_return, byte_len, is_opening, Frame, OpenMode, literal, BeginsWith, piece}
 use Rattle.py_lines.proofs.Text.Utf8Prefixes.{all_scalars-append}
-use Rattle.py_lines.specs.declared.mode.Mode.{Mode as OpenMode}
 use Rattle.py_lines.specs.declared.mode.Mode.TheVariants as opens
-use Rattle.py_lines.specs.declared.scan.LineFault.{LineFault}
-use Rattle.py_lines.specs.declared.scan.Progress.{Progress}
 use Rattle.py_lines.specs.declared.scan.Progress.TheVariants as progress
-use Rattle.py_lines.specs.declared.scan.Scan.{Scan}
-use Rattle.py_lines.specs.Piece.{Piece, spelled, Class}
-use Rattle.py_lines.specs.Character.{is_line_feed, is_break, is_return}
-use Rattle.py_lines.specs.LogicalLine.{byte_len}
 use Rattle.py_lines.specs.Private.Mode as modes
 use Rattle.py_lines.specs.Private.Machine.{move_of, Mode, Start, Start as starts, start_of}
 use Rattle.py_lines.specs.Private.FieldMachine.{FieldMode, FieldScanned, Level, field_move, field_state, frames, plain, room_step, FieldMove, closes, field_fresh, field_moved, before, has_room_at, roomy, grows, breaks, field_class_of, field_closed, field_started, text_place, field_pieces}
 use Rattle.py_lines.specs.Private.FieldFaults.{here, cause_in, cause_place}
 use Rattle.py_lines.specs.Private.Scan.{ComesTo, EndsThere, EndsWithFeed, Follows, GoAlike, Goes, IsFirstByte, IsOneItem, IsWrongIn, Rests, StandsAs, Steps, IsFieldFault, ends_line, has_returned, is_return_at, mode_from, FramesFollow, GoesOver, HasQuote, HoldsCode, TakesOne, is_line_ending, is_ending}
-use Rattle.py_lines.specs.Balance.{is_opening}
-use Rattle.py_lines.specs.FieldStrings.{literal}
-use Rattle.py_lines.specs.declared.frames.Frame.{Frame}
-use Rattle.py_lines.specs.Private.Run.{BeginsWith}
 use Rattle.py_lines.proofs.Text.CharacterTests.{operator_ascii, each_of}
-use Rattle.py_lines.proofs.Pieces.PieceLists.{piece, spelled-push}
+use Rattle.py_lines.proofs.Pieces.PieceLists.{spelled-push}
 use Rattle.py_lines.proofs.Machine.Starts.{StartsSo, starts_so, opens_no, start-feed, start-return}
 use Rattle.py_lines.proofs.FieldMachine.Runs.{room_grows, room_closes}
 use Rattle.py_lines.proofs.FieldScans.Bytes.{byte_len-one, push_two, push_three}

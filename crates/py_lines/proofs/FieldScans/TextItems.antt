@@ -1,29 +1,19 @@
 -- How the machine with fields goes through the text of a string: its mode alone tells what a character does, and it alone changes, with the
 -- text that the string holds. And what the items of the text come to for the scan: it goes on, closes the string, waits, or finds a fault.
 -- What opens and ends a field there stands in Openings.
-use Rattle.py_lines.proofs.Prelude.{◌≡◌, ℕ, Bool, true, false, ◌==◌, eqb, ◌&&◌, Some, List, [], ◌∷◌, ◌++◌, refl, sym, ap, ◌∙◌, subst, append-nil, append_assoc, ◌+◌, ◌<◌, inl, inr, ◌⊎◌, not, drop, length, length-append, arith, encode_utf8, encode_utf8_all, both_ways, and_from, cond_both, len_utf8, list_all, list_all-append, all_scalars, low_scalar, encode_ascii, len_utf8_ascii}
-use Rattle.py_lines.specs.Character.{is_backslash, is_break, is_line_feed, is_quote, is_return}
-use Rattle.py_lines.specs.Piece.{Piece, spelled, string}
+use Rattle.py_lines.proofs.Prelude.{◌≡◌, ℕ, Bool, true, false, ◌==◌, eqb, ◌&&◌, Some, List, [], ◌∷◌, ◌++◌, refl, sym, ap, ◌∙◌, subst, append-nil, append_assoc, ◌+◌, ◌<◌, inl, inr, ◌⊎◌, not, drop, length, length-append, arith, encode_utf8, encode_utf8_all, both_ways, and_from, cond_both, len_utf8, list_all, list_all-append, all_scalars, low_scalar, encode_ascii, len_utf8_ascii, is_backslash, is_break, is_line_feed, is_quote, is_return, Piece, spelled, string, byte_len, is_closing, is_opening, LineFault, Scan, Host, Place, literal, specification, OpenMode, piece, byte_len-append}
 use Rattle.py_lines.specs.Faults.{Cause, breaks_string, ends_specification, kind_of_cause}
-use Rattle.py_lines.specs.FieldStrings.{Host, Place, literal, specification}
-use Rattle.py_lines.specs.LogicalLine.{byte_len}
 use Rattle.py_lines.specs.Private.Mode as modes
 use Rattle.py_lines.specs.Private.Machine.{move_of, short_move, long_move, Move}
 use Rattle.py_lines.specs.Private.FieldMachine.{At, plain_move, FieldMode, FieldMove, FieldScanned, Level, plain, body, grows, closes, breaks, ends_field, before, field_class_of, field_closed, field_move, field_moved, field_state, frames, has_room_at, room_step, roomy, text_place, refused}
 use Rattle.py_lines.specs.Private.FieldFaults.{cause_in, cause_place, here, field_start}
 use Rattle.py_lines.specs.Private.Scan.{GoAlike, Goes, IsFirstByte, IsOneItem, StandsAs, TextAs, TextGoes, is_break_move, is_line_ending, is_return_at, is_shut, is_text, mode_from, BreaksInText, Follows, GoesOver, GoesOverAll, GrowsInText, HasPending, HasQuote, HoldsCode, IsFieldFault, IsWrongIn, QuotesInText, Rests, WaitsInText, has_returned, passed}
-use Rattle.py_lines.specs.declared.mode.Mode.{Mode as OpenMode}
-use Rattle.py_lines.proofs.Pieces.PieceLists.{piece}
 use Rattle.py_lines.proofs.FieldMachine.Runs.{room_grows}
 use Rattle.py_lines.proofs.FieldScans.Moves.{BodyMoved, body_moved, list_at}
 use Rattle.py_lines.proofs.FieldScans.Taking.{Shut, StandsAt, by_line, by_room, free_at, goes_on, steps, no_step, stands_at, stands_shut, rests_exact}
 use Rattle.py_lines.proofs.LineScan.AsciiRuns.{break_low, is_low, is_low_from, low_encodes, low_is, quote_ascii}
-use Rattle.py_lines.specs.Balance.{is_closing, is_opening}
 use Rattle.py_lines.specs.declared.fault.FaultKind.TheVariants as fault_kind
-use Rattle.py_lines.specs.declared.scan.LineFault.{LineFault}
-use Rattle.py_lines.specs.declared.scan.Scan.{Scan}
 use Rattle.py_lines.proofs.Text.CharacterTests.{none_of}
-use Rattle.py_lines.proofs.LogicalLines.Cuts.{byte_len-append}
 use Rattle.py_lines.proofs.FieldScans.Takes.{goes-append}
 
 -- the text of a string is open

@@ -1,22 +1,12 @@
 -- How many bytes simple text of a string with fields has, as the code counts them.
-use Rattle.py_lines.proofs.Prelude.{◌≡◌, ℕ, zero, suc, ◌+◌, ◌-◌, ◌<◌, ◌≤◌, ◌⊎◌, inl, inr, append_assoc, length-append, Bool, true, false, List, [], ◌∷◌, ◌++◌, length, take, drop, slice_index, refl, sym, ap, ◌∙◌, subst, arith, add-one, take_all, length-drop, list_all, take_more, take-add, take-append_seam}
-use Rattle.py_lines.specs.Balance.{closing_of}
-use Rattle.py_lines.specs.Character.{is_quote}
+use Rattle.py_lines.proofs.Prelude.{◌≡◌, ℕ, zero, suc, ◌+◌, ◌-◌, ◌<◌, ◌≤◌, ◌⊎◌, inl, inr, append_assoc, length-append, Bool, true, false, List, [], ◌∷◌, ◌++◌, length, take, slice_index, refl, sym, ap, ◌∙◌, subst, arith, add-one, length-drop, list_all, take_more, take-add, take-append_seam, closing_of, is_quote, begins, rest_of, rest_is}
 use Rattle.py_lines.specs.FieldStrings.{begins_open}
-use Rattle.py_lines.specs.Piece.{begins}
 use Rattle.py_lines.specs.Private.FieldText.{AtBrace, AtCode, HasCode, HasSimpleCode, HasText, InCode, StandsInCode, AtSpecification, InText, Leads, LeadsBy, is_code_bracket}
 use Rattle.py_lines.specs.Private.Run.{BeginsPlainString, IsRunOf, IsWholePlainString, is_ascii_word, is_code_byte, is_literal_byte}
 use Rattle.py_lines.proofs.LineScan.AsciiRuns.{all_pass, quote-no_word}
 use Rattle.py_lines.proofs.LineScan.PlainStrings.{text_size}
 use Rattle.py_lines.proofs.PassedPieces.FirstBytes.{bytes_from, taken_one}
 use Rattle.py_lines.proofs.FieldScans.Texts.{Spot, leads_to_code, passing, brace_leads, ends_in_word, string_leads, closing_leads, code_after, codes_lead, field_ends, leads-append, open_leads, opening_leads, specification_begins, specification_ends, specifications_lead, texts_lead}
-
--- the bytes after the first ones, as a slice has them
-abbrev pub rest_of : List ℕ → ℕ → List ℕ
-rest_of bytes n = take (length bytes - n) (drop n bytes)
-
-pub rest_is : (bytes : List ℕ) (n : ℕ) → rest_of bytes n ≡ drop n bytes
-rest_is bytes n = take_all (length bytes - n) (drop n bytes) (omega (arith, length-drop n bytes))
 
 -- no more than there are
 pub rest_within : (bytes : List ℕ) (n m : ℕ) → n ≤ length bytes → m ≤ length (rest_of bytes n) → n + m ≤ length bytes

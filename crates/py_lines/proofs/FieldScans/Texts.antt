@@ -1,17 +1,11 @@
 -- Simple text of a string with fields: the machine goes through it, from one place to another.
-use Rattle.py_lines.proofs.Prelude.{◌≡◌, ℕ, ◌+◌, ◌<◌, ◌≤◌, Bool, true, false, not, ◌&&◌, ◌==◌, Some, List, [], ◌∷◌, ◌++◌, length, refl, sym, ap, ◌∙◌, subst, arith, nat_lt, nat_tests, list_all, and_from, and_parts, and_right, both_ways, eq-eqb, list_all-append}
-use Rattle.py_lines.specs.Character.{is_space, is_quote, is_operator, is_break, is_backslash, is_brace, is_line_feed}
-use Rattle.py_lines.specs.Piece.{Piece, spelled, operator, string}
-use Rattle.py_lines.specs.Balance.{is_opening, is_closing, closing_of}
-use Rattle.py_lines.specs.FieldStrings.{Host, Place, literal, specification}
+use Rattle.py_lines.proofs.Prelude.{◌≡◌, ℕ, ◌+◌, ◌<◌, ◌≤◌, Bool, true, false, not, ◌&&◌, ◌==◌, Some, List, [], ◌∷◌, ◌++◌, length, refl, sym, ap, ◌∙◌, subst, arith, nat_lt, nat_tests, list_all, and_from, and_parts, and_right, both_ways, eq-eqb, list_all-append, is_space, is_quote, is_operator, is_break, is_backslash, is_brace, is_line_feed, Piece, spelled, operator, string, is_opening, is_closing, closing_of, Host, Place, literal, specification, is_plain, piece}
 use Rattle.py_lines.specs.Private.Machine.{Mode, Move as moves, Start as starts, IsFull, closed, short_move, move_of, start_of, first_spelling}
 use Rattle.py_lines.specs.Private.Mode as modes
 use Rattle.py_lines.specs.Private.FieldMachine.{At, FieldMode, between, after_brace, after_slash, plain, body, FieldMove, grows, closes, breaks, begins_code, ends_field, Level, FieldScanned, field_state, field_fresh, field_ended, begins_host, plain_move, between_move, body_move, field_move, field_moved, field_started, field_step, code_operator, openers_with, levels_open, frames, has_room, has_room_at, room_step}
 use Rattle.py_lines.specs.Private.Scan.{Goes, KeepsOpen, is_return_at, is_shut}
 use Rattle.py_lines.specs.Private.FieldText.{is_apart_mode, is_escaped, InText, AtBrace, AtCode, InCode, StandsInCode, AtSpecification, Leads, level_after, is_code_mode, is_code_bracket}
-use Rattle.py_lines.specs.Private.Marks.{is_plain}
 use Rattle.py_lines.specs.Private.Run.{is_ascii_word, is_text_byte, is_body_byte, is_line_byte, is_literal_byte, is_code_sign, is_code_byte}
-use Rattle.py_lines.proofs.Pieces.PieceLists.{piece}
 use Rattle.py_lines.proofs.Text.CharacterTests.{none_of, not_quote, operator_ascii, excluded}
 use Rattle.py_lines.proofs.Machine.Starts.{opens_no, start-word, start-space, start-operator, start-quote}
 use Rattle.py_lines.proofs.FieldMachine.Runs.{room_at, room_closes, room_grows, stops-fresh}

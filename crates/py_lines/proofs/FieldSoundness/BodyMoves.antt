@@ -1,7 +1,6 @@
 -- What each character does in a string with fields, at each place in it: how the string grows, in its literal part and in specifications, and how it ends.
-use Rattle.py_lines.proofs.Prelude.{◌≡◌, ◌==◌, ℕ, Bool, true, false, not, ◌||◌, ◌&&◌, List, [], ◌∷◌, ◌++◌, refl, sym, ap, ◌∙◌, subst, inl, inr, ◌⊎◌, ⊎_elim, append_assoc, append-nil, if◌then◌else◌, byte, list_any, and-true, cond_both, and_parts, and_from, or_cases, eqb-true, both_ways, not_from_false, and_left, and_right, or_right, not-true, arith}
+use Rattle.py_lines.proofs.Prelude.{◌≡◌, ◌==◌, ℕ, Bool, true, false, not, ◌||◌, ◌&&◌, List, [], ◌∷◌, ◌++◌, refl, sym, ap, ◌∙◌, subst, inl, inr, ◌⊎◌, ⊎_elim, append_assoc, append-nil, if◌then◌else◌, byte, list_any, and-true, cond_both, and_parts, and_from, or_cases, eqb-true, both_ways, not_from_false, and_left, and_right, or_right, not-true, arith, string, Piece}
 use Rattle.py_lines.specs.Character.{is_quote, is_return, is_break, is_backslash, is_brace, is_barred, is_line_feed}
-use Rattle.py_lines.specs.Piece.{string, Piece}
 use Rattle.py_lines.specs.PieceGrammar.{is_prefix, IsNoneOr, is_bare, joined, has_triple, InClassIn, MayPrecedeIn}
 use Rattle.py_lines.specs.Fields.{fielded}
 use Rattle.py_lines.specs.FieldStrings.{is_field_prefix, Host, Place, literal, specification, quotes_of, is_ordinary, IsPart, bare, named_after, named_through, AreParts, IsFieldString, with_fields, may_be_escaped, names, slash, escape, escaped_end, name, double}

@@ -1,16 +1,13 @@
 -- What each character does outside strings with fields: it goes on with the open piece or ends it, begins another one, ends a field,
 -- or opens its specification.
-use Rattle.py_lines.proofs.Prelude.{◌≡◌, ◌==◌, ℕ, Bool, suc, ◌+◌, true, false, ◌&&◌, Option, None, Some, List, [], ◌∷◌, ◌++◌, length, refl, sym, ap, ◌∙◌, subst, inl, append_assoc, append-nil, arith, inr, ◌⊎◌, cond_both, and_left, and_right, eqb-true, ne_eqb, and_parts, both_ways, or_from, false_from_ne_true, and_from, list_any}
-use Rattle.py_lines.specs.Character.{is_quote, is_operator, is_word_character}
+use Rattle.py_lines.proofs.Prelude.{◌≡◌, ◌==◌, ℕ, Bool, suc, ◌+◌, true, false, ◌&&◌, Option, None, Some, List, [], ◌∷◌, ◌++◌, length, refl, sym, ap, ◌∙◌, subst, inl, append_assoc, append-nil, arith, inr, ◌⊎◌, cond_both, and_left, and_right, eqb-true, ne_eqb, and_parts, both_ways, or_from, false_from_ne_true, and_from, list_any, is_quote, is_operator, is_word_character, is_opening, depth_through, Spelling, piece}
 use Rattle.py_lines.specs.Piece.{string, operator, line_end, Piece, spelled, Class, word, begins, is_mark_class}
 use Rattle.py_lines.specs.PieceGrammar.{is_bare, joined, InClassIn, MayPrecedeIn, AreReadPlain}
-use Rattle.py_lines.specs.Balance.{is_opening, depth_through}
 use Rattle.py_lines.specs.Fields.{AreInside, IsSpecification, simple, specified, fielded, Fields}
 use Rattle.py_lines.specs.FieldStrings.{Host, Place, literal, specification, begins_open, field, is_field_prefix, with_fields}
 use Rattle.py_lines.specs.Private.Machine.{Mode, Start, Start as starts, class_of, start_of, Holds, closed, move_of, is_prefix_spelling, Move, Move as moves}
 use Rattle.py_lines.specs.Private.Mode as modes
 use Rattle.py_lines.specs.Private.FieldMachine.{before, between, plain, body, Level, FieldScanned, field_state, levels_open, field_ended, code_operator, after_operator, field_operator, field_started, openers_with, specification_ended, text_place, FieldMode, opened, FieldMove, field_fresh, host_of, begins_host, plain_move, field_moved}
-use Rattle.py_lines.proofs.Pieces.PieceLists.{piece}
 use Rattle.py_lines.proofs.Text.CharacterTests.{not_quote, quote-not-start}
 use Rattle.py_lines.proofs.Machine.Starts.{StartsSo, starts_so}
 use Rattle.py_lines.proofs.Machine.Soundness.{StartHolds, start_holds, MoveHolds, move_holds}
@@ -19,7 +16,6 @@ use Rattle.py_lines.proofs.FieldSoundness.Holds.{BeginsPlain, Limit, OpensSpecif
 use Rattle.py_lines.proofs.FieldSoundness.BodyMoves.{no_parts, longer_next, push_between}
 use Rattle.py_lines.proofs.FieldSoundness.Lists.{FieldSoundIf, not_specification, no_pieces, sound_in, list_more, levels_more, adds_neutral, fresh_sound, stands_at, stands_more, stands_push}
 use Rattle.py_lines.proofs.FieldMachine.StringParts.{field_unnamed}
-use Rattle.py_lines.specs.declared.mode.Spelling.{Spelling}
 use Rattle.py_lines.proofs.Fields.Parts.{not_nothing}
 use Rattle.py_lines.proofs.Fields.Prefixes.{word_quotes}
 use Rattle.py_lines.proofs.FieldMachine.Runs.{HasRoomFor}

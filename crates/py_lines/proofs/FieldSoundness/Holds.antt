@@ -2,9 +2,8 @@
 --
 -- It is stated for any `Limit`, which says what may stand at a depth of brackets and fields. Without a limit it gives the
 -- readings of texts; with the limit of 200 it says besides that they are shallow.
-use Rattle.py_lines.proofs.Prelude.{◌≡◌, ℕ, ◌+◌, Bool, true, false, List, [], ◌∷◌, ◌++◌, length, byte, list_any}
+use Rattle.py_lines.proofs.Prelude.{◌≡◌, ℕ, ◌+◌, Bool, true, false, List, [], ◌∷◌, ◌++◌, length, byte, list_any, string, Piece, begins_marked, spelled}
 use Rattle.py_lines.specs.Character.{is_quote, is_return, is_backslash, is_r}
-use Rattle.py_lines.specs.Piece.{string, Piece, begins_marked, spelled}
 use Rattle.py_lines.specs.PieceGrammar.{joined, has_triple, InClassIn, AreReadIn}
 use Rattle.py_lines.specs.Balance.{is_opener, depth_through}
 use Rattle.py_lines.specs.Fields.{HasNoColon, AreInside, IsField, Fields, fielded}

@@ -1,12 +1,9 @@
 -- What each character does in strings with fields, and so what any text does.
-use Rattle.py_lines.proofs.Prelude.{◌≡◌, ◌==◌, ℕ, ◌+◌, Bool, true, false, Option, None, Some, List, [], ◌∷◌, ◌++◌, length, refl, sym, ap, ◌∙◌, subst, inl, inr, append_assoc, append-nil, arith, cond_both, both_ways, eq-eqb}
-use Rattle.py_lines.specs.Character.{is_quote}
-use Rattle.py_lines.specs.Piece.{Class, string, spelled, Piece}
+use Rattle.py_lines.proofs.Prelude.{◌≡◌, ◌==◌, ℕ, ◌+◌, Bool, true, false, Option, None, Some, List, [], ◌∷◌, ◌++◌, length, refl, sym, ap, ◌∙◌, subst, inl, inr, append_assoc, append-nil, arith, cond_both, both_ways, eq-eqb, is_quote, Class, string, spelled, Piece, piece}
 use Rattle.py_lines.specs.PieceGrammar.{MayPrecedeIn}
 use Rattle.py_lines.specs.Fields.{fielded}
 use Rattle.py_lines.specs.FieldStrings.{Host, Place, literal, specification, quotes_of, IsFieldString}
 use Rattle.py_lines.specs.Private.FieldMachine.{text_place, before, between, FieldMode, plain, opened, empty, body, FieldMove, grows, closes, breaks, begins_code, opens_field, ends_field, refused, Level, FieldScanned, field_state, field_fresh, field_text_start, begins_host, long_host, is_after_brace, field_move, body_move, field_moved, field_step, field_steps_from, field_class_of, levels_open, frames}
-use Rattle.py_lines.proofs.Pieces.PieceLists.{piece}
 use Rattle.py_lines.proofs.FieldSoundness.Holds.{Limit, OpensHost, HoldsMode, HoldsLevel, HoldsLevels, IsFieldSound}
 use Rattle.py_lines.proofs.FieldSoundness.BodyMoves.{no_parts, short_quotes, Moved, between_moves, body_moves}
 use Rattle.py_lines.proofs.FieldSoundness.Lists.{FieldSoundIf, no_pieces, stands_at, stands_more}

@@ -1,5 +1,5 @@
 -- One more piece in the innermost list.
-use Rattle.py_lines.proofs.Prelude.{◌≡◌, ◌==◌, ℕ, ◌+◌, true, false, ◌&&◌, Option, None, Some, List, [], ◌∷◌, ◌++◌, length, refl, sym, ap, ◌∙◌, subst, ◌⊎◌, ⊎_elim, append_assoc, append-nil, and_left, both_ways}
+use Rattle.py_lines.proofs.Prelude.{◌≡◌, ◌==◌, ℕ, ◌+◌, true, false, ◌&&◌, Option, None, Some, List, [], ◌∷◌, ◌++◌, length, refl, sym, ap, ◌∙◌, subst, ◌⊎◌, ⊎_elim, append_assoc, append-nil, and_left, both_ways, piece}
 use Rattle.py_lines.specs.Piece.{Class, string, operator, Piece, is_mark_class, begins_marked, spelled}
 use Rattle.py_lines.specs.PieceGrammar.{InClassIn, MayPrecedeIn, AreReadIn}
 use Rattle.py_lines.specs.Balance.{is_opener, is_closer, depth_after, depth_through}
@@ -7,7 +7,7 @@ use Rattle.py_lines.specs.Fields.{is_colon, HasNoColon, Fields, fielded}
 use Rattle.py_lines.specs.FieldStrings.{Place, literal, specification, begins_open, with_fields}
 use Rattle.py_lines.specs.Private.Mode as modes
 use Rattle.py_lines.specs.Private.FieldMachine.{text_place, before, FieldMode, plain, Level, FieldScanned, field_state, field_fresh, levels_open}
-use Rattle.py_lines.proofs.Pieces.PieceLists.{piece, spelled-push, AreReadIn-push, MayFollow, follows_any}
+use Rattle.py_lines.proofs.Pieces.PieceLists.{spelled-push, AreReadIn-push, MayFollow, follows_any}
 use Rattle.py_lines.proofs.Fields.Nesting.{class_map}
 use Rattle.py_lines.proofs.FieldSoundness.OpenLists.{Opens, opens-none, opens-other, opens-depth}
 use Rattle.py_lines.proofs.FieldSoundness.Holds.{Limit, HoldsMode, HoldsList, IsSingle, HoldsLevels, Stands, AtStart, IsFieldSound}

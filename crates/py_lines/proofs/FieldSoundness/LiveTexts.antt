@@ -1,16 +1,12 @@
 -- Some text that begins with these characters is read with fields exactly where the machine with fields goes through them, and
 -- each of them has room: from wherever it has come, the open piece, brackets and fields can be closed, and nothing more opens.
-use Rattle.py_lines.proofs.Prelude.{◌≡◌, ◌==◌, ℕ, Bool, true, false, Some, List, [], ◌∷◌, ◌++◌, refl, sym, ap, ◌∙◌, subst, ◌&&◌, Option, None, all_scalars, and_from, both_ways, eq-eqb, and_parts, and_right, false_from_ne_true, and_assoc, arith}
-use Rattle.py_lines.specs.Character.{is_quote, is_line_feed, is_return, is_break, is_backslash, is_brace}
+use Rattle.py_lines.proofs.Prelude.{◌≡◌, ◌==◌, ℕ, Bool, true, false, Some, List, [], ◌∷◌, ◌++◌, refl, sym, ap, ◌∙◌, subst, ◌&&◌, Option, None, all_scalars, and_from, both_ways, eq-eqb, and_parts, and_right, false_from_ne_true, and_assoc, arith, is_quote, is_line_feed, is_return, is_break, is_backslash, is_brace, is_opening, is_closing, closing_of, Host, Place, literal, specification, piece}
 use Rattle.py_lines.specs.Piece.{operator, Piece, spelled, comment, line_end}
-use Rattle.py_lines.specs.Balance.{is_opening, is_closing, closing_of}
-use Rattle.py_lines.specs.FieldStrings.{Host, Place, literal, specification}
 use Rattle.py_lines.specs.Private.Mode as modes
 use Rattle.py_lines.specs.Private.Machine.{move_of, Holds, is_final, Mode}
 use Rattle.py_lines.specs.Private.FieldMachine.{At, between, after_one, after_two, after_brace, FieldMode, plain, body, FieldMove, grows, closes, breaks, ends_field, Level, FieldScanned, field_state, field_fresh, between_move, escape_move, body_move, field_move, after_operator, field_operator, field_ended, field_started, field_moved, field_closed, may_end, frames, IsFieldFinal, opened, empty, field_text_start, begins_host, host_of, plain_move, field_step, field_steps_from, field_pieces, have_room, has_room}
 use Rattle.py_lines.proofs.Text.CharacterTests.{not_quote}
 use Rattle.py_lines.proofs.Text.Utf8Prefixes.{all_scalars-append}
-use Rattle.py_lines.proofs.Pieces.PieceLists.{piece}
 use Rattle.py_lines.proofs.Pieces.OpenBrackets.{closing-not-opening}
 use Rattle.py_lines.proofs.Machine.Starts.{start-operator}
 use Rattle.py_lines.proofs.Machine.LiveTexts.{closing-operator, closing_of-closing, closing-scalar, quote-scalar, closing-not-quote, comment-breaks, feed-starts, completes}

@@ -1,19 +1,15 @@
 -- What is open where the machine with fields stands, and where a text ends, by its mode: lists of pieces that are begun, and strings, one in another.
-use Rattle.py_lines.proofs.Prelude.{◌≡◌, ℕ, ◌+◌, ◌<◌, Bool, false, List, [], ◌∷◌, ◌++◌, length, refl, sym, ap, ◌∙◌, subst, append_assoc, append-nil, arith, true, inl, inr, ◌⊎◌, byte, eq-eqb, and_right}
-use Rattle.py_lines.specs.Piece.{operator, Piece, begins_marked, spelled, string}
+use Rattle.py_lines.proofs.Prelude.{◌≡◌, ℕ, ◌+◌, ◌<◌, Bool, false, List, [], ◌∷◌, ◌++◌, length, refl, sym, ap, ◌∙◌, subst, append_assoc, append-nil, arith, true, inl, inr, ◌⊎◌, byte, eq-eqb, and_right, operator, Piece, begins_marked, spelled, string, closing_of, IsBalanced, depth_through, is_backslash, is_brace, piece}
 use Rattle.py_lines.specs.PieceGrammar.{joined, AreReadIn}
-use Rattle.py_lines.specs.Balance.{closing_of, IsBalanced, depth_through}
 use Rattle.py_lines.specs.Fields.{HasNoColon, Fields, fielded}
 use Rattle.py_lines.specs.OpenFields.{Spot, literal_after, specification_after, IsOpenString, in_literal, in_specification, AreBegun, BeginsList, at_start, in_field, IsUnescaped, StandsOpen, IsOpenUpTo, IsPlainShortPrefix, IsPlainLongPrefix, IsOpenLiteral, InOpenShort, InOpenLong, InSpecification, InFieldCode}
 use Rattle.py_lines.specs.FieldStrings.{Host, Place, literal, specification, begins_open, may_be_escaped, escape}
 use Rattle.py_lines.specs.Private.FieldMachine.{before, Level, levels_open, text_place, At, between, after_one, after_two, after_slash, after_return, after_name, after_brace, FieldMode, plain, opened, body, field_state, field_closed, may_end}
-use Rattle.py_lines.proofs.Pieces.PieceLists.{piece}
 use Rattle.py_lines.proofs.Machine.LiveTexts.{closing_of-closing}
 use Rattle.py_lines.proofs.Fields.Nesting.{parts_map}
 use Rattle.py_lines.proofs.FieldSoundness.OpenLists.{Opens, opens-closes, opens-depth, balanced_at}
 use Rattle.py_lines.proofs.FieldSoundness.Holds.{Limit, PartsAt, HoldsParts, HoldsList, HoldsLevel, HoldsLevels, HoldsAt, IsFieldSound}
 use Rattle.py_lines.proofs.FieldSoundness.CodeSteps.{single_at}
-use Rattle.py_lines.specs.Character.{is_backslash, is_brace}
 use Rattle.py_lines.specs.Private.Machine.{Mode, class_of, in_short, in_long}
 use Rattle.py_lines.specs.Private.Mode as modes
 use Rattle.py_lines.proofs.Pieces.TripleQuotes.{triple-other}

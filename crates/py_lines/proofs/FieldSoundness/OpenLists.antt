@@ -1,11 +1,9 @@
 -- Brackets that are open in a list of pieces, and what they say of its depth and of its balance.
-use Rattle.py_lines.proofs.Prelude.{◌≡◌, ℕ, suc, ◌+◌, true, false, ◌==◌, Option, None, Some, List, [], ◌∷◌, ◌++◌, length, refl, sym, ap, ◌∙◌, subst, append_assoc, append-nil, arith, cond_both, or_from, nil_from_length}
-use Rattle.py_lines.specs.Piece.{Class, operator, Piece}
+use Rattle.py_lines.proofs.Prelude.{◌≡◌, ℕ, suc, ◌+◌, true, false, ◌==◌, Option, None, Some, List, [], ◌∷◌, ◌++◌, length, refl, sym, ap, ◌∙◌, subst, append_assoc, append-nil, arith, cond_both, or_from, nil_from_length, Class, operator, Piece, piece}
 use Rattle.py_lines.specs.Balance as balance
 use Rattle.py_lines.specs.Balance.{is_opening, is_closing, closing_of, is_opener, is_closer, ArePair, IsBalanced, depth_after, depth_through}
 use Rattle.py_lines.specs.LogicalLine.{first_or_zero}
 use Rattle.py_lines.specs.Private.FieldMachine.{openers_with, openers_by, openers_through}
-use Rattle.py_lines.proofs.Pieces.PieceLists.{piece}
 use Rattle.py_lines.proofs.Pieces.OpenBrackets.{are_pair, balanced_depth, depth_through-append, depth-opener, some_before}
 use Rattle.py_lines.proofs.FieldMachine.ListBrackets.{no_character, openers_through-append, balanced_openers}
 

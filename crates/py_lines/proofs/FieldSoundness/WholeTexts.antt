@@ -1,12 +1,12 @@
 -- Where the machine with fields may end, its pieces read the text, those of the innermost list with the open one. They are shallow if each character had room.
-use Rattle.py_lines.proofs.Prelude.{◌≡◌, ℕ, ◌+◌, true, false, List, [], ◌∷◌, ◌++◌, length, refl, sym, ap, ◌∙◌, subst, inr, append-nil, ◌<◌, Option, None, Some, arith, and_left, and_right, both_ways, and_parts}
+use Rattle.py_lines.proofs.Prelude.{◌≡◌, ℕ, ◌+◌, true, false, List, [], ◌∷◌, ◌++◌, length, refl, sym, ap, ◌∙◌, subst, inr, append-nil, ◌<◌, Option, None, Some, arith, and_left, and_right, both_ways, and_parts, IsBalancedReading, piece}
 use Rattle.py_lines.specs.Piece.{Class, string, operator, Piece, is_mark_class, begins_marked, spelled}
 use Rattle.py_lines.specs.PieceGrammar.{InClassIn, MayPrecedeIn, AreReadPlain, AreReadIn}
 use Rattle.py_lines.specs.Fields.{HasNoColon, Fields, fielded, IsShallow, AnyPieces, ShallowFields}
 use Rattle.py_lines.specs.FieldStrings.{literal, with_fields}
 use Rattle.py_lines.specs.Private.Machine.{closed, class_of}
 use Rattle.py_lines.specs.Private.FieldMachine.{text_place, FieldMode, plain, empty, body, Level, field_state, field_closed, levels_open, may_end, before, FieldMove, breaks, FieldScanned, field_text_start, field_move, field_step, field_steps_from, field_pieces, frames, has_room, has_room_at, have_room, IsFieldFinal}
-use Rattle.py_lines.proofs.Pieces.PieceLists.{piece, spelled-push, AreReadIn-push, follows_any}
+use Rattle.py_lines.proofs.Pieces.PieceLists.{spelled-push, AreReadIn-push, follows_any}
 use Rattle.py_lines.proofs.Fields.Nesting.{class_map, field_is, shallow_is, shallow_fields}
 use Rattle.py_lines.proofs.Fields.Elsewhere.{IsPlainText, plain_class, plain_precede}
 use Rattle.py_lines.proofs.Machine.Soundness.{end_holds}
@@ -16,7 +16,6 @@ use Rattle.py_lines.proofs.FieldSoundness.Lists.{neutral, passes-push, colon-pus
 use Rattle.py_lines.proofs.FieldSoundness.CodeSteps.{plain_text, Ends, nothing, something, ends_of, HasRoom}
 use Rattle.py_lines.proofs.FieldSoundness.HostSteps.{empty_string, HaveRoom, sound_at}
 use Rattle.py_lines.specs.Balance.{is_opener, depth_after, depth_through}
-use Rattle.py_lines.specs.Reading.{IsBalancedReading}
 
 -- the pieces are read to the text's end, and these brackets are open in them
 pub record EndsList (limit : Limit) (outer : List Level) (openers : List ℕ) (pieces : List Piece) (text : List ℕ) : Type 0 where

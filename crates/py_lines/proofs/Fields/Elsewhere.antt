@@ -1,11 +1,10 @@
 -- A text that has no string with fields reads the same with them and without.
-use Rattle.py_lines.proofs.Prelude.{◌≡◌, ℕ, Bool, true, false, ◌||◌, ◌&&◌, List, [], ◌∷◌, ◌++◌, refl, sym, ap, ◌∙◌, subst, inl, inr, ⊎_elim, append_assoc, append-nil, and-true, cond_both, and_parts, and_right, or_parts, or_from, or_cases, both_ways, false_from_ne_true, list_any, arith}
+use Rattle.py_lines.proofs.Prelude.{◌≡◌, ℕ, Bool, true, false, ◌||◌, ◌&&◌, List, [], ◌∷◌, ◌++◌, refl, sym, ap, ◌∙◌, subst, inl, inr, ⊎_elim, append_assoc, append-nil, and-true, cond_both, and_parts, and_right, or_parts, or_from, or_cases, both_ways, false_from_ne_true, list_any, arith, IsBalancedReading}
 use Rattle.py_lines.specs.Character.{is_quote, is_r, is_f, is_t}
 use Rattle.py_lines.specs.Piece.{Class, word, string, Piece, begins, spelled}
 use Rattle.py_lines.specs.PieceGrammar.{is_prefix, IsNoneOr, InPlainClass, InClassIn, MayPrecedePlain, MayPrecedeIn, AreReadPlain, AreReadIn, ReadsPlain, ReadsIn, joined}
 use Rattle.py_lines.specs.Balance.{IsShallowPlain, depth_after}
 use Rattle.py_lines.specs.Fields.{Fields, fielded, IsShallowWith, ShallowFields}
-use Rattle.py_lines.specs.Reading.{IsBalancedReading}
 use Rattle.py_lines.specs.WithoutFields.{IsPlainReading}
 use Rattle.py_lines.specs.FieldStrings.{is_field_prefix, Host, quotes_of, IsFieldString, with_fields, may_have_fields}
 pub use Rattle.std.proofs.Math.Bool.{and-false as none_false}

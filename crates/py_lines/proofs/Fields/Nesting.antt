@@ -1,8 +1,6 @@
 -- A field whose own fields are fields is one: what holds of some number of them, one in another, holds of more.
-use Rattle.py_lines.proofs.Prelude.{◌≡◌, ℕ, zero, suc, ◌+◌, ◌<◌, ◌≤◌, Bool, List, [], ◌∷◌, ◌++◌, refl, inl, inr, arith}
-use Rattle.py_lines.specs.Piece.{Class, string, Piece}
+use Rattle.py_lines.proofs.Prelude.{◌≡◌, ℕ, zero, suc, ◌+◌, ◌<◌, ◌≤◌, Bool, List, [], ◌∷◌, ◌++◌, refl, inl, inr, arith, Class, string, Piece, depth_after}
 use Rattle.py_lines.specs.PieceGrammar.{joined, InClassIn, AreReadIn}
-use Rattle.py_lines.specs.Balance.{depth_after}
 use Rattle.py_lines.specs.Fields.{IsShallow, AreInside, IsSpecification, IsField, simple, specified, FieldsWithin, Fields, fielded, IsShallowWith, ShallowWithin, ShallowFields, AnyPieces}
 use Rattle.py_lines.specs.FieldStrings.{Host, Place, IsPart, bare, slash, escape, escaped_end, name, double, field, named_after, AreParts, with_fields}
 

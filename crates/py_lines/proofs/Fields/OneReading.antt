@@ -1,16 +1,13 @@
 -- A text has one reading with fields: the machine with fields goes over one piece, and then over no other.
-use Rattle.py_lines.proofs.Prelude.{◌≡◌, ℕ, true, false, Option, None, Some, List, [], ◌∷◌, ◌++◌, refl, sym, ap, ◌∙◌, subst, append_assoc, append-nil, arith, and_right, both_ways, false_from_ne_true, append_cancel_left, chars, chars-encodes}
-use Rattle.py_lines.specs.Character.{is_mark, is_operator}
-use Rattle.py_lines.specs.Piece.{Class, operator, Piece, spelled}
+use Rattle.py_lines.proofs.Prelude.{◌≡◌, ℕ, true, false, Option, None, Some, List, [], ◌∷◌, ◌++◌, refl, sym, ap, ◌∙◌, subst, append_assoc, append-nil, arith, and_right, both_ways, false_from_ne_true, append_cancel_left, chars, chars-encodes, is_mark, is_operator, Class, operator, Piece, spelled, IsBalancedReading, piece}
 use Rattle.py_lines.specs.PieceGrammar.{Grammar, InClassIn, MayPrecedeIn, AreReadIn, ReadsIn}
 use Rattle.py_lines.specs.LogicalLine.{LogicalLine, lines_of}
-use Rattle.py_lines.specs.Reading.{IsBalancedReading}
 use Rattle.py_lines.specs.Lexed.{IsLexedWhole}
 use Rattle.py_lines.specs.Fields.{ReadsText, Fields, fielded}
 use Rattle.py_lines.specs.FieldStrings.{Host, with_fields}
 use Rattle.py_lines.specs.Private.Machine.{start_of}
 use Rattle.py_lines.specs.Private.FieldMachine.{FieldScanned, field_state, field_text_start, field_started, field_moved, field_step, field_steps_from, field_pieces}
-use Rattle.py_lines.proofs.Pieces.PieceLists.{piece, spelled-append, AreReadIn-second}
+use Rattle.py_lines.proofs.Pieces.PieceLists.{spelled-append, AreReadIn-second}
 use Rattle.py_lines.proofs.Text.CharacterTests.{none_of}
 use Rattle.py_lines.proofs.Text.Decoding.{decoded}
 use Rattle.py_lines.proofs.Text.Splits.{Either, either}

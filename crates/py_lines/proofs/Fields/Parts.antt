@@ -1,7 +1,6 @@
 -- The parts of a string with fields, by their first characters: fields begin with `{` and hold more.
-use Rattle.py_lines.proofs.Prelude.{◌≡◌, ◌==◌, ℕ, zero, suc, Bool, true, false, not, ◌&&◌, List, [], ◌∷◌, ◌++◌, refl, sym, ap, ◌∙◌, subst, codes, and_parts, or_parts, both_ways, eqb-true, eq-eqb, not-true}
+use Rattle.py_lines.proofs.Prelude.{◌≡◌, ◌==◌, ℕ, zero, suc, Bool, true, false, not, ◌&&◌, List, [], ◌∷◌, ◌++◌, refl, sym, ap, ◌∙◌, subst, codes, and_parts, or_parts, both_ways, eqb-true, eq-eqb, not-true, Piece, begins, spelled}
 use Rattle.py_lines.specs.Character.{is_quote, is_return, is_backslash, is_brace, is_barred}
-use Rattle.py_lines.specs.Piece.{Piece, begins, spelled}
 use Rattle.py_lines.specs.PieceGrammar.{joined, Grammar}
 use Rattle.py_lines.specs.Fields.{IsField, simple, specified, FieldsWithin, Fields}
 use Rattle.py_lines.specs.FieldStrings.{Host, Place, literal, specification, is_ordinary, names, IsPart, bare, slash, escape, escaped_end, name, double, field}

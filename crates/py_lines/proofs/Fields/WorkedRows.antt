@@ -1,10 +1,9 @@
 -- Strings with fields: rows worked out by hand, of which the machine with fields says what they are. Two hundred fields may be open
 -- one in another, and no more.
-use Rattle.py_lines.proofs.Prelude.{◌≡◌, ℕ, Bool, true, false, ◌&&◌, Option, None, Some, List, [], ◌∷◌, ◌++◌, map, refl, sym, ap, ◌∙◌, inl, inr, append-nil, zero, suc, codes, list_all, and_parts, both_ways}
+use Rattle.py_lines.proofs.Prelude.{◌≡◌, ℕ, Bool, true, false, ◌&&◌, Option, None, Some, List, [], ◌∷◌, ◌++◌, map, refl, sym, ap, ◌∙◌, inl, inr, append-nil, zero, suc, codes, list_all, and_parts, both_ways, IsBalancedReading}
 use Rattle.py_lines.specs.Piece.{Class, space, string, Piece}
 use Rattle.py_lines.specs.PieceGrammar.{InClassIn, ReadsIn}
 use Rattle.py_lines.specs.Fields.{Fields, fielded, ShallowFields}
-use Rattle.py_lines.specs.Reading.{IsBalancedReading}
 use Rattle.py_lines.specs.FieldStrings.{is_field_prefix, Host, IsFieldString, with_fields}
 use Rattle.py_lines.specs.Private.FieldMachine.{Level, FieldScanned, field_state, field_fresh, field_text_start, field_pieces, field_steps_from, have_room}
 use Rattle.py_lines.proofs.Fields.Prefixes.{plain_quotes, before_quote, before_first}

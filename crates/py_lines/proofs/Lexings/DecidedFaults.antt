@@ -1,14 +1,10 @@
 -- A fault that the known bytes of a text decide is that of every text that begins with them.
-use Rattle.py_lines.proofs.Prelude.{◌≡◌, ℕ, ◌≤◌, Option, None, Some, List, [], ◌∷◌, ◌++◌, length, sym, ap, ◌∙◌, subst, ⊎_elim, inl, inr, append_assoc, encode_utf8_all, StartsWithNoChar}
-use Rattle.py_lines.specs.Piece.{Piece, spelled}
-use Rattle.py_lines.specs.LogicalLine.{LogicalLine}
+use Rattle.py_lines.proofs.Prelude.{◌≡◌, ℕ, ◌≤◌, Option, None, Some, List, [], ◌∷◌, ◌++◌, length, sym, ap, ◌∙◌, subst, ⊎_elim, inl, inr, append_assoc, encode_utf8_all, StartsWithNoChar, Piece, spelled, LogicalLine, FaultKind, Fault}
 use Rattle.py_lines.specs.Reading.{Decodes, IsBalancedReading, EndsLine, IsReadPrefix}
 use Rattle.py_lines.specs.Faults.{IsLive, IsCharacterFault, IsLexicalFault, at_character, at_bytes}
 use Rattle.py_lines.specs.Lexed.{IsLexed}
 use Rattle.py_lines.specs.Settled.{Decides}
-use Rattle.py_lines.specs.declared.fault.FaultKind.{FaultKind}
 use Rattle.py_lines.specs.declared.fault.FaultKind.TheVariants as faults
-use Rattle.py_lines.specs.declared.fault.Fault.{Fault}
 use Rattle.py_lines.proofs.Text.Utf8Prefixes.{goes_on}
 use Rattle.py_lines.proofs.Text.Decoding.{decoding, decoded}
 use Rattle.py_lines.proofs.Text.Splits.{Either, either}

@@ -1,14 +1,8 @@
 -- Every text is read, or has a lexical fault.
-use Rattle.py_lines.proofs.Prelude.{◌≡◌, ℕ, ◌+◌, true, false, Option, None, Some, List, [], ◌∷◌, ◌++◌, ◌⊎◌, inl, inr, refl, sym, ap, ◌∙◌, subst, ⊎_elim, append_assoc, append-nil, cases_Bool, and_from}
-use Rattle.py_lines.specs.Piece.{Piece}
+use Rattle.py_lines.proofs.Prelude.{◌≡◌, ℕ, ◌+◌, true, false, Option, None, Some, List, [], ◌∷◌, ◌++◌, ◌⊎◌, inl, inr, refl, sym, ap, ◌∙◌, subst, ⊎_elim, append_assoc, append-nil, cases_Bool, and_from, Piece, byte_len, line_ends, FaultKind, Fault, IsBalancedReading, AreFirstLines}
 use Rattle.py_lines.specs.Balance as brackets
-use Rattle.py_lines.specs.LogicalLine.{byte_len, line_ends}
-use Rattle.py_lines.specs.Reading.{IsBalancedReading}
 use Rattle.py_lines.specs.Faults.{IsLive, IsCharacterFault, IsFaultAt, at_character, at_bytes, at_end, IsReadOrFaulty, IsLexicalFault}
-use Rattle.py_lines.specs.Given.{AreFirstLines}
 use Rattle.py_lines.specs.declared.fault.FaultKind.TheVariants as faults
-use Rattle.py_lines.specs.declared.fault.FaultKind.{FaultKind}
-use Rattle.py_lines.specs.declared.fault.Fault.{Fault}
 use Rattle.py_lines.specs.Private.FieldMachine.{FieldScanned, field_text_start, field_steps_from, field_step, field_pieces, has_room, have_room}
 use Rattle.py_lines.proofs.Text.Decoding.{decoding}
 use Rattle.py_lines.proofs.LogicalLines.Cuts.{same_place}

@@ -1,22 +1,16 @@
 -- The first lines of a text, which a reader has given, and those that its known bytes settle: they begin the lexing of the whole text, and
 -- of every text that goes on. Of two lists of them, the one of no more bytes begins the other; settled lines are among first lines.
-use Rattle.py_lines.proofs.Prelude.{◌≡◌, ℕ, ◌+◌, ◌≤◌, Bool, true, false, List, [], ◌∷◌, ◌++◌, ◌&&◌, inl, inr, length, refl, sym, ap, ◌∙◌, subst, ⊎_elim, append_assoc, append-nil, length-append, arith, Option, None, Some, ◌⊎◌, add-zero, ◌<◌, take, drop, encode_utf8_all, StartsWithNoChar, all_scalars, both_ways, false_from_ne_true, append_cancel_left, nil_from_length, take-append-drop, length-take, encodes-append, length-le-encodes, encode_ascii}
-use Rattle.py_lines.specs.Character.{is_return, is_line_feed}
-use Rattle.py_lines.specs.Piece.{begins, line_end, Piece, ends, spelled, Class}
+use Rattle.py_lines.proofs.Prelude.{◌≡◌, ℕ, ◌+◌, ◌≤◌, Bool, true, false, List, [], ◌∷◌, ◌++◌, ◌&&◌, inl, inr, length, refl, sym, ap, ◌∙◌, subst, ⊎_elim, append_assoc, append-nil, length-append, arith, Option, None, Some, ◌⊎◌, add-zero, ◌<◌, take, drop, encode_utf8_all, StartsWithNoChar, all_scalars, both_ways, false_from_ne_true, append_cancel_left, nil_from_length, take-append-drop, length-take, encodes-append, length-le-encodes, encode_ascii, is_return, is_line_feed, begins, line_end, Piece, ends, spelled, Class, depth_through, Fault, EndsLine, IsBalancedReading, Decodes, AreFirstLines, piece, byte_len-append}
 use Rattle.py_lines.specs.PieceGrammar.{IsLineEnd}
 use Rattle.py_lines.specs.Balance as balance
-use Rattle.py_lines.specs.Balance.{depth_through}
 use Rattle.py_lines.specs.Fields.{InClass, fielded, AreReadBefore, Fields}
-use Rattle.py_lines.specs.Reading.{EndsLine, IsBalancedReading, Decodes}
 use Rattle.py_lines.specs.Settled.{EndsForGood, IsSettledPrefix, IsSettled}
-use Rattle.py_lines.specs.Given.{AreFirstLines}
 use Rattle.py_lines.specs.LogicalLine.{LogicalLine, byte_len, line_ends, lines_of}
 use Rattle.py_lines.specs.Lexed.{IsLexed, BeginsLexing}
 use Rattle.py_lines.specs.Reader.{Reader, HasGiven, standing_at}
-use Rattle.py_lines.specs.declared.fault.Fault.{Fault}
 use Rattle.py_lines.proofs.Text.Utf8Prefixes.{IsContinued, goes_on, all_scalars-parts}
 use Rattle.py_lines.proofs.Text.Decoding.{decoding, decoded}
-use Rattle.py_lines.proofs.Pieces.PieceLists.{piece, spelled-append, spelled-push}
+use Rattle.py_lines.proofs.Pieces.PieceLists.{spelled-append, spelled-push}
 use Rattle.py_lines.proofs.Pieces.ShallowPieces.{IsShallow-parts}
 use Rattle.py_lines.proofs.FieldSoundness.OpenLists.{balanced_first}
 use Rattle.py_lines.proofs.LogicalLines.NextLine.{lines_of-more, line_ends-spelled}
@@ -26,7 +20,7 @@ use Rattle.py_lines.proofs.FieldSoundness.WholeTexts.{shallow-push}
 use Rattle.py_lines.proofs.Lexings.LineEnds.{ends-append, ends-last, feed_unreturned, returned_text, fed_line, line_end_of, read_on, none_both, ended_reading}
 use Rattle.py_lines.proofs.Text.Splits.{Either, either}
 use Rattle.py_lines.proofs.Text.CharacterTests.{feed_is}
-use Rattle.py_lines.proofs.LogicalLines.Cuts.{byte_len-append, line_ends-pieces}
+use Rattle.py_lines.proofs.LogicalLines.Cuts.{line_ends-pieces}
 use Rattle.py_lines.proofs.Lexings.Prefixes.{some_lexing_of}
 
 -- the same pieces, with LF after the CR at their end, are a reading of their own

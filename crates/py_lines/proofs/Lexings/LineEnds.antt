@@ -1,15 +1,12 @@
 -- Pieces that end a line: what they are read before, how deep they are, and how long.
-use Rattle.py_lines.proofs.Prelude.{◌≡◌, ℕ, ◌+◌, List, [], ◌∷◌, ◌++◌, length, refl, sym, ap, ◌∙◌, subst, inl, inr, length-append, Bool, true, false, ◌&&◌, append-nil, both_ways, and_right, and_from, eq-eqb, arith}
+use Rattle.py_lines.proofs.Prelude.{◌≡◌, ℕ, ◌+◌, List, [], ◌∷◌, ◌++◌, length, refl, sym, ap, ◌∙◌, subst, inl, inr, length-append, Bool, true, false, ◌&&◌, append-nil, both_ways, and_right, and_from, eq-eqb, arith, IsBalanced, depth_after, depth_through, is_return, is_line_feed, EndsLine, IsBalancedReading, piece}
 use Rattle.py_lines.specs.Piece.{line_end, Piece, spelled, ends, begins, is_mark_class}
-use Rattle.py_lines.specs.Balance.{IsBalanced, depth_after, depth_through}
 use Rattle.py_lines.specs.Fields.{fielded, InClass, AreReadBefore, IsShallow}
-use Rattle.py_lines.specs.Reading.{EndsLine, IsBalancedReading}
 use Rattle.py_lines.specs.LogicalLine.{is_line_end_class}
 use Rattle.py_lines.specs.Private.LineScan.{EndsNoLine}
-use Rattle.py_lines.proofs.Pieces.PieceLists.{piece, spelled-append, AreReadIn-append, AreReadIn-first, AreReadIn-second, follows_any}
+use Rattle.py_lines.proofs.Pieces.PieceLists.{spelled-append, AreReadIn-append, AreReadIn-first, AreReadIn-second, follows_any}
 use Rattle.py_lines.proofs.Pieces.OpenBrackets.{depth_through-append}
 use Rattle.py_lines.proofs.LogicalLines.Cuts.{line_depth}
-use Rattle.py_lines.specs.Character.{is_return, is_line_feed}
 use Rattle.py_lines.specs.PieceGrammar.{Grammar, InClassIn, IsLineEnd, feed, return_feed, return, MayPrecedeIn, AreReadIn}
 use Rattle.py_lines.proofs.Fields.OneReading.{read_before, read_nothing}
 

@@ -1,24 +1,19 @@
 -- The prefix of a text that isn't read, with what a reader answers there, and what a text's known bytes settle: the pieces up to the last
 -- line end outside brackets that the machine has found.
-use Rattle.py_lines.proofs.Prelude.{false, ◌≡◌, ℕ, ◌+◌, ◌≤◌, Some, List, [], ◌∷◌, ◌++◌, length, refl, sym, ap, ◌∙◌, subst, inl, inr, append_assoc, append-nil, length-append, arith, ◌⊎◌, true, same_from_push, append_cancel_left, both_ways, cond_both}
-use Rattle.py_lines.specs.Character.{is_line_feed, is_return}
-use Rattle.py_lines.specs.Piece.{string, line_end, Piece, spelled, ends}
+use Rattle.py_lines.proofs.Prelude.{false, ◌≡◌, ℕ, ◌+◌, ◌≤◌, Some, List, [], ◌∷◌, ◌++◌, length, refl, sym, ap, ◌∙◌, subst, inl, inr, append_assoc, append-nil, length-append, arith, ◌⊎◌, true, same_from_push, append_cancel_left, both_ways, cond_both, is_line_feed, is_return, string, line_end, Piece, spelled, ends, depth_through, Fault, InClass, AreReadBefore, piece}
 use Rattle.py_lines.specs.LogicalLine.{is_line_end_class, lines_of, byte_len}
-use Rattle.py_lines.specs.Balance.{depth_through}
 use Rattle.py_lines.specs.Reading.{IsBalancedReading, EndsLine, IsReadPrefix, Decodes}
 use Rattle.py_lines.specs.Faults.{IsLive, IsCharacterFault, IsEndFault, IsFaultAt, at_character, at_bytes, at_end}
 use Rattle.py_lines.specs.PieceGrammar.{IsLineEnd, feed, return_feed, return}
-use Rattle.py_lines.specs.Fields.{InClass, AreReadBefore}
 use Rattle.py_lines.specs.Settled.{EndsForGood, IsSettledPrefix}
 use Rattle.py_lines.specs.Lexed.{IsLexedToFault}
 use Rattle.py_lines.specs.Private.Mode as modes
 use Rattle.py_lines.specs.Private.Machine.{Move, class_of, move_of}
 use Rattle.py_lines.specs.declared.fault.FaultKind.TheVariants as faults
-use Rattle.py_lines.specs.declared.fault.Fault.{Fault}
 use Rattle.py_lines.specs.Private.LineScan.{EndsNoLine}
 use Rattle.py_lines.specs.Private.FieldMachine.{FieldMode, plain, plain_move, Level, FieldScanned, field_state, field_fresh, field_text_start, field_closed, field_move, field_moved, field_steps_from}
 use Rattle.py_lines.proofs.Text.Splits.{Either, either}
-use Rattle.py_lines.proofs.Pieces.PieceLists.{piece, spelled-append, spelled-push, AreReadBefore-second}
+use Rattle.py_lines.proofs.Pieces.PieceLists.{spelled-append, spelled-push, AreReadBefore-second}
 use Rattle.py_lines.proofs.Pieces.OpenBrackets.{depth_through-append}
 use Rattle.py_lines.proofs.Machine.PieceSteps.{some_is}
 use Rattle.py_lines.proofs.FieldMachine.Completeness.{reading_reached}

@@ -1,10 +1,7 @@
 -- Whole lines before pieces: together they are read exactly if each is.
-use Rattle.py_lines.proofs.Prelude.{◌≡◌, ℕ, false, ◌&&◌, List, [], ◌∷◌, ◌++◌, refl, sym, ap, ◌∙◌, subst, inl, inr, append-nil}
-use Rattle.py_lines.specs.Character.{is_line_feed, is_return}
-use Rattle.py_lines.specs.Piece.{Piece, begins, ends, begins_marked, spelled}
+use Rattle.py_lines.proofs.Prelude.{◌≡◌, ℕ, false, ◌&&◌, List, [], ◌∷◌, ◌++◌, refl, sym, ap, ◌∙◌, subst, inl, inr, append-nil, is_line_feed, is_return, Piece, begins, ends, begins_marked, spelled, IsBalancedReading, EndsLine}
 use Rattle.py_lines.specs.Balance.{IsBalanced as balance}
 use Rattle.py_lines.specs.Fields.{fielded, AreReadBefore, IsShallow}
-use Rattle.py_lines.specs.Reading.{IsBalancedReading, EndsLine}
 use Rattle.py_lines.specs.Neighbours.{MayFollowLines}
 use Rattle.py_lines.proofs.Pieces.PieceLists.{MayFollow, AreReadIn-append, AreReadBefore-first, AreReadBefore-second}
 use Rattle.py_lines.proofs.FieldSoundness.OpenLists.{balanced_first, balanced_second}

@@ -1,7 +1,5 @@
 -- What the machine with fields has found of the outermost list of a text: these pieces spell what was read, and finished ones stay.
-use Rattle.py_lines.proofs.Prelude.{◌≡◌, ℕ, Some, List, [], ◌∷◌, ◌++◌, ap, ◌∙◌, append-nil, append_assoc, false, arith}
-use Rattle.py_lines.specs.Piece.{string, Piece, spelled}
-use Rattle.py_lines.specs.FieldStrings.{Host, Place}
+use Rattle.py_lines.proofs.Prelude.{◌≡◌, ℕ, Some, List, [], ◌∷◌, ◌++◌, ap, ◌∙◌, append-nil, append_assoc, false, arith, string, Piece, spelled, Host, Place}
 use Rattle.py_lines.specs.Private.FieldMachine.{between, FieldMode, body, Level, FieldScanned, field_state, field_closed, field_steps_from}
 use Rattle.py_lines.proofs.Pieces.PieceLists.{spelled-push}
 use Rattle.py_lines.proofs.FieldSoundness.Holds.{Limit, HoldsMode, IsFieldSound}

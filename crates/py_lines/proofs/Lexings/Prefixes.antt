@@ -1,16 +1,12 @@
 -- The longest prefix of a text that is read and ends a line: there is one, and no other. So every text has one list of logical lines, and
 -- then its end or one fault.
-use Rattle.py_lines.proofs.Prelude.{◌≡◌, ℕ, ◌≤◌, ◌<◌, true, false, ◌==◌, Option, None, Some, List, [], ◌∷◌, ◌++◌, ◌⊎◌, inl, inr, length, take, drop, zero, suc, refl, sym, ap, ◌∙◌, subst, ⊎_elim, take-append-drop, length-append, arith, same_from_push, length-take, take-append_seam, drop-append_seam, both_ways, cases_Bool, cases_lt, eqb-true, eq-eqb}
-use Rattle.py_lines.specs.Character.{is_return}
-use Rattle.py_lines.specs.Piece.{Class, line_end, Piece, ends, spelled}
+use Rattle.py_lines.proofs.Prelude.{◌≡◌, ℕ, ◌≤◌, ◌<◌, true, false, ◌==◌, Option, None, Some, List, [], ◌∷◌, ◌++◌, ◌⊎◌, inl, inr, length, take, drop, zero, suc, refl, sym, ap, ◌∙◌, subst, ⊎_elim, take-append-drop, length-append, arith, same_from_push, length-take, take-append_seam, drop-append_seam, both_ways, cases_Bool, cases_lt, eqb-true, eq-eqb, is_return, Class, line_end, Piece, ends, spelled, depth_through, Fault}
 use Rattle.py_lines.specs.Balance as balance
-use Rattle.py_lines.specs.Balance.{depth_through}
 use Rattle.py_lines.specs.Reading.{Decodes, EndsLine, IsLongest, IsReadPrefix, IsBalancedReading}
 use Rattle.py_lines.specs.Settled.{EndsForGood, IsSettled, IsSettledPrefix}
 use Rattle.py_lines.specs.Faults.{IsReadOrFaulty, IsLexicalFault}
 use Rattle.py_lines.specs.Lexed.{IsLexed, IsLexedWhole, IsLexedToFault}
 use Rattle.py_lines.specs.LogicalLine.{LogicalLine, lines_of}
-use Rattle.py_lines.specs.declared.fault.Fault.{Fault}
 use Rattle.py_lines.proofs.Text.Decoding.{decoding, decoded}
 use Rattle.py_lines.proofs.Fields.OneReading.{one_fielded_reading, one_fielded_lexing}
 use Rattle.py_lines.proofs.Lexings.Existence.{fault_unread, read_or_faulty, with_line}

@@ -1,12 +1,11 @@
 -- What a character begins, by the class of its first byte.
-use Rattle.py_lines.proofs.Prelude.{◌≡◌, ◌⊎◌, ℕ, ◌<◌, ◌≤◌, true, false, List, [], ◌∷◌, ◌++◌, slice_index, refl, ap, sym, ◌∙◌, arith, if◌then◌else◌, ⊎_elim, codes, nat_le, nat_lt, list_any, and_parts, cases_lt, le-leb, leb-true, ltb-true, nat_tests, byte_from_char, char_from_byte, len_utf8_bounds}
+use Rattle.py_lines.proofs.Prelude.{◌≡◌, ◌⊎◌, ℕ, ◌<◌, ◌≤◌, true, false, List, [], ◌∷◌, ◌++◌, slice_index, refl, ap, sym, ◌∙◌, arith, if◌then◌else◌, ⊎_elim, codes, nat_le, nat_lt, list_any, and_parts, cases_lt, le-leb, leb-true, ltb-true, nat_tests, byte_from_char, char_from_byte, len_utf8_bounds, BeginsWith}
 use Rattle.unicode_ident.specs.Ident.{is_xid_start}
 use Rattle.py_lines.specs.Character.{is_backslash, is_b, is_break, is_digit, is_f, is_hash, is_line_feed, is_one_of, is_operator, is_quote, is_r, is_return, is_space, is_t, is_u, is_word_start}
 use Rattle.py_lines.specs.declared.class.Class.{Class}
 use Rattle.py_lines.specs.declared.class.Class.TheVariants as class
 use Rattle.py_lines.specs.Private.Machine.{Mode, Spelling, Start, first_spelling, start_of}
 use Rattle.py_lines.specs.Private.Marks.{begins_nothing, is_of_class, is_plain}
-use Rattle.py_lines.specs.Private.Run.{BeginsWith}
 use Rattle.py_lines.proofs.FieldMachine.PieceRuns.{opening_operator}
 use Rattle.py_lines.proofs.LineScan.AsciiRuns.{word_byte_low, word_byte_starts}
 use Rattle.py_lines.proofs.Machine.LiveTexts.{closing-operator}

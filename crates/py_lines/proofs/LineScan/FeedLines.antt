@@ -1,8 +1,5 @@
 -- Lines that end with LF are passed, up to another byte that isn't plain.
-use Rattle.py_lines.proofs.Prelude.{◌⊎◌, ◌≡◌, ℕ, suc, ◌+◌, ◌-◌, ◌<◌, ◌≤◌, ◌==◌, false, inl, inr, List, [], ◌∷◌, ◌++◌, length, take, drop, slice_index, refl, sym, ap, ◌∙◌, subst, arith, length-drop, get_or-drop, transport, ne_eqb}
-use Rattle.py_lines.specs.declared.frames.Frame.{Frame}
-use Rattle.py_lines.specs.declared.passing.Passing.{Passing}
-use Rattle.py_lines.specs.declared.scan.Scan.{Scan}
+use Rattle.py_lines.proofs.Prelude.{◌⊎◌, ◌≡◌, ℕ, suc, ◌+◌, ◌-◌, ◌<◌, ◌≤◌, ◌==◌, false, inl, inr, List, [], ◌∷◌, ◌++◌, length, take, drop, slice_index, refl, sym, ap, ◌∙◌, subst, arith, length-drop, get_or-drop, transport, ne_eqb, Frame, Passing, Scan}
 use Rattle.py_lines.specs.Private.LineEnds.{BeginsOuterEnd}
 use Rattle.py_lines.specs.Private.Marks.{ArePlain, EndInFeed, is_plain}
 use Rattle.py_lines.specs.Private.Passing.{EndsAfter, FindsSpecial, IsCounted, lines_with}

@@ -1,7 +1,5 @@
 -- What one more piece does to the line, and how many line ends characters have.
-use Rattle.py_lines.proofs.Prelude.{◌≡◌, ℕ, ◌≤◌, false, ◌&&◌, ◌==◌, List, [], ◌∷◌, ◌++◌, length, take, arith, length-take, cond_both, length-le-encodes}
-use Rattle.py_lines.specs.Piece.{Piece}
-use Rattle.py_lines.specs.Balance.{depth_after, depth_through}
+use Rattle.py_lines.proofs.Prelude.{◌≡◌, ℕ, ◌≤◌, false, ◌&&◌, ◌==◌, List, [], ◌∷◌, ◌++◌, length, take, arith, length-take, cond_both, length-le-encodes, Piece, depth_after, depth_through}
 use Rattle.py_lines.specs.LogicalLine.{is_line_end_class, ends_line, line_ends, byte_len}
 use Rattle.py_lines.specs.Private.LineScan.{EndsNoLine}
 

@@ -1,8 +1,6 @@
 -- The scan of a line's characters, one after another: where it has come, the machine has, and where the line ends with one.
-use Rattle.py_lines.proofs.Prelude.{◌≡◌, ℕ, ◌<◌, true, false, ◌&&◌, ◌==◌, List, [], ◌∷◌, ◌++◌, length, refl, sym, ap, ◌∙◌, arith, lit<, ◌+◌, inl, inr, ◌⊎◌, Option, None, Some, subst, append-nil, append_assoc, both_ways, and_parts, and_right, eqb-true, false_from_ne_true, encode_ascii, encodes_same, encode_utf8_all, and-true, nil_from_length, same_from_push}
-use Rattle.py_lines.specs.Character.{is_line_feed, is_mark, is_return}
+use Rattle.py_lines.proofs.Prelude.{◌≡◌, ℕ, ◌<◌, true, false, ◌&&◌, ◌==◌, List, [], ◌∷◌, ◌++◌, length, refl, sym, ap, ◌∙◌, arith, lit<, ◌+◌, inl, inr, ◌⊎◌, Option, None, Some, subst, append-nil, append_assoc, both_ways, and_parts, and_right, eqb-true, false_from_ne_true, encode_ascii, encodes_same, encode_utf8_all, and-true, nil_from_length, same_from_push, is_line_feed, is_mark, is_return, depth_through, Scan, piece, byte_len-append}
 use Rattle.py_lines.specs.Piece.{Piece, Class, mark, line_end, operator, begins, begins_marked, ends, is_mark_class, spelled}
-use Rattle.py_lines.specs.Balance.{depth_through}
 use Rattle.py_lines.specs.LogicalLine.{is_line_end_class, byte_len}
 use Rattle.py_lines.specs.Private.Machine.{move_of, Mode, Start, start_of, Start as starts}
 use Rattle.py_lines.specs.Private.Mode as modes
@@ -10,14 +8,13 @@ use Rattle.py_lines.specs.Private.FieldMachine.{FieldMode, breaks, closes, field
 use Rattle.py_lines.specs.Private.LineScan.{EndsNoLine, EndsWhole, HasBegun, IsAtLineEnd, IsLineBefore, IsUnderWay, Reached, begins_line, first_open, line_begun}
 use Rattle.py_lines.specs.Private.Scan.{is_line_ending, is_return_at, EndsWithFeed, EndsWithReturn, Follows, Goes, Rests, ends_line, has_returned, opened_at}
 use Rattle.py_lines.proofs.Pieces.OpenBrackets.{depth_through-append}
-use Rattle.py_lines.proofs.Pieces.PieceLists.{piece, AreReadBefore-first, AreReadIn-push, follows_any, spelled-push}
+use Rattle.py_lines.proofs.Pieces.PieceLists.{AreReadBefore-first, AreReadIn-push, follows_any, spelled-push}
 use Rattle.py_lines.proofs.Text.CharacterTests.{feed_is, return_is}
-use Rattle.py_lines.proofs.LogicalLines.Cuts.{byte_len-append, ends-last, uncut}
+use Rattle.py_lines.proofs.LogicalLines.Cuts.{ends-last, uncut}
 use Rattle.py_lines.proofs.LineScan.LineCount.{EndsNoLine-push}
 use Rattle.py_lines.specs.Fields.{AreReadBefore, InClass, fielded}
 use Rattle.py_lines.specs.PieceGrammar.{IsLineEnd, feed, return, return_feed}
 use Rattle.py_lines.specs.Private.FieldFaults.{here}
-use Rattle.py_lines.specs.declared.scan.Scan.{Scan}
 use Rattle.py_lines.proofs.FieldMachine.OuterLists.{OuterStep, outer_done, outer_list, outer_steps}
 use Rattle.py_lines.proofs.FieldMachine.WholeRuns.{RunsFrom, begun_field, goes_runs, roomy_parts, runs_both, runs_on, runs_one}
 use Rattle.py_lines.proofs.FieldScans.Taking.{rests_exact, rests_stop}

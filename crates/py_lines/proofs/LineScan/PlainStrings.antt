@@ -1,7 +1,6 @@
 -- Strings between single quotes that bytes hold whole, and their text: of ASCII.
-use Rattle.py_lines.proofs.Prelude.{◌≡◌, ℕ, suc, ◌+◌, ◌-◌, ◌<◌, ◌≤◌, true, List, [], ◌∷◌, ◌++◌, length, take, drop, slice_index, refl, sym, ap, ◌∙◌, subst, arith, length-append, take_all, list_all, and_from, and_parts, nat_tests, list_all-append, length-take-le, take-append-drop, drop-cons}
+use Rattle.py_lines.proofs.Prelude.{◌≡◌, ℕ, suc, ◌+◌, ◌-◌, ◌<◌, ◌≤◌, true, List, [], ◌∷◌, ◌++◌, length, take, drop, slice_index, refl, sym, ap, ◌∙◌, subst, arith, length-append, take_all, list_all, and_from, and_parts, nat_tests, list_all-append, length-take-le, take-append-drop, drop-cons, begins}
 use Rattle.py_lines.specs.Character.{is_backslash, is_barred, is_break, is_quote}
-use Rattle.py_lines.specs.Piece.{begins}
 use Rattle.py_lines.specs.PieceGrammar.{is_short_item}
 use Rattle.py_lines.specs.Private.Run.{IsRunOf, IsShortText, is_body_byte, is_line_byte, is_text_byte, IsWholePlainString}
 use Rattle.py_lines.proofs.LineScan.AsciiRuns.{all_pass, full_take}

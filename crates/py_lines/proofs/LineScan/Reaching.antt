@@ -1,9 +1,6 @@
 -- What is taken from a line's bytes, in one step or several: the scan of each line that stood before them has come beyond them.
-use Rattle.py_lines.proofs.Prelude.{◌≡◌, ℕ, ◌+◌, ◌<◌, ◌≤◌, List, [], ◌∷◌, ◌++◌, length, drop, true, inl, inr, ◌⊎◌, ⊎_elim, refl, sym, ap, ◌∙◌, subst, arith, append_assoc, length-append, encode_utf8_all, all_scalars, encodes-append}
-use Rattle.py_lines.specs.Character.{is_return}
-use Rattle.py_lines.specs.Piece.{ends}
+use Rattle.py_lines.proofs.Prelude.{◌≡◌, ℕ, ◌+◌, ◌<◌, ◌≤◌, List, [], ◌∷◌, ◌++◌, length, drop, true, inl, inr, ◌⊎◌, ⊎_elim, refl, sym, ap, ◌∙◌, subst, arith, append_assoc, length-append, encode_utf8_all, all_scalars, encodes-append, is_return, ends, Scan, byte_len-append}
 use Rattle.py_lines.specs.declared.scan.Progress.TheVariants as progress
-use Rattle.py_lines.specs.declared.scan.Scan.{Scan}
 use Rattle.py_lines.specs.declared.scan.Stop.{Stop}
 use Rattle.py_lines.specs.declared.scan.Stop.TheVariants as stops
 use Rattle.py_lines.specs.Private.Machine.{Mode}
@@ -13,7 +10,7 @@ use Rattle.py_lines.specs.Private.Passing.{EndsAfter}
 use Rattle.py_lines.specs.Private.Scan.{ComesOver, ComesTo, EndsWithFeed, EndsWithReturn, Goes, HoldsRun, Rests, StandsAs, Takes}
 use Rattle.py_lines.proofs.Text.Utf8Prefixes.{all_scalars-append}
 use Rattle.py_lines.proofs.Lexings.LineEnds.{feed_unreturned}
-use Rattle.py_lines.proofs.LogicalLines.Cuts.{byte_len-append, ends-last}
+use Rattle.py_lines.proofs.LogicalLines.Cuts.{ends-last}
 use Rattle.py_lines.proofs.FieldScans.Taking.{comes_real, follows_open, goes_real, stands_open}
 use Rattle.py_lines.proofs.LineScan.AsciiRuns.{is_low, low_encodes, low_is}
 use Rattle.py_lines.proofs.LineScan.LineSteps.{line_fed, line_returned, rests_end, way_on}

@@ -1,7 +1,5 @@
 -- Characters whose bytes leave the open piece as it is.
-use Rattle.py_lines.proofs.Prelude.{take, ◌≡◌, ℕ, ◌+◌, ◌<◌, ◌≤◌, true, false, ◌==◌, List, [], ◌∷◌, ◌++◌, length, slice_index, refl, sym, subst, arith, ⊎_elim, length-append, encode_utf8_all, encode_utf8, list_all, nat_tests, and_from, cases_lt, get_or-append-add, get_or-take, length-take-le, length-encode, len_utf8_bounds, char_from_byte, byte_from_char}
-use Rattle.py_lines.specs.Character.{is_break, is_backslash, is_quote, is_space}
-use Rattle.py_lines.specs.declared.mode.Mode.{Mode as OpenMode}
+use Rattle.py_lines.proofs.Prelude.{take, ◌≡◌, ℕ, ◌+◌, ◌<◌, ◌≤◌, true, false, ◌==◌, List, [], ◌∷◌, ◌++◌, length, slice_index, refl, sym, subst, arith, ⊎_elim, length-append, encode_utf8_all, encode_utf8, list_all, nat_tests, and_from, cases_lt, get_or-append-add, get_or-take, length-take-le, length-encode, len_utf8_bounds, char_from_byte, byte_from_char, is_break, is_backslash, is_quote, is_space, OpenMode}
 use Rattle.py_lines.specs.declared.mode.Mode.TheVariants as opens
 use Rattle.py_lines.specs.Private.Scan.{HasQuote}
 use Rattle.py_lines.specs.Private.Run.{is_ascii_word, is_body_byte, stays}

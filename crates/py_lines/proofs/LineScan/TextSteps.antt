@@ -1,16 +1,10 @@
 -- The pieces before a line of a text, and what the line begins in.
-use Rattle.py_lines.proofs.Prelude.{◌≡◌, ℕ, zero, suc, ◌+◌, ◌<◌, true, false, List, [], ◌∷◌, ◌++◌, length, refl, sym, ap, ◌∙◌, subst, inl, inr, append-nil, arith, length-le-encodes}
-use Rattle.py_lines.specs.Piece.{line_end, Piece, begins_marked, spelled}
-use Rattle.py_lines.specs.Fields.{AreReadBefore}
-use Rattle.py_lines.specs.Reading.{EndsLine}
-use Rattle.py_lines.specs.LogicalLine.{byte_len}
+use Rattle.py_lines.proofs.Prelude.{◌≡◌, ℕ, zero, suc, ◌+◌, ◌<◌, true, false, List, [], ◌∷◌, ◌++◌, length, refl, sym, ap, ◌∙◌, subst, inl, inr, append-nil, arith, length-le-encodes, line_end, Piece, begins_marked, spelled, byte_len, AreReadBefore, EndsLine, first_mode, byte_len-append}
 use Rattle.py_lines.specs.Private.Mode as modes
 use Rattle.py_lines.specs.Private.LineScan.{begins_line}
-use Rattle.py_lines.specs.Private.LineState.{first_mode}
 use Rattle.py_lines.proofs.Pieces.PieceLists.{MayFollow, AreReadBefore-second, spelled-append}
 use Rattle.py_lines.proofs.FieldMachine.Runs.{MayBegin}
 use Rattle.py_lines.proofs.Lexings.LineEnds.{line_first}
-use Rattle.py_lines.proofs.LogicalLines.Cuts.{byte_len-append}
 
 pub begun_sound : (n : ℕ) → begins_line (first_mode n) ≡ true
 begun_sound zero = refl

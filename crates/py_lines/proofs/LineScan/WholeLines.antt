@@ -1,9 +1,5 @@
 -- Logical lines follow one another.
-use Rattle.py_lines.proofs.Prelude.{◌≡◌, ◌⊎◌, inl, inr, ℕ, ◌+◌, ◌-◌, ◌<◌, ◌≤◌, ◌&&◌, false, List, [], ◌∷◌, ◌++◌, length, take, drop, refl, sym, ap, ◌∙◌, subst, arith, append-nil, append_assoc, length-append, length-drop, encode_utf8_all, transport, take-add, and_parts, false_from_ne_true, drop_at, drop-drop, take-append-drop, take_at, take_rest, encodes-append, length-le-encodes}
-use Rattle.py_lines.specs.Character.{is_line_feed, is_return}
-use Rattle.py_lines.specs.LogicalLine.{line_ends}
-use Rattle.py_lines.specs.Piece.{begins, ends, spelled}
-use Rattle.py_lines.specs.Private.Frames.{has_field}
+use Rattle.py_lines.proofs.Prelude.{◌≡◌, ◌⊎◌, inl, inr, ℕ, ◌+◌, ◌-◌, ◌<◌, ◌≤◌, ◌&&◌, false, List, [], ◌∷◌, ◌++◌, length, take, drop, refl, sym, ap, ◌∙◌, subst, arith, append-nil, append_assoc, length-append, length-drop, encode_utf8_all, transport, take-add, and_parts, false_from_ne_true, drop_at, drop-drop, take-append-drop, take_at, take_rest, encodes-append, length-le-encodes, is_line_feed, is_return, line_ends, begins, ends, spelled, Frame, Passing, Scan, has_field}
 use Rattle.py_lines.specs.Private.Machine.{Mode}
 use Rattle.py_lines.specs.Private.Mode as modes
 use Rattle.py_lines.specs.Private.LineScan.{EndsWhole, IsAtLineEnd, Reached, ScansIn}
@@ -12,11 +8,8 @@ use Rattle.py_lines.specs.Private.Passing.{EndsAfter, EndsLineSo, IsCounted, Pas
 use Rattle.py_lines.specs.Private.Scan.{Takes}
 use Rattle.py_lines.specs.Private.TakenPieces.{ComesToCode, IsWordStart, StopsSo}
 use Rattle.py_lines.specs.Private.WholeLines.{AreWholeLines, BeginWithLines, IsWholeLine}
-use Rattle.py_lines.specs.declared.frames.Frame.{Frame}
-use Rattle.py_lines.specs.declared.passing.Passing.{Passing}
 use Rattle.py_lines.specs.declared.passing.Special.{Special}
 use Rattle.py_lines.specs.declared.passing.Special.TheVariants as specials
-use Rattle.py_lines.specs.declared.scan.Scan.{Scan}
 use Rattle.py_lines.specs.declared.scan.Stop.{Stop}
 use Rattle.py_lines.specs.declared.scan.Stop.TheVariants as stops
 use Rattle.py_lines.proofs.Feeds.LastBytes.{ends-encoded, ends-later}

@@ -1,17 +1,12 @@
 -- Pieces that are the same wherever after them a line ends, and how they are read one after another.
 use mir.Val.{bool_byte}
-use Rattle.py_lines.proofs.Prelude.{◌≡◌, ℕ, Option, Some, ◌+◌, ◌-◌, ◌<◌, ◌≤◌, Bool, true, false, zero, suc, List, [], ◌∷◌, length, take, drop, slice_index, refl, sym, ap, ◌∙◌, subst, arith, length-drop, add-zero, MatchOption, ◌&&◌, if◌then◌else◌, nat_eq, nat_lt, starts_with, is_ascii_digit, both_ways, lt-ltb, ne_eqb, or_left, drop-take, get_or-take, length-take-le}
-use Rattle.py_lines.specs.Character.{is_line_feed, is_quote, is_space}
-use Rattle.py_lines.specs.Piece.{Piece, begins, operator}
+use Rattle.py_lines.proofs.Prelude.{◌≡◌, ℕ, Option, Some, ◌+◌, ◌-◌, ◌<◌, ◌≤◌, Bool, true, false, zero, suc, List, [], ◌∷◌, length, take, drop, slice_index, refl, sym, ap, ◌∙◌, subst, arith, length-drop, add-zero, MatchOption, ◌&&◌, if◌then◌else◌, nat_eq, nat_lt, starts_with, is_ascii_digit, both_ways, lt-ltb, ne_eqb, or_left, drop-take, get_or-take, length-take-le, is_line_feed, is_quote, is_space, Piece, begins, operator, Token, rest_is, rest_of, is_of_class}
 use Rattle.py_lines.specs.LogicalLine.{end_len_of}
 use Rattle.py_lines.specs.declared.class.Class.{Class as ByteClass}
 use Rattle.py_lines.specs.declared.class.Class.TheVariants as class
-use Rattle.py_lines.specs.declared.token.Token.{Token}
 use Rattle.py_lines.specs.declared.token.TokKind.TheVariants as kind
 use Rattle.py_lines.specs.Private.LineTokens.{AreLineOf, BeginWithPiece, HaveReadAnyway, HoldsTokens, IsFirstAnyway, IsFirstPiece, IsLineAfter, IsTakenFor, ReadsAnyway, ReadsPiece, Role, StaysUnread, line_end_len, mark_bytes, mark_len, token_piece, word_kind}
-use Rattle.py_lines.specs.Private.Marks.{is_of_class}
 use Rattle.py_lines.specs.Private.Run.{IsRunOf, is_ascii_word, is_comment_byte, is_wide_word}
-use Rattle.py_lines.proofs.FieldScans.TextLengths.{rest_is, rest_of}
 use Rattle.py_lines.proofs.Text.CharacterTests.{the_one}
 use Rattle.py_lines.proofs.LineTokens.FirstCharacters.{OfByte, class_told}
 use Rattle.py_lines.proofs.LineTokens.FirstPieces.{comment_taken, line_end_taken, operator_taken, run_within, space_taken, word_taken}

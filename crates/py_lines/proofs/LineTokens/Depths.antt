@@ -1,9 +1,6 @@
 -- What has room at some depth of brackets and fields has it at any smaller one.
-use Rattle.py_lines.proofs.Prelude.{ℕ, zero, suc, ◌+◌, ◌≤◌, List, [], ◌∷◌, arith}
-use Rattle.py_lines.specs.Piece.{Piece}
-use Rattle.py_lines.specs.Balance.{depth_after}
+use Rattle.py_lines.proofs.Prelude.{ℕ, zero, suc, ◌+◌, ◌≤◌, List, [], ◌∷◌, arith, Piece, depth_after, Host}
 use Rattle.py_lines.specs.Fields.{Fields, IsShallowWith, ShallowFields, ShallowWithin}
-use Rattle.py_lines.specs.FieldStrings.{Host}
 use Rattle.py_lines.proofs.Fields.Nesting.{Within, field_map, string_map}
 
 pieces_less : (S : ℕ → Host → List ℕ → Type 0) → ((d e : ℕ) → d ≤ e → Within (S e) (S d)) → (d e : ℕ) (ps : List Piece) → d ≤ e

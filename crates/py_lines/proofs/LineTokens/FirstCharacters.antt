@@ -1,5 +1,5 @@
 -- What each class of pieces begins with, and what the first byte tells of the piece that bytes begin with, and of what follows it.
-use Rattle.py_lines.proofs.Prelude.{◌≡◌, ℕ, ◌<◌, ◌⊎◌, inl, inr, true, false, List, [], ◌∷◌, ◌++◌, refl, sym, ap, ◌∙◌, subst, arith, ⊎_elim, ◌≤◌, ◌||◌, ◌&&◌, length, slice_index, list_all, and_parts, both_ways, false_from_ne_true, or_cases, or_left, or_right, cases_lt, encode_utf8, encode_utf8_all, nat_le, ◌==◌, nat_tests, byte_from_char, char_from_byte, encodes-append, length-encode, len_utf8_bounds, length-append}
+use Rattle.py_lines.proofs.Prelude.{◌≡◌, ℕ, ◌<◌, ◌⊎◌, inl, inr, true, false, List, [], ◌∷◌, ◌++◌, refl, sym, ap, ◌∙◌, subst, arith, ⊎_elim, ◌≤◌, ◌||◌, ◌&&◌, length, slice_index, list_all, and_parts, both_ways, false_from_ne_true, or_cases, or_left, or_right, cases_lt, encode_utf8, encode_utf8_all, nat_le, ◌==◌, nat_tests, byte_from_char, char_from_byte, encodes-append, length-encode, len_utf8_bounds, length-append, is_of_class}
 use Rattle.unicode_ident.specs.Ident.{is_xid_start}
 use Rattle.unicode_ident.proofs.IdentLemmas.{is_xid_start-is_xid_continue}
 use Rattle.py_lines.specs.Character.{is_mark, is_space, is_word_character, is_word_start, is_quote, is_line_feed, is_return, is_hash, is_digit}
@@ -11,7 +11,6 @@ use Rattle.py_lines.specs.Private.Mode as modes
 use Rattle.py_lines.specs.Private.Machine.{Start, start_of, Start as starts}
 use Rattle.py_lines.specs.declared.class.Class.{Class as ByteClass}
 use Rattle.py_lines.specs.declared.class.Class.TheVariants as class
-use Rattle.py_lines.specs.Private.Marks.{is_of_class}
 use Rattle.py_lines.specs.Private.Run.{is_ascii_word, is_wide_word}
 use Rattle.py_lines.specs.Private.LineTokens.{BeginWithPiece}
 use Rattle.py_lines.proofs.Text.CharacterTests.{operator_ascii, prefix_word, the_one}

@@ -1,5 +1,5 @@
 -- The piece that bytes begin with, where it is no string, as its line takes it: how long it is, and what tells a word from a prefix.
-use Rattle.py_lines.proofs.Prelude.{◌≡◌, ℕ, zero, suc, ◌≤◌, Bool, true, false, List, [], ◌∷◌, ◌++◌, length, refl, ap, ◌∙◌, arith, min, zero-add, ⊎_elim, ◌+◌, ◌<◌, ◌⊎◌, inl, inr, ◌&&◌, drop, slice_index, sym, subst, take, append_assoc, encode_utf8_all, not, codes, nat_le, list_all, list_any, is_ascii_digit, and_from, and_parts, both_ways, cases_lt, or_parts, or_cases, get_or-take, length-take, encode, nat_tests, encodes-append, take-append_seam, drop-append_seam, drop-cons}
+use Rattle.py_lines.proofs.Prelude.{◌≡◌, ℕ, zero, suc, ◌≤◌, Bool, true, false, List, [], ◌∷◌, ◌++◌, length, refl, ap, ◌∙◌, arith, min, zero-add, ⊎_elim, ◌+◌, ◌<◌, ◌⊎◌, inl, inr, ◌&&◌, drop, slice_index, sym, subst, take, append_assoc, encode_utf8_all, not, codes, nat_le, list_all, list_any, is_ascii_digit, and_from, and_parts, both_ways, cases_lt, or_parts, or_cases, get_or-take, length-take, encode, nat_tests, encodes-append, take-append_seam, drop-append_seam, drop-cons, rest_is, rest_of}
 use Rattle.py_lines.specs.Piece.{begins, Class, space, operator, comment, join, line_end, Piece, ends, spelled, word, string}
 use Rattle.py_lines.specs.Character.{is_break, is_line_feed, is_return, is_space, is_digit, is_quote, is_word_character, is_word_start}
 use Rattle.py_lines.specs.PieceGrammar.{IsLineEnd, feed, return_feed, return}
@@ -20,7 +20,6 @@ use Rattle.py_lines.proofs.Lexings.LineEnds.{line_text}
 use Rattle.py_lines.proofs.FieldScans.Ends.{slash_only}
 use Rattle.py_lines.proofs.Fields.Prefixes.{none_in}
 use Rattle.py_lines.proofs.WordBreaks.{word-unbroken}
-use Rattle.py_lines.proofs.FieldScans.TextLengths.{rest_is, rest_of}
 use Rattle.py_lines.proofs.LogicalLines.NextLine.{begins-prefix}
 use Rattle.py_lines.proofs.LineScan.AsciiRuns.{all_also, break_low, space_low, quote_ascii, word_byte_continues, word_byte_starts, operator-no_break}
 use Rattle.py_lines.proofs.LineTokens.FirstCharacters.{hash_is, spelled_bytes, IsQuoted, class_told, first_of, prefix_is_word, quoted, word_ends}

@@ -1,19 +1,11 @@
 -- The string that bytes begin with: the scan goes through it, item after item, and stops after it.
-use Rattle.py_lines.proofs.Prelude.{◌≡◌, ℕ, ◌+◌, ◌<◌, ◌≤◌, ⊎_elim, not, true, false, None, Some, List, [], ◌∷◌, ◌++◌, length, drop, refl, sym, ap, ◌∙◌, subst, append_assoc, append-nil, arith, length-append, encode_utf8, encode_utf8_all, IsScalar, all_scalars, and_from, and_left, and_parts, both_ways, append_cancel_left, nil_from_length, encodes-append, len_utf8_bounds, length-encode, length-le-encodes}
-use Rattle.py_lines.specs.Character.{is_line_feed, is_return}
-use Rattle.py_lines.specs.Piece.{begins, ends, string, Piece, spelled}
-use Rattle.py_lines.specs.LogicalLine.{byte_len}
-use Rattle.py_lines.specs.declared.mode.Mode.{Mode as OpenMode}
+use Rattle.py_lines.proofs.Prelude.{◌≡◌, ℕ, ◌+◌, ◌<◌, ◌≤◌, ⊎_elim, not, true, false, None, Some, List, [], ◌∷◌, ◌++◌, length, drop, refl, sym, ap, ◌∙◌, subst, append_assoc, append-nil, arith, length-append, encode_utf8, encode_utf8_all, IsScalar, all_scalars, and_from, and_left, and_parts, both_ways, append_cancel_left, nil_from_length, encodes-append, len_utf8_bounds, length-encode, length-le-encodes, is_line_feed, is_return, begins, ends, string, Piece, spelled, byte_len, LineFault, Progress, Scan, OpenMode, has_field, piece}
 use Rattle.py_lines.specs.declared.mode.Mode.TheVariants as opens
-use Rattle.py_lines.specs.declared.scan.LineFault.{LineFault}
-use Rattle.py_lines.specs.declared.scan.Progress.{Progress}
 use Rattle.py_lines.specs.declared.scan.Progress.TheVariants as progress
-use Rattle.py_lines.specs.declared.scan.Scan.{Scan}
 use Rattle.py_lines.specs.Private.Mode as modes
 use Rattle.py_lines.specs.Private.Machine.{start_of}
 use Rattle.py_lines.specs.Private.FieldMachine.{FieldMode, FieldScanned, breaks, field_move, field_moved, field_pieces, field_started, plain}
 use Rattle.py_lines.specs.Private.Scan.{ComesOver, ComesTo as Comes, EndsWithFeed, EndsWithReturn, Follows, Goes, GoesOver, GoesOverAll, HoldsRun, IsOneItem, IsWrongIn, KeepsOpen, Rests, StandsAs, Steps, has_returned, is_break_move, is_free_mode, is_return_at, is_in_code, is_shut, mode_from}
-use Rattle.py_lines.specs.Private.Frames.{has_field}
 use Rattle.py_lines.specs.Private.LineScan.{HasBegun, IsUnderWay, Reached}
 use Rattle.py_lines.specs.Private.LineTokens.{BeginWithPiece, FirstPiece, IsFirstPiece}
 use Rattle.py_lines.proofs.FieldMachine.OuterLists.{outer_alone, started_outer}
@@ -31,7 +23,6 @@ use Rattle.py_lines.proofs.LineTokens.StringRuns.{BeginsString, IsShutAlone, alo
 use Rattle.py_lines.proofs.LogicalLines.Cuts.{ends-last, no_bytes}
 use Rattle.py_lines.proofs.Machine.PieceSteps.{some_is}
 use Rattle.py_lines.proofs.PassedPieces.Ends.{in_code}
-use Rattle.py_lines.proofs.Pieces.PieceLists.{piece}
 use Rattle.py_lines.proofs.Text.Incomplete.{text_none}
 use Rattle.py_lines.proofs.Text.Splits.{Either, either}
 use Rattle.py_lines.proofs.Text.Utf8Prefixes.{all_scalars-parts, prefix_chars}

@@ -1,18 +1,12 @@
 -- How a line begins, with its mark and its indentation, and how its pieces are read one after another.
 use mir.Val.{bool_byte}
-use Rattle.py_lines.proofs.Prelude.{◌≡◌, ℕ, ◌+◌, ◌<◌, ◌≤◌, Bool, true, false, List, [], ◌∷◌, ◌++◌, length, drop, refl, sym, ap, ◌∙◌, subst, append_assoc, append-nil, arith, length-drop, zero, suc, ◌⊎◌, inl, inr, ⊎_elim, zero-add, add-zero, slice_index, encode_utf8_all, if◌then◌else◌, nat_eq, nat_lt, starts_with, drop-append_seam, drop-drop, encodes-append, length-le-encodes, both_ways, false_from_ne_true, Decides-eqb, starts_is, encode}
-use Rattle.py_lines.specs.Character.{is_mark, is_space, is_line_feed, is_return}
+use Rattle.py_lines.proofs.Prelude.{◌≡◌, ℕ, ◌+◌, ◌<◌, ◌≤◌, Bool, true, false, List, [], ◌∷◌, ◌++◌, length, drop, refl, sym, ap, ◌∙◌, subst, append_assoc, append-nil, arith, length-drop, zero, suc, ◌⊎◌, inl, inr, ⊎_elim, zero-add, add-zero, slice_index, encode_utf8_all, if◌then◌else◌, nat_eq, nat_lt, starts_with, drop-append_seam, drop-drop, encodes-append, length-le-encodes, both_ways, false_from_ne_true, Decides-eqb, starts_is, encode, is_mark, is_space, is_line_feed, is_return, depth_after, Token, AreReadBefore, InClass, rest_is, rest_of, byte_len-append}
 use Rattle.py_lines.specs.Piece.{Class, line_end, mark, Piece, begins, spelled, space, begins_marked, is_mark_class}
-use Rattle.py_lines.specs.Balance.{depth_after}
 use Rattle.py_lines.specs.LogicalLine.{byte_len, end_len_of, is_line_end_class, line_ends, tokens_of_piece, indent_of, space_len, tokens_from}
-use Rattle.py_lines.specs.Fields.{AreReadBefore, InClass}
-use Rattle.py_lines.specs.declared.token.Token.{Token}
 use Rattle.py_lines.specs.declared.class.Class.TheVariants as class
 use Rattle.py_lines.specs.Private.LineTokens.{mark_bytes, mark_len, AreTextAt, BeginWithPiece, HaveReadOf, ReadsPiece, role_of, token_in, AreLineText, FirstPiece, HaveRead}
 use Rattle.py_lines.specs.Private.Run.{IsRunOf}
-use Rattle.py_lines.proofs.FieldScans.TextLengths.{rest_is, rest_of}
 use Rattle.py_lines.proofs.Text.Utf8Prefixes.{all_scalars-parts, prefix_chars}
-use Rattle.py_lines.proofs.LogicalLines.Cuts.{byte_len-append}
 use Rattle.py_lines.proofs.Lexings.FirstLines.{piece_some}
 use Rattle.py_lines.proofs.LineScan.LineCount.{line_ends-bytes}
 use Rattle.py_lines.proofs.Text.CharacterTests.{mark_is}

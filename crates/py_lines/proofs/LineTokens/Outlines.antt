@@ -1,17 +1,12 @@
 -- What the text of a logical line shows of it without its tokens: its indentation, and what it holds, by the byte after mark and space.
-use Rattle.py_lines.proofs.Prelude.{◌≡◌, ℕ, ◌+◌, ◌-◌, ◌<◌, ◌≤◌, ◌⊎◌, inl, inr, ◌&&◌, ◌||◌, ◌==◌, Bool, true, false, List, [], ◌∷◌, ◌++◌, append-nil, refl, sym, ap, ◌∙◌, subst, transport, arith, ⊎_elim, length, length-drop, length-le-encodes, list_all, drop, encode_utf8_all, if◌then◌else◌, prefix_len, prefix_len-le-length, prefix_len_passes, prefix_len_stops, and_parts, both_ways, cases_lt, or_cases, false_from_ne_true, zero-add, add-zero}
-use Rattle.py_lines.specs.Character.{is_break, is_hash, is_line_feed, is_return, is_space}
+use Rattle.py_lines.proofs.Prelude.{◌≡◌, ℕ, ◌+◌, ◌-◌, ◌<◌, ◌≤◌, ◌⊎◌, inl, inr, ◌&&◌, ◌||◌, ◌==◌, Bool, true, false, List, [], ◌∷◌, ◌++◌, append-nil, refl, sym, ap, ◌∙◌, subst, transport, arith, ⊎_elim, length, length-drop, length-le-encodes, list_all, drop, encode_utf8_all, if◌then◌else◌, prefix_len, prefix_len-le-length, prefix_len_passes, prefix_len_stops, and_parts, both_ways, cases_lt, or_cases, false_from_ne_true, zero-add, add-zero, is_break, is_hash, is_line_feed, is_return, is_space, depth_after, Token, AreReadBefore, InClass, MayPrecede, EachLiesIn, byte_len-append}
 use Rattle.py_lines.specs.Piece.{Class, mark, space, word, string, operator, comment, join, line_end, Piece, begins, begins_marked, is_mark_class, spelled}
 use Rattle.py_lines.specs.PieceGrammar.{feed, return_feed, return}
-use Rattle.py_lines.specs.Balance.{depth_after}
-use Rattle.py_lines.specs.Fields.{AreReadBefore, InClass, MayPrecede}
 use Rattle.py_lines.specs.LogicalLine.{LogicalLine, byte_len, cut, end_len_of, indent_of, is_code_class, is_line_end_class, kind_of, line_ends, line_of, put_first, space_len, token, tokens_from}
 use Rattle.py_lines.specs.declared.token.TokKind.TheVariants as kind
-use Rattle.py_lines.specs.declared.token.Token.{Token}
 use Rattle.py_lines.specs.declared.unit.UnitKind.TheVariants as unit_kind
 use Rattle.py_lines.specs.Private.LineTokens.{AreLineText, AreTextAt, BeginWithPiece, mark_len}
 use Rattle.py_lines.specs.Private.Machine.{Start, start_of}
-use Rattle.py_lines.specs.Token.{EachLiesIn}
 use Rattle.py_lines.specs.Outline.{IsOutlineOf, Outline, outline_of}
 use Rattle.py_lines.specs.Private.Outline.{indent_in, kind_from, kind_in, outline_at, unmarked, with_tokens}
 use Rattle.py_lines.specs.Private.Run.{IsRunOf}
@@ -20,7 +15,6 @@ use Rattle.py_lines.proofs.LineScan.AsciiRuns.{break_low}
 use Rattle.py_lines.proofs.LineTokens.FirstCharacters.{BeginsSo, OfStart, begins_so, hash_is}
 use Rattle.py_lines.proofs.LineTokens.FirstPieces.{space_unbroken}
 use Rattle.py_lines.proofs.LineTokens.Lines.{first_read, first_space, has_mark, is_mark_or, marked_indent, no_line_end, no_mark, text_after, unmarked_indent}
-use Rattle.py_lines.proofs.LogicalLines.Cuts.{byte_len-append}
 use Rattle.py_lines.proofs.LogicalLines.TokenPlaces.{each_after}
 use Rattle.py_lines.proofs.Machine.Starts.{start-feed, start-hash, start-return}
 use Rattle.py_lines.proofs.Text.HighBytes.{high_bytes, low_even}

@@ -1,9 +1,6 @@
 -- The string that bytes begin with: the machine goes through it, from a line's start, and finishes it alone.
-use Rattle.py_lines.proofs.Prelude.{◌≡◌, ℕ, ◌<◌, inl, inr, ◌==◌, ◌&&◌, ⊎_elim, true, false, Some, List, [], ◌∷◌, ◌++◌, length, refl, sym, ap, ◌∙◌, subst, append-nil, arith, encode_utf8_all, all_scalars, and_parts, both_ways, cases_Bool, cond_both, eqb-true, false_from_ne_true}
-use Rattle.py_lines.specs.Character.{is_line_feed, is_return}
-use Rattle.py_lines.specs.Piece.{Class, begins, ends, line_end, string, Piece, spelled}
+use Rattle.py_lines.proofs.Prelude.{◌≡◌, ℕ, ◌<◌, inl, inr, ◌==◌, ◌&&◌, ⊎_elim, true, false, Some, List, [], ◌∷◌, ◌++◌, length, refl, sym, ap, ◌∙◌, subst, append-nil, arith, encode_utf8_all, all_scalars, and_parts, both_ways, cases_Bool, cond_both, eqb-true, false_from_ne_true, is_line_feed, is_return, Class, begins, ends, line_end, string, Piece, spelled, literal, piece}
 use Rattle.py_lines.specs.LogicalLine.{is_line_end_class}
-use Rattle.py_lines.specs.FieldStrings.{literal}
 use Rattle.py_lines.specs.Fields.{Fields, ShallowFields}
 use Rattle.py_lines.specs.Private.Mode as modes
 use Rattle.py_lines.specs.Private.Machine.{Mode, class_of, is_final, long_move, move_of, short_move}
@@ -28,7 +25,7 @@ use Rattle.py_lines.proofs.LineTokens.Depths.{fields_less}
 use Rattle.py_lines.proofs.LogicalLines.Cuts.{uncut}
 use Rattle.py_lines.proofs.Machine.PieceSteps.{some_is}
 use Rattle.py_lines.proofs.Machine.Starts.{start-feed}
-use Rattle.py_lines.proofs.Pieces.PieceLists.{piece, AreReadBefore-first}
+use Rattle.py_lines.proofs.Pieces.PieceLists.{AreReadBefore-first}
 
 -- where a line begins that is no text's first
 abbrev pub line_free : FieldScanned

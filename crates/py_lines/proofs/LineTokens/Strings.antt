@@ -1,16 +1,12 @@
 -- A string of ASCII without fields that stands on one line, and is passed at once, is the first piece of the bytes.
-use Rattle.py_lines.proofs.Prelude.{◌≡◌, ℕ, ◌+◌, ◌-◌, ◌≤◌, inl, inr, true, false, List, [], ◌∷◌, ◌++◌, length, drop, refl, sym, ap, ◌∙◌, subst, append_assoc, append-nil, arith, length-append, take, encode_utf8_all, list_all, and_parts, nat_tests, list_all-append, drop-append_seam, take-add, take-append_seam, length-take, same_from_push, take-append-drop, encodes-append}
-use Rattle.py_lines.specs.Character.{is_break, is_quote}
-use Rattle.py_lines.specs.Piece.{string, Piece, spelled, begins}
+use Rattle.py_lines.proofs.Prelude.{◌≡◌, ℕ, ◌+◌, ◌-◌, ◌≤◌, inl, inr, true, false, List, [], ◌∷◌, ◌++◌, length, drop, refl, sym, ap, ◌∙◌, subst, append_assoc, append-nil, arith, length-append, take, encode_utf8_all, list_all, and_parts, nat_tests, list_all-append, drop-append_seam, take-add, take-append_seam, length-take, same_from_push, take-append-drop, encodes-append, is_break, is_quote, string, Piece, spelled, begins, byte_len, line_ends, rest_is, rest_of, piece}
 use Rattle.py_lines.specs.PieceGrammar.{IsNoneOr, IsPrefix}
 use Rattle.py_lines.specs.FieldStrings.{is_field_prefix}
 use Rattle.py_lines.specs.Fields.{InClass, MayPrecede, fielded}
-use Rattle.py_lines.specs.LogicalLine.{byte_len, line_ends}
 use Rattle.py_lines.specs.Private.Machine.{IsFull, first_spelling, is_field_spelling, spelling_on}
 use Rattle.py_lines.specs.Private.Run.{IsShortStringAt, IsShortText, IsWholePlainString, is_comment_byte, is_line_byte, word_spelling}
 use Rattle.py_lines.specs.Private.LineTokens.{BeginWithPiece, IsFirstPiece, is_prefix_word, string_piece}
 use Rattle.py_lines.proofs.Text.Utf8Prefixes.{prefix_chars}
-use Rattle.py_lines.proofs.Pieces.PieceLists.{piece}
 use Rattle.py_lines.proofs.Fields.OneReading.{compare_pieces}
 use Rattle.py_lines.proofs.Fields.Prefixes.{Compared, first_quote, longer, same, shorter}
 use Rattle.py_lines.proofs.FieldSoundness.BodyMoves.{quoted_prefix}
@@ -23,7 +19,6 @@ use Rattle.py_lines.proofs.LineTokens.FirstCharacters.{prefix_is_word}
 use Rattle.py_lines.proofs.Text.LineEnds.{unbroken}
 use Rattle.py_lines.proofs.WordBreaks.{word-unbroken}
 use Rattle.py_lines.proofs.LineTokens.Spellings.{fielded_spelling, prefix_low}
-use Rattle.py_lines.proofs.FieldScans.TextLengths.{rest_is, rest_of}
 
 -- a word that is the prefix of a string without fields, or nothing
 record IsPlainPrefix (word : List ℕ) : Type 0 where

@@ -1,12 +1,8 @@
 -- Logical lines, one after another: where a line ends, the lines so far are done.
-use Rattle.py_lines.proofs.Prelude.{codes, ◌≡◌, ℕ, ◌+◌, Bool, true, false, not, ◌&&◌, ◌==◌, List, [], ◌∷◌, ◌++◌, length, refl, sym, ap, ◌∙◌, ⊎_elim, inl, inr, append_assoc, append-nil, length-append, arith, list_any, encodes-append, length-le-encodes, nil_from_length, cond_both, both_ways, and_parts, and_left, or_parts, false_from_ne_true, cases_Bool, or_from}
-use Rattle.py_lines.specs.Character.{is_mark, is_space, is_quote, is_operator, is_line_feed, is_return, is_break, is_hash}
+use Rattle.py_lines.proofs.Prelude.{codes, ◌≡◌, ℕ, ◌+◌, Bool, true, false, not, ◌&&◌, ◌==◌, List, [], ◌∷◌, ◌++◌, refl, sym, ap, ◌∙◌, ⊎_elim, inl, inr, append_assoc, append-nil, arith, list_any, length-le-encodes, nil_from_length, cond_both, both_ways, and_parts, and_left, or_parts, false_from_ne_true, cases_Bool, or_from, is_mark, is_space, is_quote, is_operator, is_line_feed, is_return, is_break, is_hash, depth_after, depth_through, InClass, MayPrecede, AreReadBefore, EndsLine, byte_len-append}
 use Rattle.py_lines.specs.Piece.{Class, mark, space, word, string, operator, comment, join, line_end, Piece, begins, ends, spelled}
 use Rattle.py_lines.specs.PieceGrammar.{joined}
-use Rattle.py_lines.specs.Balance.{depth_after, depth_through}
 use Rattle.py_lines.specs.FieldStrings.{Host, quotes_of}
-use Rattle.py_lines.specs.Fields.{InClass, MayPrecede, AreReadBefore}
-use Rattle.py_lines.specs.Reading.{EndsLine}
 use Rattle.py_lines.specs.LogicalLine.{is_line_end_class, put_first, cut, byte_len, ends_line, line_ends}
 use Rattle.py_lines.proofs.Text.CharacterTests.{none_of, return_is}
 use Rattle.py_lines.proofs.WordBreaks.{word-unbroken}
@@ -82,9 +78,6 @@ line_ends-pieces (p ∷ ps) rest fit =
     let later = line_ends-pieces ps rest fit.3 in
     let one : line_ends ((p.text ++ spelled ps) ++ rest) ≡ line_ends p.text + line_ends (spelled ps ++ rest) = ap line_ends (append_assoc p.text (spelled ps) rest) ∙ line_ends-append p.text (spelled ps ++ rest) (uncut p.class p.text (spelled ps ++ rest) fit.0 fit.1) in
     omega arith
-
-pub byte_len-append : (xs ys : List ℕ) → byte_len (xs ++ ys) ≡ byte_len xs + byte_len ys
-byte_len-append xs ys = ap length (encodes-append xs ys) ∙ length-append _ _
 
 -- a byte of a text belongs to one prefix
 pub no_bytes : (k : List ℕ) → byte_len k ≡ 0 → k ≡ []

@@ -1,13 +1,8 @@
 -- One more logical line after those given, and one more token after those of a line.
-use Rattle.py_lines.proofs.Prelude.{◌≡◌, ℕ, ◌+◌, Bool, true, false, ◌&&◌, ◌==◌, List, [], ◌∷◌, ◌++◌, refl, sym, ap, ◌∙◌, subst, append_assoc, append-nil, add_assoc, add-zero, arith, encode_utf8_all, cond_both, encodes-append}
-use Rattle.py_lines.specs.Character.{is_line_feed, is_return}
-use Rattle.py_lines.specs.Piece.{Piece, begins, ends, spelled}
-use Rattle.py_lines.specs.Balance.{depth_after}
-use Rattle.py_lines.specs.Fields.{AreReadBefore}
-use Rattle.py_lines.specs.Reading.{EndsLine}
+use Rattle.py_lines.proofs.Prelude.{◌≡◌, ℕ, ◌+◌, Bool, true, false, ◌&&◌, ◌==◌, List, [], ◌∷◌, ◌++◌, refl, sym, ap, ◌∙◌, subst, append_assoc, append-nil, add_assoc, add-zero, arith, encode_utf8_all, cond_both, encodes-append, is_line_feed, is_return, Piece, begins, ends, spelled, depth_after, AreReadBefore, EndsLine, byte_len-append}
 use Rattle.py_lines.specs.LogicalLine.{is_line_end_class, put_first, cut, byte_len, line_ends, LogicalLine, line_of, lines_from, lines_of}
 use Rattle.py_lines.proofs.Pieces.PieceLists.{AreReadBefore-first}
-use Rattle.py_lines.proofs.LogicalLines.Cuts.{uncut, line_ends-append, lines_in, byte_len-append, cut-append}
+use Rattle.py_lines.proofs.LogicalLines.Cuts.{uncut, line_ends-append, lines_in, cut-append}
 
 -- the characters of parts
 abbrev parts_spelled : List (List Piece) → List ℕ

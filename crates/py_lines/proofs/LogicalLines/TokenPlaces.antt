@@ -1,12 +1,10 @@
 -- The tokens of pieces lie in the text that the pieces spell.
-use Rattle.py_lines.proofs.Prelude.{◌≡◌, ℕ, ◌+◌, ◌<◌, zero, suc, true, List, [], ◌∷◌, ◌++◌, length, get_or, refl, subst, append_assoc, arith, encode_utf8_all, all_scalars, IsCharBoundary, slice_get-get_or, same_Some, encodes-append, IsCharBoundary-at_seam}
+use Rattle.py_lines.proofs.Prelude.{◌≡◌, ℕ, ◌+◌, ◌<◌, zero, suc, true, List, [], ◌∷◌, ◌++◌, length, get_or, refl, subst, append_assoc, arith, encode_utf8_all, all_scalars, IsCharBoundary, slice_get-get_or, same_Some, encodes-append, IsCharBoundary-at_seam, Token, byte_len-append}
 use Rattle.py_lines.specs.Piece.{Class, mark, space, join, line_end, Piece, spelled}
 use Rattle.py_lines.specs.LogicalLine.{byte_len, line_ends, tokens_of_piece, tokens_from}
 use Rattle.py_lines.specs.Token.{EachLiesIn, LiesIn}
-use Rattle.py_lines.specs.declared.token.Token.{Token}
 use Rattle.py_lines.specs.declared.token.TokKind.{TokKind}
 use Rattle.py_lines.proofs.Text.Utf8Prefixes.{all_scalars-parts}
-use Rattle.py_lines.proofs.LogicalLines.Cuts.{byte_len-append}
 
 -- a token at a place of the list lies in the text
 pub lies_at : (text : List ℕ) (tokens : List Token) (i : ℕ) (t : Token) → EachLiesIn text tokens → i < length tokens → LiesIn text (get_or tokens i t)

@@ -1,12 +1,9 @@
 -- Texts by their pieces, and the logical lines that these are cut into: rows worked out by hand.
-use Rattle.py_lines.proofs.Prelude.{◌≡◌, ℕ, List, [], ◌∷◌, map, refl, codes}
+use Rattle.py_lines.proofs.Prelude.{◌≡◌, ℕ, List, [], ◌∷◌, map, refl, codes, is_opening, is_closing, Token, piece}
 use Rattle.py_lines.specs.Character.{is_digit, is_line_feed, is_return}
 use Rattle.py_lines.specs.Piece.{mark, space, word, string, operator, comment, join, line_end, Piece}
-use Rattle.py_lines.proofs.Pieces.PieceLists.{piece}
-use Rattle.py_lines.specs.Balance.{is_opening, is_closing}
 use Rattle.py_lines.specs.LogicalLine.{token, LogicalLine, lines_of}
 use Rattle.py_lines.specs.declared.token.TokKind.TheVariants.{Name, Number, Str, Op, Remark}
-use Rattle.py_lines.specs.declared.token.Token.{Token}
 use Rattle.py_lines.specs.declared.unit.UnitKind.{UnitKind}
 use Rattle.py_lines.specs.declared.unit.UnitKind.TheVariants as kinds
 

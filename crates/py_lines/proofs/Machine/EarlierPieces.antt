@@ -1,11 +1,8 @@
 -- Pieces before others: the open piece is closed after them as it is alone, and brackets after them stand so many bytes further.
-use Rattle.py_lines.proofs.Prelude.{◌≡◌, ℕ, ◌+◌, Option, None, Some, List, [], ◌∷◌, ◌++◌, length, refl, sym, ap, ◌∙◌, append_assoc, append-nil, arith}
-use Rattle.py_lines.specs.Piece.{Piece, spelled}
-use Rattle.py_lines.specs.LogicalLine.{byte_len}
+use Rattle.py_lines.proofs.Prelude.{◌≡◌, ℕ, ◌+◌, Option, None, Some, List, [], ◌∷◌, ◌++◌, length, refl, sym, ap, ◌∙◌, append_assoc, append-nil, arith, Piece, spelled, byte_len, byte_len-append}
 use Rattle.py_lines.specs.Private.Machine.{Mode, closed, Bracket, brackets_after, brackets_through, brackets_of}
 use Rattle.py_lines.proofs.Pieces.PieceLists.{spelled-append}
 use Rattle.py_lines.proofs.Pieces.OpenBrackets.{through-append}
-use Rattle.py_lines.proofs.LogicalLines.Cuts.{byte_len-append}
 
 pub closed-after : (ps done : List Piece) (m : Mode) (held : List ℕ) → closed m (ps ++ done) held ≡ ps ++ closed m done held
 closed-after ps done Mode.Free held = refl

@@ -1,13 +1,9 @@
 -- A text is live exactly where the machine goes through it: what is open can be closed.
-use Rattle.py_lines.proofs.Prelude.{◌≡◌, ℕ, true, false, ◌==◌, Some, List, [], ◌∷◌, ◌++◌, refl, ◌∙◌, IsScalar, cond_both, and_right, eq-eqb}
+use Rattle.py_lines.proofs.Prelude.{◌≡◌, ℕ, true, false, ◌==◌, Some, List, [], ◌∷◌, ◌++◌, refl, ◌∙◌, IsScalar, cond_both, and_right, eq-eqb, is_mark, is_space, is_word_character, is_quote, is_operator, is_line_feed, is_return, is_break, Piece, spelled, byte_len, piece}
 use Rattle.unicode_ident.proofs.Computing.{unicode_ident}
-use Rattle.py_lines.specs.Character.{is_mark, is_space, is_word_character, is_quote, is_operator, is_line_feed, is_return, is_break}
-use Rattle.py_lines.specs.Piece.{Piece, spelled}
 use Rattle.py_lines.specs.Balance.{is_closing, closing_of, is_opener, is_closer}
-use Rattle.py_lines.specs.LogicalLine.{byte_len}
 use Rattle.py_lines.specs.Private.Machine.{Mode, Move, Start, Holds, class_of, closed, move_of, start_of, is_final, is_prefix_spelling, Bracket, brackets_of}
 use Rattle.py_lines.proofs.Text.CharacterTests.{each_of, none_of, not_quote, excluded, feed-not-others}
-use Rattle.py_lines.proofs.Pieces.PieceLists.{piece}
 use Rattle.py_lines.proofs.Machine.Starts.{start-feed}
 use Rattle.py_lines.proofs.Pieces.OpenBrackets.{stack_push, other_keeps}
 

@@ -1,7 +1,5 @@
 -- What the open piece spells in each mode of the machine, and how it grows.
-use Rattle.py_lines.proofs.Prelude.{◌≡◌, ℕ, Bool, true, false, ◌==◌, eqb, List, [], ◌∷◌, ◌++◌, refl, sym, ap, ◌∙◌, subst, append_assoc, append-nil, list_all, list_any, list_all-append, list_any-append, and_from, or_from, eqb-true, both_ways, false_from_ne_true, not_from_false, arith}
-use Rattle.py_lines.specs.Character.{is_quote, is_backslash}
-use Rattle.py_lines.specs.Piece.{string}
+use Rattle.py_lines.proofs.Prelude.{◌≡◌, ℕ, Bool, true, false, ◌==◌, eqb, List, [], ◌∷◌, ◌++◌, refl, sym, ap, ◌∙◌, subst, append_assoc, append-nil, list_all, list_any, list_all-append, list_any-append, and_from, or_from, eqb-true, both_ways, false_from_ne_true, not_from_false, arith, is_quote, is_backslash, string}
 use Rattle.py_lines.specs.PieceGrammar.{IsPrefix, is_item, is_bare, is_short_item, joined, has_triple, IsShortString, IsLongString, MayPrecedePlain}
 use Rattle.py_lines.specs.Private.Machine.{IsFull, HoldsItems, HoldsShort, HoldsSome, HoldsQuotes, HoldsPrefix, HoldsLong}
 use Rattle.py_lines.proofs.Pieces.PieceLists.{joined-append}

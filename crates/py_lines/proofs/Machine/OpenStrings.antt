@@ -1,8 +1,7 @@
 -- What is open where the machine stands: a short string, a long string, or a backslash; and the other way round.
-use Rattle.py_lines.proofs.Prelude.{◌≡◌, ℕ, true, false, List, [], ◌∷◌, ◌++◌, refl, sym, ◌∙◌, subst, inl, inr, append-nil, arith, list_all, both_ways, false_from_ne_true}
+use Rattle.py_lines.proofs.Prelude.{◌≡◌, ℕ, true, false, List, [], ◌∷◌, ◌++◌, refl, sym, ◌∙◌, subst, inl, inr, append-nil, arith, list_all, both_ways, false_from_ne_true, Piece, begins}
 use Rattle.unicode_ident.proofs.Computing.{unicode_ident}
 use Rattle.py_lines.specs.Character.{is_mark, is_quote, is_word_start, is_digit, is_backslash}
-use Rattle.py_lines.specs.Piece.{Piece, begins}
 use Rattle.py_lines.specs.PieceGrammar.{IsPrefix, is_item, is_short_item, joined, has_triple}
 use Rattle.py_lines.specs.OpenFields.{IsUnescaped, IsOpenPrefix, IsShortPrefix, IsLongPrefix}
 use Rattle.py_lines.specs.Private.Machine.{Mode, Move, Holds, HoldsItems, move_of, in_short, in_long, is_after_backslash}

@@ -1,7 +1,5 @@
 -- What each character does to the open piece alone.
-use Rattle.py_lines.proofs.Prelude.{◌≡◌, ℕ, true, false, ◌&&◌, eqb, List, [], ◌∷◌, ◌++◌, refl, sym, ap, ◌∙◌, subst, inl, inr, append_assoc, arith, cond_both, and_from, and_left, and_parts, and_right, eqb-true, fold-append}
-use Rattle.py_lines.specs.Character.{is_mark, is_space, is_word_character, is_quote, is_line_feed, is_return, is_break}
-use Rattle.py_lines.specs.Piece.{string, operator, line_end, Piece, ends}
+use Rattle.py_lines.proofs.Prelude.{◌≡◌, ℕ, true, false, ◌&&◌, eqb, List, [], ◌∷◌, ◌++◌, refl, sym, ap, ◌∙◌, subst, inl, inr, append_assoc, arith, cond_both, and_from, and_left, and_parts, and_right, eqb-true, fold-append, is_mark, is_space, is_word_character, is_quote, is_line_feed, is_return, is_break, string, operator, line_end, Piece, ends}
 use Rattle.py_lines.specs.PieceGrammar.{feed, return_feed, return, InPlainClass, is_prefix, joined, MayPrecedePlain, AreReadPlain}
 use Rattle.py_lines.specs.Private.Machine.{Spelling, Mode, Move, Start, Holds, HoldsShort, HoldsSome, HoldsQuotes, HoldsPrefix, HoldsLong, class_of, closed, move_of, short_move, long_move, start_of, first_spelling, spelling_with, is_prefix_spelling, is_final}
 use Rattle.py_lines.proofs.Machine.Starts.{StartsSo, starts_so}

@@ -1,8 +1,7 @@
 -- What each character begins.
-use Rattle.py_lines.proofs.Prelude.{◌≡◌, ℕ, true, false, [], ◌∷◌, refl, sym, ◌∙◌, subst, arith, false_from_ne_true}
+use Rattle.py_lines.proofs.Prelude.{◌≡◌, ℕ, true, false, [], ◌∷◌, refl, sym, ◌∙◌, subst, arith, false_from_ne_true, is_opening}
 use Rattle.unicode_ident.proofs.Computing.{unicode_ident}
 use Rattle.py_lines.specs.Character.{is_mark, is_space, is_word_start, is_digit, is_quote, is_operator, is_line_feed, is_return, is_hash, is_backslash}
-use Rattle.py_lines.specs.Balance.{is_opening}
 use Rattle.py_lines.specs.Private.Machine.{Mode, Start, start_of, first_spelling}
 use Rattle.py_lines.proofs.Text.CharacterTests.{each_of, mark_is}
 

@@ -1,7 +1,5 @@
 -- The machine goes through the text of a string, item by item: the open piece grows by each, and ends with the last quote.
-use Rattle.py_lines.proofs.Prelude.{◌≡◌, ℕ, Bool, true, false, cond, ◌==◌, eqb, List, [], ◌∷◌, ◌++◌, refl, sym, ap, ◌∙◌, subst, inl, inr, append_assoc, ◌⊎◌, arith, list_all, list_all-append, and_parts, and_from, or_parts, eq-eqb, eqb-true, both_ways, not-true, if◌then◌else◌}
-use Rattle.py_lines.specs.Character.{is_quote, is_line_feed, is_return, is_backslash}
-use Rattle.py_lines.specs.Piece.{string}
+use Rattle.py_lines.proofs.Prelude.{◌≡◌, ℕ, Bool, true, false, cond, ◌==◌, eqb, List, [], ◌∷◌, ◌++◌, refl, sym, ap, ◌∙◌, subst, inl, inr, append_assoc, ◌⊎◌, arith, list_all, list_all-append, and_parts, and_from, or_parts, eq-eqb, eqb-true, both_ways, not-true, if◌then◌else◌, is_quote, is_line_feed, is_return, is_backslash, string}
 use Rattle.py_lines.specs.PieceGrammar.{is_prefix, IsPrefix, is_item, is_bare, is_short_item, joined, begins_triple, has_triple, MayPrecedePlain}
 use Rattle.py_lines.specs.Private.Machine.{Spelling, Mode, Move, class_of, move_of, short_move, long_move, first_spelling, spelling_on, is_prefix_spelling}
 use Rattle.py_lines.proofs.Pieces.PieceLists.{joined-append}

@@ -1,8 +1,7 @@
 -- What is open where a text ends: rows worked out by hand.
-use Rattle.py_lines.proofs.Prelude.{◌≡◌, ℕ, false, Some, List, [], ◌∷◌, ◌++◌, refl, sym, ap, ◌∙◌, subst, inl, inr, append_assoc, append_cancel_right, codes}
+use Rattle.py_lines.proofs.Prelude.{◌≡◌, ℕ, false, Some, List, [], ◌∷◌, ◌++◌, refl, sym, ap, ◌∙◌, subst, inl, inr, append_assoc, append_cancel_right, codes, literal, specification}
 use Rattle.py_lines.specs.Private.Mode as modes
 use Rattle.py_lines.specs.declared.mode.Spelling.TheVariants as spellings
-use Rattle.py_lines.specs.FieldStrings.{literal, specification}
 use Rattle.py_lines.specs.Private.FieldMachine.{between, plain, body, Level, FieldScanned, field_state, field_text_start, field_steps_from}
 use Rattle.py_lines.specs.Piece.{space, word}
 use Rattle.py_lines.specs.OpenFields.{InOpenShort, InOpenField}

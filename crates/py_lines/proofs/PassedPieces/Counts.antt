@@ -1,11 +1,6 @@
 -- Line ends in bytes that are passed, by those of the bytes from there on.
-use Rattle.py_lines.proofs.Prelude.{◌≡◌, ℕ, ◌+◌, ◌-◌, ◌<◌, ◌≤◌, Bool, true, false, List, [], ◌∷◌, ◌++◌, length, take, drop, slice_index, refl, sym, ap, ◌∙◌, subst, arith, length-drop, get_or-drop, take-append-drop, codes, list_all, list_any, and_from, and_parts, drop-drop}
-use Rattle.py_lines.specs.Character.{is_backslash, is_break, is_line_feed, is_quote, is_return, is_space, is_operator}
-use Rattle.py_lines.specs.Balance.{is_closing, is_opening}
-use Rattle.py_lines.specs.declared.passing.Passing.{Passing}
-use Rattle.py_lines.specs.LogicalLine.{line_ends}
+use Rattle.py_lines.proofs.Prelude.{◌≡◌, ℕ, ◌+◌, ◌-◌, ◌<◌, ◌≤◌, Bool, true, false, List, [], ◌∷◌, ◌++◌, length, take, drop, slice_index, refl, sym, ap, ◌∙◌, subst, arith, length-drop, get_or-drop, take-append-drop, codes, list_all, list_any, and_from, and_parts, drop-drop, is_backslash, is_break, is_line_feed, is_quote, is_return, is_space, is_operator, is_closing, is_opening, Passing, line_ends, is_plain}
 use Rattle.py_lines.specs.Private.LineEnds.{BeginsOuterEnd, CountsTo, IsOuterEnd}
-use Rattle.py_lines.specs.Private.Marks.{is_plain}
 use Rattle.py_lines.specs.Private.Passing.{IsCounted}
 use Rattle.py_lines.specs.Private.Run.{is_ascii_word, is_line_byte}
 use Rattle.py_lines.proofs.LineScan.AsciiRuns.{all_pass}

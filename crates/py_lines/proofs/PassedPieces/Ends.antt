@@ -1,10 +1,7 @@
 -- A piece that ends before the next byte is passed with the bytes before it.
-use Rattle.py_lines.proofs.Prelude.{◌≡◌, ℕ, ◌+◌, ◌<◌, true, false, List, [], ◌∷◌, ◌++◌, length, drop, refl, sym, ap, ◌∙◌, subst, arith, append-nil, encode_utf8_all, both_ways, drop-append_seam}
-use Rattle.py_lines.specs.LogicalLine.{byte_len}
+use Rattle.py_lines.proofs.Prelude.{◌≡◌, ℕ, ◌+◌, ◌<◌, true, false, List, [], ◌∷◌, ◌++◌, length, drop, refl, sym, ap, ◌∙◌, subst, arith, append-nil, encode_utf8_all, both_ways, drop-append_seam, byte_len, Scan, has_field}
 use Rattle.py_lines.specs.declared.mode.Mode.TheVariants as opens
-use Rattle.py_lines.specs.declared.scan.Scan.{Scan}
 use Rattle.py_lines.specs.Private.FieldMachine.{FieldMode, FieldScanned, field_move, text_place}
-use Rattle.py_lines.specs.Private.Frames.{has_field}
 use Rattle.py_lines.specs.Private.Scan.{ComesOver, Follows, IsFirstByte, Rests, Takes, ends_before, is_ending, is_in_code, is_text, mode_from, passed}
 use Rattle.py_lines.proofs.FieldScans.LineEnds.{breaks_mode, code_place}
 use Rattle.py_lines.proofs.FieldScans.Runs.{free_start}

@@ -1,15 +1,9 @@
 -- A short string with fields whose text is simple, after plain bytes that end with its prefix, as the scan would take it.
-use Rattle.py_lines.proofs.Prelude.{◌≡◌, ℕ, suc, ◌+◌, ◌<◌, ◌≤◌, Bool, true, false, Option, None, Some, List, ◌∷◌, length, drop, slice_index, refl, sym, ap, ◌∙◌, subst, drop-cons, both_ways, codes}
-use Rattle.py_lines.specs.Character.{is_backslash, is_quote}
+use Rattle.py_lines.proofs.Prelude.{◌≡◌, ℕ, suc, ◌+◌, ◌<◌, ◌≤◌, Bool, true, false, Option, None, Some, List, ◌∷◌, length, drop, slice_index, refl, sym, ap, ◌∙◌, subst, drop-cons, both_ways, codes, is_backslash, is_quote, StringWithFields, Spelling, Scan, OpenMode, is_plain}
 use Rattle.py_lines.specs.declared.mode.Region.TheVariants as regions
-use Rattle.py_lines.specs.declared.mode.StringWithFields.{StringWithFields}
-use Rattle.py_lines.specs.declared.mode.Mode.{Mode as OpenMode}
 use Rattle.py_lines.specs.declared.mode.Mode.TheVariants as opens
-use Rattle.py_lines.specs.declared.mode.Spelling.{Spelling}
-use Rattle.py_lines.specs.declared.scan.Scan.{Scan}
 use Rattle.py_lines.specs.Private.FieldText.{HasText}
 use Rattle.py_lines.specs.Private.Machine.{is_field_spelling, is_raw_spelling}
-use Rattle.py_lines.specs.Private.Marks.{is_plain}
 use Rattle.py_lines.specs.Private.Passing.{TellsFields, tail_of}
 use Rattle.py_lines.specs.Private.Scan.{IsTextAt, mode_from, quotes_in}
 use Rattle.py_lines.proofs.Machine.Spellings.{field_begins}

@@ -1,6 +1,5 @@
 -- The bytes that a slice begins with: one, two or three of them, or a line end.
-use Rattle.py_lines.proofs.Prelude.{◌≡◌, ℕ, suc, ◌+◌, ◌<◌, ◌≤◌, None, Some, List, [], ◌∷◌, length, take, drop, slice_index, refl, ap, ◌∙◌, arith, add-zero, get_or-drop, drop-cons, nat_tests}
-use Rattle.py_lines.specs.Character.{is_break}
+use Rattle.py_lines.proofs.Prelude.{◌≡◌, ℕ, suc, ◌+◌, ◌<◌, ◌≤◌, None, Some, List, [], ◌∷◌, length, take, drop, slice_index, refl, ap, ◌∙◌, arith, add-zero, get_or-drop, drop-cons, nat_tests, is_break}
 use Rattle.py_lines.specs.Private.LineEnds.{HasOuterEnd}
 use Rattle.py_lines.specs.Private.Scan.{quotes_in}
 

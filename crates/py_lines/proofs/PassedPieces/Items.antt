@@ -1,16 +1,10 @@
 -- What a byte that isn't plain begins, after plain bytes, as the scan would take it: a bracket, a line end, a join of two lines, a short string
 -- of ASCII, a long one without fields, or a comment.
-use Rattle.py_lines.proofs.Prelude.{◌≡◌, ℕ, ◌+◌, ◌<◌, ◌==◌, not, nat_lt, Bool, true, false, Option, None, Some, List, [], ◌∷◌, ◌++◌, length, drop, refl, sym, ap, ◌∙◌, subst, arith, append_assoc, length-append, codes, encode_utf8_all, len_utf8, and_parts, both_ways, ltb-true, ne_eqb, not-true, len_utf8_ascii, add_assoc, transport, drop-append_seam}
-use Rattle.py_lines.specs.Balance.{is_closing, is_opening}
-use Rattle.py_lines.specs.Character.{is_backslash, is_break, is_hash, is_operator, is_quote}
-use Rattle.py_lines.specs.declared.frames.Frame.{Frame}
+use Rattle.py_lines.proofs.Prelude.{◌≡◌, ℕ, ◌+◌, ◌<◌, ◌==◌, not, nat_lt, Bool, true, false, Option, None, Some, List, [], ◌∷◌, ◌++◌, length, drop, refl, sym, ap, ◌∙◌, subst, arith, append_assoc, length-append, codes, encode_utf8_all, len_utf8, and_parts, both_ways, ltb-true, ne_eqb, not-true, len_utf8_ascii, add_assoc, transport, drop-append_seam, is_closing, is_opening, is_backslash, is_break, is_hash, is_operator, is_quote, Frame, Spelling, Scan, OpenMode, rest_is, rest_of, is_plain}
 use Rattle.py_lines.specs.declared.frames.Frame.TheVariants as frame
-use Rattle.py_lines.specs.declared.mode.Mode.{Mode as OpenMode}
 use Rattle.py_lines.specs.declared.mode.Mode.TheVariants as opens
-use Rattle.py_lines.specs.declared.mode.Spelling.{Spelling}
 use Rattle.py_lines.specs.declared.mode.Spelling.TheVariants as spellings
 use Rattle.py_lines.specs.declared.scan.Progress.TheVariants as progress
-use Rattle.py_lines.specs.declared.scan.Scan.{Scan}
 use Rattle.py_lines.specs.Private.Frames.{IsClosedBy, OpensFrame}
 use Rattle.py_lines.specs.Private.FieldMachine.{FieldScanned, closes, closing_move, field_move, plain, text_place}
 use Rattle.py_lines.specs.Private.LineEnds.{BeginsOuterEnd}
@@ -20,7 +14,6 @@ use Rattle.py_lines.specs.Private.LongStrings.{TakesLong}
 use Rattle.py_lines.specs.Private.Passing.{EndsAfter, TellsFields, tail_of, with_frames}
 use Rattle.py_lines.specs.Private.Run.{Spans, is_body_byte, is_line_byte, is_text_byte, stays}
 use Rattle.py_lines.specs.Private.Scan.{ComesTo, Follows, GoesOver, GrowsInText, IsTextAt, QuotesInText, Steps, Takes, TakesOperator, TextGoes, begun_at, ends_before, grown, is_text, line_end_progress, mode_from, passed, quotes_in, string_mode, with_bytes}
-use Rattle.py_lines.specs.Private.Marks.{is_plain}
 use Rattle.py_lines.proofs.Machine.LiveTexts.{closing-operator}
 use Rattle.py_lines.proofs.Machine.Starts.{opening_operator, start-hash}
 use Rattle.py_lines.proofs.FieldScans.CodeItems.{comment_begins, line_end_comes, operator_comes, piece_grows, StringBegun, after_piece, after_prefix, other_word, quotes_empty, quotes_open}
@@ -33,7 +26,7 @@ use Rattle.py_lines.proofs.FieldScans.StringTexts.{text_as-self}
 use Rattle.py_lines.proofs.FieldScans.Takes.{takes_none, takes_on, takes_step}
 use Rattle.py_lines.proofs.FieldScans.Taking.{free_at}
 use Rattle.py_lines.proofs.FieldScans.TextItems.{closes_over, grows_over}
-use Rattle.py_lines.proofs.FieldScans.TextLengths.{rest_is, rest_of, rest_within}
+use Rattle.py_lines.proofs.FieldScans.TextLengths.{rest_within}
 use Rattle.py_lines.proofs.LineScan.AsciiRuns.{break_low, is_low_from, quote_ascii}
 use Rattle.py_lines.proofs.LineScan.Runs.{body_parts}
 use Rattle.py_lines.proofs.LogicalLines.Cuts.{break-return}

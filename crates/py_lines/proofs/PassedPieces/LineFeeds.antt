@@ -1,10 +1,5 @@
 -- LF that are passed before the next other byte that isn't plain, in one block of 64 bytes after another.
-use Rattle.py_lines.proofs.Prelude.{◌≡◌, ℕ, ◌+◌, ◌<◌, ◌≤◌, ◌||◌, true, List, [], ◌∷◌, drop, slice_index, refl, sym, ap, ◌∙◌, subst, arith, inl, inr, cases_lt, zero, suc, ◌-◌, length, ⊎_elim, or_cases}
-use Rattle.py_lines.specs.Character.{is_line_feed}
-use Rattle.py_lines.specs.declared.frames.Frame.{Frame}
-use Rattle.py_lines.specs.declared.marks.Marks.{Marks}
-use Rattle.py_lines.specs.declared.passing.Passing.{Passing}
-use Rattle.py_lines.specs.LogicalLine.{line_ends}
+use Rattle.py_lines.proofs.Prelude.{◌≡◌, ℕ, ◌+◌, ◌<◌, ◌≤◌, ◌||◌, true, List, [], ◌∷◌, drop, slice_index, refl, sym, ap, ◌∙◌, subst, arith, inl, inr, cases_lt, zero, suc, ◌-◌, length, ⊎_elim, or_cases, is_line_feed, Frame, Marks, Passing, line_ends}
 use Rattle.py_lines.specs.Private.LineEnds.{CountsTo}
 use Rattle.py_lines.specs.Private.Marks.{Advances, ArePlain, EndInFeed, FindsNext, HasMarks, is_plain}
 use Rattle.py_lines.specs.Private.Passing.{CountsOn, FindsSpecial, IsCounted, PassesBlock, PassesLineFeeds, lines_with, passed_feeds}

@@ -1,16 +1,8 @@
 -- Pieces of a line that are passed one after another.
-use Rattle.py_lines.proofs.Prelude.{◌≡◌, ℕ, ◌+◌, ◌-◌, ◌<◌, ◌≤◌, not, true, false, None, List, [], ◌∷◌, ◌++◌, length, take, drop, slice_index, refl, sym, ap, ◌∙◌, subst, arith, length-drop, get_or-drop, inl, inr, both_ways, cases_lt, eq-eqb, false_from_ne_true, drop-drop, get_or-take, length-take-le, take-append-drop, take-take, list_all, transport}
-use Rattle.py_lines.specs.Character.{is_space}
-use Rattle.py_lines.specs.declared.frames.Frame.{Frame}
-use Rattle.py_lines.specs.declared.marks.Marks.{Marks}
-use Rattle.py_lines.specs.declared.mode.Mode.{Mode as OpenMode}
+use Rattle.py_lines.proofs.Prelude.{◌≡◌, ℕ, ◌+◌, ◌-◌, ◌<◌, ◌≤◌, not, true, false, None, List, [], ◌∷◌, ◌++◌, length, take, drop, slice_index, refl, sym, ap, ◌∙◌, subst, arith, length-drop, get_or-drop, inl, inr, both_ways, cases_lt, eq-eqb, false_from_ne_true, drop-drop, get_or-take, length-take-le, take-append-drop, take-take, list_all, transport, is_space, Frame, Marks, Passing, Scan, OpenMode, is_ascii_word, has_field}
 use Rattle.py_lines.specs.declared.mode.Mode.TheVariants as opens
-use Rattle.py_lines.specs.declared.passing.Passing.{Passing}
-use Rattle.py_lines.specs.declared.scan.Scan.{Scan}
-use Rattle.py_lines.specs.Private.Frames.{has_field}
 use Rattle.py_lines.specs.Private.Marks.{FindsNext, is_plain}
 use Rattle.py_lines.specs.Private.Passing.{EndsAfter, EndsLineSo, PassesSo, StandsFree, tail_of, with_frames}
-use Rattle.py_lines.specs.Private.Run.{is_ascii_word}
 use Rattle.py_lines.specs.declared.scan.Progress.TheVariants as progress
 use Rattle.py_lines.specs.Private.Scan.{IsFirstByte, Steps, Takes, ends_before, passed}
 use Rattle.py_lines.specs.Private.TakenPieces.{IsOperatorEnd, IsWordStart, TakesOn}

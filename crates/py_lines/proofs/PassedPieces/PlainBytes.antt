@@ -1,12 +1,6 @@
 -- Plain bytes of a line, as the scan would take them byte by byte, and what is open after them.
-use Rattle.py_lines.proofs.Prelude.{◌≡◌, ℕ, zero, suc, ◌+◌, ◌<◌, Bool, true, false, Option, None, Some, List, [], ◌∷◌, ◌++◌, length, slice_index, refl, sym, ap, ◌∙◌, subst, arith, length-append, list_all, and_parts, or_parts, encode_ascii, take-append_seam, low_scalar}
-use Rattle.py_lines.specs.Character.{is_space}
-use Rattle.py_lines.specs.declared.mode.Mode.{Mode as OpenMode}
+use Rattle.py_lines.proofs.Prelude.{◌≡◌, ℕ, zero, suc, ◌+◌, ◌<◌, Bool, true, false, Option, None, Some, List, [], ◌∷◌, ◌++◌, length, slice_index, refl, sym, ap, ◌∙◌, subst, arith, length-append, list_all, and_parts, or_parts, encode_ascii, take-append_seam, low_scalar, is_space, Spelling, Scan, OpenMode, has_field, is_plain}
 use Rattle.py_lines.specs.declared.mode.Mode.TheVariants as opens
-use Rattle.py_lines.specs.declared.mode.Spelling.{Spelling}
-use Rattle.py_lines.specs.declared.scan.Scan.{Scan}
-use Rattle.py_lines.specs.Private.Frames.{has_field}
-use Rattle.py_lines.specs.Private.Marks.{is_plain}
 use Rattle.py_lines.specs.Private.Passing.{tail_of, tail_on}
 use Rattle.py_lines.specs.Private.Run.{BeginsWith, HasRun, is_ascii_word}
 use Rattle.py_lines.specs.Private.Scan.{Takes, ends_before}

@@ -1,13 +1,7 @@
 -- Bytes that are read from one that isn't plain to the next, up to the end of a string or a comment.
-use Rattle.py_lines.proofs.Prelude.{◌≡◌, ℕ, ◌+◌, ◌-◌, ◌<◌, ◌==◌, not, nat_lt, true, false, List, Some, [], ◌∷◌, ◌++◌, length, take, drop, slice_index, refl, sym, ap, ◌∙◌, subst, arith, length-drop, get_or-drop, ◌≤◌, codes, list_all, and_from, and_parts, both_ways, eqb-true, false_from_ne_true, ltb-true, ne_eqb, not-true, or_parts, transport, take-add, drop-drop}
-use Rattle.py_lines.specs.Balance.{is_closing, is_opening}
+use Rattle.py_lines.proofs.Prelude.{◌≡◌, ℕ, ◌+◌, ◌-◌, ◌<◌, ◌==◌, not, nat_lt, true, false, List, Some, [], ◌∷◌, ◌++◌, length, take, drop, slice_index, refl, sym, ap, ◌∙◌, subst, arith, length-drop, get_or-drop, ◌≤◌, codes, list_all, and_from, and_parts, both_ways, eqb-true, false_from_ne_true, ltb-true, ne_eqb, not-true, or_parts, transport, take-add, drop-drop, is_closing, is_opening, Frame, Marks, Passing, line_ends, OpenMode}
 use Rattle.py_lines.specs.Character.{is_backslash, is_break, is_hash, is_one_of, is_operator, is_quote, is_space}
-use Rattle.py_lines.specs.declared.frames.Frame.{Frame}
-use Rattle.py_lines.specs.declared.marks.Marks.{Marks}
-use Rattle.py_lines.specs.declared.mode.Mode.{Mode as OpenMode}
 use Rattle.py_lines.specs.declared.mode.Mode.TheVariants as opens
-use Rattle.py_lines.specs.declared.passing.Passing.{Passing}
-use Rattle.py_lines.specs.LogicalLine.{line_ends}
 use Rattle.py_lines.specs.Private.Marks.{FindsNext, HasMarks, is_plain}
 use Rattle.py_lines.specs.Private.Passing.{PassesSo, TellsFields, passed_to, word_before}
 use Rattle.py_lines.proofs.PassedPieces.Counts.{NoEnds, byte_counts, line_byte_counts, plain_counts, quoted_counts}

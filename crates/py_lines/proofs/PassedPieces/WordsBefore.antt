@@ -1,11 +1,9 @@
 -- The word that bytes end with.
-use Rattle.py_lines.proofs.Prelude.{take-suc, ◌≡◌, ℕ, suc, ◌+◌, ◌-◌, ◌<◌, ◌≤◌, true, false, Option, None, Some, List, [], ◌∷◌, ◌++◌, length, take, drop, slice_index, refl, sym, ap, ◌∙◌, arith, take_all, take-append-drop, zero, inl, inr, length-drop, get_or-drop, list_all, and_parts, length-take-le}
-use Rattle.py_lines.specs.declared.mode.Spelling.{Spelling}
+use Rattle.py_lines.proofs.Prelude.{take-suc, ◌≡◌, ℕ, suc, ◌+◌, ◌-◌, ◌<◌, ◌≤◌, true, false, Option, None, Some, List, [], ◌∷◌, ◌++◌, length, take, drop, slice_index, refl, sym, ap, ◌∙◌, arith, take_all, take-append-drop, zero, inl, inr, length-drop, get_or-drop, list_all, and_parts, length-take-le, Spelling, rest_is, rest_of}
 use Rattle.py_lines.specs.Private.Machine.{first_spelling, spelling_on, spelling_with}
 use Rattle.py_lines.specs.Private.Passing.{tail_of, tail_on, tail_with}
 use Rattle.py_lines.specs.Private.Run.{is_ascii_word, word_spelling}
 use Rattle.py_lines.specs.Private.TakenPieces.{IsWordStart}
-use Rattle.py_lines.proofs.FieldScans.TextLengths.{rest_is, rest_of}
 use Rattle.py_lines.proofs.LineScan.AsciiRuns.{all_pass}
 
 -- the word that a text ends with

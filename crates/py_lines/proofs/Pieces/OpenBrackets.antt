@@ -1,6 +1,5 @@
 -- Brackets in pairs, their depth, and the stack of open ones: balanced pieces leave it as it was.
-use Rattle.py_lines.proofs.Prelude.{◌≡◌, ℕ, suc, ◌<◌, Bool, true, false, ◌==◌, Option, None, Some, List, [], ◌∷◌, ◌++◌, length, refl, sym, ap, ◌∙◌, subst, append_assoc, append-nil, add-one, arith, or_parts, both_ways, lt-ltb}
-use Rattle.py_lines.specs.Piece.{Class, operator, Piece, begins, spelled}
+use Rattle.py_lines.proofs.Prelude.{◌≡◌, ℕ, suc, ◌<◌, Bool, true, false, ◌==◌, Option, None, Some, List, [], ◌∷◌, ◌++◌, length, refl, sym, ap, ◌∙◌, subst, append_assoc, append-nil, add-one, arith, or_parts, both_ways, lt-ltb, Class, operator, Piece, begins, spelled}
 use Rattle.py_lines.specs.Balance as balance
 use Rattle.py_lines.specs.Balance.{is_opening, is_closing, closing_of, is_operator_that, is_opener, is_closer, ArePair, IsBalanced, depth_after, depth_through, EachAtDepth, OpensShallow, IsShallowPlain}
 use Rattle.py_lines.specs.LogicalLine.{first_or_zero, byte_len}

@@ -1,11 +1,8 @@
 -- Lists of pieces one after another.
-use Rattle.py_lines.proofs.Prelude.{◌≡◌, ℕ, false, List, [], ◌∷◌, ◌++◌, refl, sym, ap, ◌∙◌, subst, append_assoc, append-nil, arith}
+use Rattle.py_lines.proofs.Prelude.{◌≡◌, ℕ, false, List, [], ◌∷◌, ◌++◌, refl, sym, ap, ◌∙◌, subst, append_assoc, append-nil, arith, piece}
 use Rattle.py_lines.specs.Piece.{Class, Piece, is_mark_class, begins_marked, spelled}
 use Rattle.py_lines.specs.PieceGrammar.{Grammar, InClassIn, MayPrecedeIn, AreReadIn, joined}
 use Rattle.py_lines.specs.Fields.{fielded, AreReadBefore}
-
-abbrev pub piece : Class → List ℕ → Piece
-piece class text = record { class = class; text = text }
 
 pub spelled-append : (ps qs : List Piece) → spelled (ps ++ qs) ≡ spelled ps ++ spelled qs
 spelled-append [] qs = refl

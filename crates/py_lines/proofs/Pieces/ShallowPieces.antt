@@ -1,8 +1,6 @@
 -- Pieces in which nothing opens too deep: of two lists one after another, and of brackets alone.
-use Rattle.py_lines.proofs.Prelude.{ℕ, List, [], ◌∷◌, ◌++◌}
-use Rattle.py_lines.specs.Piece.{Piece}
+use Rattle.py_lines.proofs.Prelude.{ℕ, List, [], ◌∷◌, ◌++◌, Piece, IsShallow}
 use Rattle.py_lines.specs.Balance.{IsShallowPlain, depth_after, depth_through}
-use Rattle.py_lines.specs.Fields.{IsShallow}
 
 pub IsShallow-append : (d : ℕ) (ps qs : List Piece) → IsShallow d ps → IsShallow (depth_through d ps) qs → IsShallow d (ps ++ qs)
 IsShallow-append d [] qs h k = k

@@ -1,17 +1,13 @@
 -- The line that a reader gives next, without its tokens and with them.
-use Rattle.py_lines.proofs.Prelude.{◌≡◌, ℕ, ◌+◌, ◌≤◌, None, List, [], length, take, drop, refl, sym, ap, ◌∙◌, subst, transport, arith, length-drop, length-take-le}
-use Rattle.py_lines.specs.Piece.{Piece, spelled}
+use Rattle.py_lines.proofs.Prelude.{◌≡◌, ℕ, ◌+◌, ◌≤◌, None, List, [], length, take, drop, refl, sym, ap, ◌∙◌, subst, transport, arith, length-drop, length-take-le, Piece, spelled, LineState, Token, EachLiesIn}
 use Rattle.py_lines.specs.LogicalLine.{LogicalLine, line_ends, line_of, tokens_from}
 use Rattle.py_lines.specs.Outline.{IsOutlineOf, Outline}
 use Rattle.py_lines.specs.Reader.{PassesLine, Reader}
-use Rattle.py_lines.specs.Token.{EachLiesIn}
 use Rattle.py_lines.specs.UnitLine.{outline_in}
 use Rattle.py_lines.specs.Private.LineState.{passed}
 use Rattle.py_lines.specs.Private.LineTokens.{AreLineOf, AreLineText, HoldsTokens, IsLineAfter}
 use Rattle.py_lines.specs.Private.Outline.{with_tokens}
 use Rattle.py_lines.specs.Private.Source.{HasNextOf, IsNext, IsOutlineNext, IsReadNext}
-use Rattle.py_lines.specs.declared.line_state.LineState.{LineState}
-use Rattle.py_lines.specs.declared.token.Token.{Token}
 use Rattle.py_lines.specs.declared.unit.Line as given
 use Rattle.py_lines.proofs.LineScan.LineCount.{line_ends-bytes}
 use Rattle.py_lines.proofs.LineTokens.Outlines.{line_told, line_whole}

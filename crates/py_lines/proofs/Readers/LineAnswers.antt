@@ -1,26 +1,19 @@
 -- What the reader answers: its state after a line, and where a text ends, or is refused, its last line or the fault that stands there.
-use Rattle.py_lines.proofs.Prelude.{◌≡◌, ℕ, ◌+◌, ◌<◌, ◌⊎◌, inl, inr, true, None, Some, List, [], ◌∷◌, ◌++◌, length, drop, refl, sym, ap, ◌∙◌, subst, append_assoc, append-nil, arith, length-append, Bool, false, ◌==◌, encode_utf8_all, if◌then◌else◌, encode_utf8, Result, Ok, Err, all_scalars, StartsWithNoChar, length-le-encodes, encode_ascii, encode_same, drop-append_seam, and_parts, both_ways, and_from, eq-eqb, false_from_ne_true, eqb-true}
-use Rattle.py_lines.specs.Character.{is_return}
-use Rattle.py_lines.specs.Piece.{Class, line_end, Piece, begins, begins_marked, ends, spelled}
+use Rattle.py_lines.proofs.Prelude.{◌≡◌, ℕ, ◌+◌, ◌<◌, ◌⊎◌, inl, inr, true, None, Some, List, [], ◌∷◌, ◌++◌, length, drop, refl, sym, ap, ◌∙◌, subst, append_assoc, append-nil, arith, length-append, Bool, false, ◌==◌, encode_utf8_all, if◌then◌else◌, encode_utf8, Result, Ok, Err, all_scalars, StartsWithNoChar, length-le-encodes, encode_ascii, encode_same, drop-append_seam, and_parts, both_ways, and_from, eq-eqb, false_from_ne_true, eqb-true, is_return, Class, line_end, Piece, begins, begins_marked, ends, spelled, IsBalanced, depth_through, depth_after, Scan, LineFault, AreFirstLines, first_mode, byte_len-append}
 use Rattle.py_lines.specs.Fields.{AreReadBefore, IsShallow, fielded}
 use Rattle.py_lines.specs.Reading as reading
 use Rattle.py_lines.specs.LogicalLine.{LogicalLine, cut, byte_len, line_ends, line_of, end_len_of, is_line_end_class}
-use Rattle.py_lines.specs.Balance.{IsBalanced, depth_through, depth_after}
 use Rattle.py_lines.specs.Balance as brackets
-use Rattle.py_lines.specs.Given.{AreFirstLines}
 use Rattle.py_lines.specs.Settled.{EndsForGood}
-use Rattle.py_lines.specs.declared.scan.Scan.{Scan}
 use Rattle.py_lines.specs.declared.fault.FaultKind.TheVariants.{BadUtf8}
 use Rattle.py_lines.specs.Private.Mode as modes
 use Rattle.py_lines.specs.Private.LineScan.{EndsNoLine, IsApart, IsAtLineEnd, IsLeft, IsUnderWay, begins_line, line_begun}
 use Rattle.py_lines.specs.Private.Scan.{EndsTextSo, IsFieldEnd, has_returned, EndsAs, Follows, Goes, GoesOverAll, StandsAs}
-use Rattle.py_lines.specs.Private.LineState.{first_mode}
 use Rattle.py_lines.specs.Private.FieldFaults.{here, unfinished_at}
 use Rattle.py_lines.specs.Private.LineTokens.{AreLineText}
 use Rattle.py_lines.specs.Private.Machine.{Mode}
-use Rattle.py_lines.specs.declared.scan.LineFault.{LineFault}
 use Rattle.py_lines.proofs.Pieces.PieceLists.{spelled-append, AreReadIn-append, AreReadBefore-second}
-use Rattle.py_lines.proofs.LogicalLines.Cuts.{byte_len-append, one_line, line_depth, one_part}
+use Rattle.py_lines.proofs.LogicalLines.Cuts.{one_line, line_depth, one_part}
 use Rattle.py_lines.proofs.Lexings.LineEnds.{ends-line, read_on}
 use Rattle.py_lines.proofs.LineScan.LineSteps.{goes_on, rests_end, returned, unmarked, way_here, way_runs, way_sound}
 use Rattle.py_lines.proofs.LineScan.TextSteps.{follows_base}

@@ -1,19 +1,12 @@
 -- The machine goes through a whole text as it goes through the line that stands last in it, with the pieces of the lines before among those
 -- of its outermost list. So the fault that the scan of a line names is that of the whole text, and it stands in the line.
-use Rattle.py_lines.proofs.Prelude.{◌≡◌, ℕ, ◌<◌, ◌==◌, ◌&&◌, true, false, None, Some, List, [], ◌∷◌, ◌++◌, refl, sym, ap, ◌∙◌, subst, append-nil, arith, zero, suc, ◌+◌, ◌-◌, Bool, length, append_assoc, length-append, if◌then◌else◌, same_from_push, append_cancel_left, both_ways, cond_both, length-le-encodes}
-use Rattle.py_lines.specs.Character.{is_line_feed, is_break, is_return}
-use Rattle.py_lines.specs.Piece.{line_end, Piece, spelled}
-use Rattle.py_lines.specs.Balance.{IsBalanced, depth_through, is_opening, is_closing}
-use Rattle.py_lines.specs.Fields.{AreReadBefore, IsShallow}
+use Rattle.py_lines.proofs.Prelude.{◌≡◌, ℕ, ◌<◌, ◌==◌, ◌&&◌, true, false, None, Some, List, [], ◌∷◌, ◌++◌, refl, sym, ap, ◌∙◌, subst, append-nil, arith, zero, suc, ◌+◌, ◌-◌, Bool, length, append_assoc, length-append, if◌then◌else◌, same_from_push, append_cancel_left, both_ways, cond_both, length-le-encodes, is_line_feed, is_break, is_return, line_end, Piece, spelled, IsBalanced, depth_through, is_opening, is_closing, byte_len, FaultKind, LineFault, AreReadBefore, IsShallow, Place, literal, first_mode, piece, byte_len-append}
 use Rattle.py_lines.specs.Faults.{IsLive, Cause, breaks_string, closes_wrong, opens_too_deep, begins_nothing, kind_of_cause, Unfinished, open_brace, open_bracket, open_inside, kind_of_unfinished, IsCharacterFault, IsEndFault, at_end}
-use Rattle.py_lines.specs.LogicalLine.{byte_len}
 use Rattle.py_lines.specs.Private.Machine.{Mode, move_of, start_of, Bracket, brackets_of}
 use Rattle.py_lines.specs.Private.Mode as modes
 use Rattle.py_lines.specs.Private.FieldMachine.{FieldMode, FieldScanned, IsFieldFinal, Level, before, between, body, breaks, field_closed, field_move, field_moved, field_pieces, field_started, field_state, field_text_start, frames, has_room_at, levels_open, plain, room_step, roomy, text_place, after_open_backslash, may_end}
 use Rattle.py_lines.specs.Private.LineScan.{EndsNoLine, IsUnderWay, begins_line, line_begun}
-use Rattle.py_lines.specs.Private.LineState.{first_mode}
 use Rattle.py_lines.specs.Private.Scan.{Goes, has_returned, is_return_at, IsFieldEnd, IsFieldFault, IsUnfinishedAt}
-use Rattle.py_lines.proofs.Pieces.PieceLists.{piece}
 use Rattle.py_lines.proofs.FieldMachine.EarlierPieces.{goes_after, outer_pieces_after, room_step_after, state_after, state_after_if, frames_same, here_after, levels_after, levels_same, list_after, start_after, text_after}
 use Rattle.py_lines.proofs.FieldMachine.OuterLists.{outer_alone, outer_done, outer_held, outer_mode, outer_open, outer_pieces}
 use Rattle.py_lines.proofs.FieldMachine.Runs.{StopsAt, stops-fresh}
@@ -24,12 +17,8 @@ use Rattle.py_lines.proofs.FieldSoundness.WholeTexts.{code_at_end, list_ends, tw
 use Rattle.py_lines.proofs.LineScan.LineSteps.{way_one_line, way_sound, way_here, closed_one_line}
 use Rattle.py_lines.proofs.LineScan.TextSteps.{Base, begun_sound}
 use Rattle.py_lines.specs.Balance as balance
-use Rattle.py_lines.specs.FieldStrings.{Place, literal}
 use Rattle.py_lines.specs.PieceGrammar.{feed}
-use Rattle.py_lines.specs.declared.fault.FaultKind.{FaultKind}
-use Rattle.py_lines.specs.declared.scan.LineFault.{LineFault}
 use Rattle.py_lines.specs.Private.FieldFaults.{is_waiting, quotes_specification, cause_in, cause_place, here, field_start, unfinished_code, unfinished_in, unfinished_at}
-use Rattle.py_lines.proofs.LogicalLines.Cuts.{byte_len-append}
 use Rattle.py_lines.proofs.Faults.CharacterFaults.{IsStuck, IsShortHere, cause_fits, short_here}
 use Rattle.py_lines.proofs.Faults.Ends.{StandsThere, text_is, unfinished_fits}
 use Rattle.py_lines.proofs.Faults.FaultPrefixes.{PrefixTo, explained, field_fault_prefix}

@@ -1,23 +1,12 @@
 -- A line that the last bytes of a text begin with: what the scan of it comes to.
-use Rattle.py_lines.proofs.Prelude.{◌≡◌, ℕ, ◌+◌, ◌-◌, ◌<◌, ◌≤◌, inl, inr, true, None, Some, Ok, Err, Result, List, [], ◌∷◌, ◌++◌, length, take, drop, refl, sym, ap, ◌∙◌, subst, append_assoc, append-nil, arith, length-append, length-drop, encode_utf8_all, all_scalars, length-take-le, nil_from_length, take_all, encodes-append, encodes_same, length-le-encodes}
-use Rattle.py_lines.specs.Character.{is_line_feed}
-use Rattle.py_lines.specs.Piece.{Piece, begins, spelled}
-use Rattle.py_lines.specs.Fields.{AreReadBefore}
-use Rattle.py_lines.specs.LogicalLine.{LogicalLine, byte_len, line_ends, line_of}
-use Rattle.py_lines.specs.Given.{AreFirstLines}
+use Rattle.py_lines.proofs.Prelude.{◌≡◌, ℕ, ◌+◌, ◌-◌, ◌<◌, ◌≤◌, inl, inr, true, None, Some, Ok, Err, Result, List, [], ◌∷◌, ◌++◌, length, take, drop, refl, sym, ap, ◌∙◌, subst, append_assoc, append-nil, arith, length-append, length-drop, encode_utf8_all, all_scalars, length-take-le, nil_from_length, take_all, encodes-append, encodes_same, length-le-encodes, is_line_feed, Piece, begins, spelled, LogicalLine, byte_len, line_ends, line_of, Fault, FaultKind, LineState, LineFault, Scan, AreReadBefore, AreFirstLines, byte_len-append}
 use Rattle.py_lines.specs.Lexed.{IsLexed}
 use Rattle.py_lines.specs.Reader.{HasGiven, PassesLine, Reader}
 use Rattle.py_lines.specs.ScannerState.{GoesOnWith}
-use Rattle.py_lines.specs.declared.fault.Fault.{Fault}
-use Rattle.py_lines.specs.declared.fault.FaultKind.{FaultKind}
-use Rattle.py_lines.specs.declared.line_state.LineState.{LineState}
-use Rattle.py_lines.specs.declared.scan.LineFault.{LineFault}
-use Rattle.py_lines.specs.declared.scan.Scan.{Scan}
 use Rattle.py_lines.specs.declared.scan.Stop.{Stop}
 use Rattle.py_lines.specs.declared.scan.Stop.TheVariants as stops
 use Rattle.py_lines.specs.Private.Machine.{Mode}
 use Rattle.py_lines.specs.Private.LineTokens.{AreLineText}
-use Rattle.py_lines.proofs.LogicalLines.Cuts.{byte_len-append}
 use Rattle.py_lines.specs.Private.FieldMachine.{field_pieces}
 use Rattle.py_lines.specs.Private.LineScan.{IsUnderWay, ScansIn, begins_line}
 use Rattle.py_lines.specs.Private.LineState.{HasNextFault, HasNextLine, IsFaultAfter, ScansLine, WhereLeft, first_mode}

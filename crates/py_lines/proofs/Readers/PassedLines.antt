@@ -1,14 +1,10 @@
 -- Lines that were passed over are the text's next.
-use Rattle.py_lines.proofs.Prelude.{◌≡◌, ℕ, ◌+◌, ◌-◌, ◌<◌, ◌≤◌, ◌&&◌, inl, inr, false, None, List, [], ◌∷◌, ◌++◌, length, take, drop, refl, sym, ap, ◌∙◌, subst, append_assoc, append-nil, arith, length-append, ⊎_elim, encode_utf8_all, flat_map, drop-drop, length-take-le, length-drop, take-append-drop, take-append-le, encodes-append, drop-append_seam, and_parts, both_ways, cases_Bool, false_from_ne_true}
-use Rattle.py_lines.specs.Character.{is_line_feed, is_return}
-use Rattle.py_lines.specs.Piece.{Piece, begins, ends}
-use Rattle.py_lines.specs.LogicalLine.{LogicalLine, byte_len, line_ends, line_of}
+use Rattle.py_lines.proofs.Prelude.{◌≡◌, ℕ, ◌+◌, ◌-◌, ◌<◌, ◌≤◌, ◌&&◌, inl, inr, false, None, List, [], ◌∷◌, ◌++◌, length, take, drop, refl, sym, ap, ◌∙◌, subst, append_assoc, append-nil, arith, length-append, ⊎_elim, encode_utf8_all, flat_map, drop-drop, length-take-le, length-drop, take-append-drop, take-append-le, encodes-append, drop-append_seam, and_parts, both_ways, cases_Bool, false_from_ne_true, is_line_feed, is_return, Piece, begins, ends, LogicalLine, byte_len, line_ends, line_of, first_mode, AreFirstLines}
 use Rattle.py_lines.specs.Lines.{PassesUpTo}
 use Rattle.py_lines.specs.Reader.{Reader, PassesLine, PassesLines}
 use Rattle.py_lines.specs.Private.Machine.{Mode}
 use Rattle.py_lines.specs.Private.Mode as modes
 use Rattle.py_lines.specs.Private.LineScan.{EndsWhole, IsAtLineEnd}
-use Rattle.py_lines.specs.Private.LineState.{first_mode}
 use Rattle.py_lines.specs.Private.WholeLines.{AreWholeLines, BeginWithLines, IsWholeLine}
 use Rattle.py_lines.proofs.LineScan.LineSteps.{follows_whole}
 use Rattle.py_lines.proofs.LineScan.LineCount.{line_ends-bytes}
@@ -20,7 +16,6 @@ use Rattle.py_lines.proofs.Feeds.SettledSoFar.{IsNextLine, next_line, settled_re
 use Rattle.py_lines.proofs.Feeds.Released.{released}
 use Rattle.py_lines.proofs.Text.LineEnds.{line_ends-encoded}
 use Rattle.py_lines.specs.Settled.{IsSettled}
-use Rattle.py_lines.specs.Given.{AreFirstLines}
 use Rattle.py_lines.specs.ScannerState.{EndsExactly, GoesOnWith}
 
 -- the line where nothing follows it

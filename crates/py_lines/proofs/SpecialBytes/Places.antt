@@ -1,15 +1,9 @@
 -- The marks of a text after some of it is passed.
-use Rattle.py_lines.proofs.Prelude.{nat_tests, ◌≡◌, ℕ, ◌+◌, ◌-◌, ◌*◌, ◌%◌, ◌^◌, ◌<◌, ◌≤◌, Bool, true, false, ◌&&◌, ◌||◌, not, eqb, Some, List, length, slice_index, zero, suc, cond, max, ◌/◌, bit_and, bit_or, bit_xor, refl, sym, ap, ◌∙◌, inl, inr, arith, w64, ◌++◌, drop, replicate, le_of_eq, length-append, length-drop, get_or-drop, bit_at, trailing_zeros, count_leading_zeros, ones, ones-le, ones_step, pow-suc, count_by, nat_lt, cases_Bool, cases_eq, cases_lt, le-leb, le-ltb, lt-ltb, at_drop_more, drop_all, get_or_append_left, sum_by-replicate, sum_by-append, sum_by-take-drop, bit_at_lowest, bit_at-suc, bit_at_set_other, bit_at_set_same}
+use Rattle.py_lines.proofs.Prelude.{nat_tests, ◌≡◌, ℕ, ◌+◌, ◌-◌, ◌*◌, ◌%◌, ◌^◌, ◌<◌, ◌≤◌, Bool, true, false, ◌&&◌, ◌||◌, not, eqb, Some, List, length, slice_index, zero, suc, cond, max, ◌/◌, bit_and, bit_or, bit_xor, refl, sym, ap, ◌∙◌, inl, inr, arith, w64, ◌++◌, drop, replicate, le_of_eq, length-append, length-drop, get_or-drop, bit_at, trailing_zeros, count_leading_zeros, ones, ones-le, ones_step, pow-suc, count_by, nat_lt, cases_Bool, cases_eq, cases_lt, le-leb, le-ltb, lt-ltb, at_drop_more, drop_all, get_or_append_left, sum_by-replicate, sum_by-append, sum_by-take-drop, bit_at_lowest, bit_at-suc, bit_at_set_other, bit_at_set_same, Marks, is_closing, is_opening, is_line_feed, is_operator, is_return, is_space, line_ends, is_ascii_word, rest_is, rest_of}
 use Rattle.memchr.specs.Find.{is_byte}
-use Rattle.py_lines.specs.declared.marks.Marks.{Marks}
-use Rattle.py_lines.specs.Balance.{is_closing, is_opening}
-use Rattle.py_lines.specs.Character.{is_line_feed, is_operator, is_return, is_space}
-use Rattle.py_lines.specs.LogicalLine.{line_ends}
-use Rattle.py_lines.specs.Private.Run.{is_ascii_word}
 use Rattle.py_lines.specs.Private.Marks.{Advances, ArePlain, CountsFeeds, EndInFeed, FindsNext, HasMarks, IsSpecial, PassesFeeds, is_feed, is_mark, is_plain, is_set}
 use Rattle.py_lines.proofs.PassedPieces.LineFeeds.{plain_on}
 use Rattle.py_lines.proofs.Text.Lanes.{filled_past}
-use Rattle.py_lines.proofs.FieldScans.TextLengths.{rest_is, rest_of}
 use Rattle.py_lines.proofs.SpecialBytes.Bits.{HasFeeds, HasLowest, cleared_below-is, first_feeds, first_feeds-are, lowest, unset}
 
 -- a byte of the text that isn't plain

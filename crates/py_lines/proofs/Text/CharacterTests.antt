@@ -1,8 +1,7 @@
 -- What a test of a character says where the character is one of a list.
-use Rattle.py_lines.proofs.Prelude.{◌≡◌, ℕ, ◌<◌, leb, Bool, true, false, ◌||◌, eqb, List, [], ◌∷◌, refl, sym, ap, ◌∙◌, subst, ⊎_elim, arith, codes, list_any, list_all, leb-false, or_cases, or_parts, and_from, eqb-true, false_from_ne_true, both_ways}
+use Rattle.py_lines.proofs.Prelude.{◌≡◌, ℕ, ◌<◌, leb, Bool, true, false, ◌||◌, eqb, List, [], ◌∷◌, refl, sym, ap, ◌∙◌, subst, ⊎_elim, arith, codes, list_any, list_all, leb-false, or_cases, or_parts, and_from, eqb-true, false_from_ne_true, both_ways, is_opening, is_closing}
 use Rattle.unicode_ident.proofs.Computing.{unicode_ident}
 use Rattle.py_lines.specs.Character.{is_one_of, is_mark, is_word_character, is_word_start, is_digit, is_quote, is_operator, is_line_feed, is_return, is_break, is_backslash, is_brace, is_barred, is_r, is_b, is_f, is_t, is_u}
-use Rattle.py_lines.specs.Balance.{is_opening, is_closing}
 use Rattle.py_lines.specs.PieceGrammar.{is_prefix}
 
 -- what each one of a list is

@@ -1,6 +1,5 @@
 -- Each list of bytes is the UTF-8 of some characters, and then bytes that begin no character.
-use Rattle.py_lines.proofs.Prelude.{◌≡◌, ℕ, zero, suc, ◌<◌, ◌≤◌, List, ◌++◌, length, take, drop, sym, ap, ◌∙◌, subst, ⊎_elim, arith, take-append-drop, IsUtf8, is_utf8, cases_lt, cases_Bool, both_ways, IsUtf8-nil, IsUtf8-from_is_utf8, is_utf8-from_IsUtf8}
-use Rattle.py_lines.specs.Reading.{Decodes}
+use Rattle.py_lines.proofs.Prelude.{◌≡◌, ℕ, zero, suc, ◌<◌, ◌≤◌, List, ◌++◌, length, take, drop, sym, ap, ◌∙◌, subst, ⊎_elim, arith, take-append-drop, IsUtf8, is_utf8, cases_lt, cases_Bool, both_ways, IsUtf8-nil, IsUtf8-from_is_utf8, is_utf8-from_IsUtf8, Decodes}
 use Rattle.py_lines.proofs.Text.Utf8Prefixes.{NoneLonger, opening_text, one_decoding}
 
 -- the longest prefix that is UTF-8: if one isn't and none longer is, then none longer than the next shorter one is

@@ -1,7 +1,5 @@
 -- The character that bytes begin with.
-use Rattle.py_lines.proofs.Prelude.{nat_tests, ◌≡◌, ◌==◌, Bool, true, false, ℕ, ◌+◌, ◌-◌, ◌<◌, ◌≤◌, Option, List, [], ◌∷◌, ◌++◌, length, take, drop, slice_get, sym, ap, ◌∙◌, subst, append_assoc, arith, length-append, length-take, take-append-drop, min, encode_utf8, encode_utf8_all, IsUtf8, MatchOption, StartsWithNoChar, all_scalars, chars, IsScalar, len_utf8, le-min, and_parts, take-take, chars_from_encodes, length-encode, len_utf8_bounds, take-add, take-append_seam, drop-append_seam}
-use Rattle.py_lines.specs.Piece.{begins}
-use Rattle.py_lines.specs.Private.Run.{BeginsWith}
+use Rattle.py_lines.proofs.Prelude.{nat_tests, ◌≡◌, ◌==◌, Bool, true, false, ℕ, ◌+◌, ◌-◌, ◌<◌, ◌≤◌, Option, List, [], ◌∷◌, ◌++◌, length, take, drop, slice_get, sym, ap, ◌∙◌, subst, append_assoc, arith, length-append, length-take, take-append-drop, min, encode_utf8, encode_utf8_all, IsUtf8, MatchOption, StartsWithNoChar, all_scalars, chars, IsScalar, len_utf8, le-min, and_parts, take-take, chars_from_encodes, length-encode, len_utf8_bounds, take-add, take-append_seam, drop-append_seam, begins, BeginsWith}
 
 -- the bytes after the character don't matter
 pub begins_with : (bytes rest : List ℕ) (c : ℕ) → IsScalar c → bytes ≡ encode_utf8 c ++ rest → BeginsWith bytes c

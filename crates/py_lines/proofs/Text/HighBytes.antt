@@ -1,6 +1,5 @@
 -- Characters that aren't ASCII, their bytes, and tests that make no difference between numbers from 128 on.
-use Rattle.py_lines.proofs.Prelude.{◌≡◌, ℕ, ◌<◌, ◌≤◌, Bool, true, List, [], ◌∷◌, ◌++◌, refl, ap, ◌∙◌, ⊎_elim, arith, encode_utf8, encode_utf8_all, list_all, and_from, and_parts, cases_lt, list_all-append}
-use Rattle.py_lines.specs.Piece.{begins}
+use Rattle.py_lines.proofs.Prelude.{◌≡◌, ℕ, ◌<◌, ◌≤◌, Bool, true, List, [], ◌∷◌, ◌++◌, refl, ap, ◌∙◌, ⊎_elim, arith, encode_utf8, encode_utf8_all, list_all, and_from, and_parts, cases_lt, list_all-append, begins}
 use Rattle.py_lines.proofs.Text.CharacterTests.{Each}
 use Rattle.py_lines.proofs.Text.Utf8Shapes.{one, two, three, four}
 

@@ -1,10 +1,8 @@
 -- Line ends, counted in the bytes of a text: the bytes of other characters are neither LF nor CR.
-use Rattle.py_lines.proofs.Prelude.{◌≡◌, ℕ, zero, suc, ◌+◌, ◌-◌, ◌<◌, ◌≤◌, true, false, cond, not, ◌&&◌, eqb, List, [], ◌∷◌, ◌++◌, length, take, drop, refl, ⊎_elim, arith, encode_utf8_all, count_by, ends_with, list_all, starts_with, sum_by-cons, cases_lt, false_from_ne_true}
+use Rattle.py_lines.proofs.Prelude.{◌≡◌, ℕ, zero, suc, ◌+◌, ◌-◌, ◌<◌, ◌≤◌, true, false, cond, not, ◌&&◌, eqb, List, [], ◌∷◌, ◌++◌, length, take, drop, refl, ⊎_elim, arith, encode_utf8_all, count_by, ends_with, list_all, starts_with, sum_by-cons, cases_lt, false_from_ne_true, is_break, is_line_feed, is_return, line_ends}
 use mir.Val.{bool_byte}
 use native.Mathlib.Numerals.{unary_clauses}
 use Rattle.memchr.specs.Find.{Nowhere, Passes, is_byte}
-use Rattle.py_lines.specs.Character.{is_break, is_line_feed, is_return}
-use Rattle.py_lines.specs.LogicalLine.{line_ends}
 use Rattle.py_lines.specs.Private.LineEnds.{lone_returns}
 use Rattle.py_lines.proofs.Text.CharacterTests.{Each, feed_is, return_is}
 use Rattle.py_lines.proofs.Text.HighBytes.{encoded_begins, high_bytes, low_even}

@@ -1,4 +1,4 @@
-use Rattle.py_lines.proofs.Prelude.{◌≡◌, ℕ, length, take, sym, ap, ◌∙◌, arith, length-take-le, take_all, IsValidUpTo}
+use Rattle.py_lines.proofs.Prelude.{◌≡◌, ℕ, length, take, sym, ap, ◌∙◌, arith, length-take-le, take_all, IsValidUpTo, nat_tests}
 use Rattle.py_lines.proofs.Text.Utf8Prefixes.{whole_text, front_text}
 use Rattle.py_lines.proofs.character.utf8_prefix.Goals as goal
 use Rattle.py_lines.proofs.character.utf8_prefix.Goals.{After-valid_up_to}
@@ -24,3 +24,9 @@ returns-in-Err c =
       prefix = is ∙ ap (λ (n : ℕ). take n c.args.bytes.now) (sym (ap length is ∙ length_front told));
       bad = front_text c.from_utf8_unchecked.result.now c.args.bytes.now c.valid_up_to.result is (front told);
     }
+
+pub returns-in-Ok-text : goal.returns-in-Ok-text
+returns-in-Ok-text c = grind (arith, nat_tests)
+
+pub from_utf8_unchecked-requires : goal.from_utf8_unchecked-requires
+from_utf8_unchecked-requires c = grind (arith, nat_tests)

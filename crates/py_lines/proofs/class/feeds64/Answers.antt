@@ -1,6 +1,5 @@
-use Rattle.py_lines.proofs.Prelude.{eqb, arith, length-chunk}
+use Rattle.py_lines.proofs.Prelude.{eqb, arith, length-chunk, is_line_feed}
 use Rattle.memchr.specs.Find.{is_byte}
-use Rattle.py_lines.specs.Character.{is_line_feed}
 use Rattle.py_lines.proofs.SpecialBytes.LookUps.{bit_shown, ones_shown}
 use Rattle.py_lines.proofs.Text.Lanes.{compared, same}
 use Rattle.py_lines.proofs.class.feeds64.Goals as goal

@@ -1,9 +1,5 @@
-use Rattle.py_lines.proofs.Prelude.{ℕ, Bool, not, eqb, refl}
+use Rattle.py_lines.proofs.Prelude.{ℕ, Bool, not, eqb, refl, is_operator, is_space, is_closing, is_opening, is_ascii_word, is_plain}
 use Rattle.py_lines.specs.declared.class.TheConstants.{PLAIN, UPPER}
-use Rattle.py_lines.specs.Character.{is_operator, is_space}
-use Rattle.py_lines.specs.Balance.{is_closing, is_opening}
-use Rattle.py_lines.specs.Private.Run.{is_ascii_word}
-use Rattle.py_lines.specs.Private.Marks.{is_plain}
 use Rattle.py_lines.proofs.SpecialBytes.LookUps.{bit_shown, highs_fit, loaded, looked_up_shows, lows_fit}
 use Rattle.py_lines.proofs.class.special64.Goals as goal
 

@@ -1,5 +1,4 @@
-use Rattle.py_lines.proofs.Prelude.{◌+◌, ap, arith, le_refl, length-drop, take_rest}
-use Rattle.py_lines.specs.LogicalLine.{line_ends}
+use Rattle.py_lines.proofs.Prelude.{◌+◌, ap, arith, le_refl, length-drop, take_rest, line_ends}
 use Rattle.py_lines.proofs.LineScan.LineCount.{line_ends-le}
 use Rattle.py_lines.proofs.Text.LineEnds.{ends_counted, line_ends-encoded, lone_more, none_lone}
 use Rattle.py_lines.proofs.line_ends.line_ends.Goals as goal

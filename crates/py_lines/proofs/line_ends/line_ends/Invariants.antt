@@ -1,5 +1,4 @@
-use Rattle.py_lines.proofs.Prelude.{◌≡◌, ◌+◌, ◌≤◌, length}
-use Rattle.py_lines.specs.LogicalLine.{line_ends}
+use Rattle.py_lines.proofs.Prelude.{◌≡◌, ◌+◌, ◌≤◌, length, line_ends}
 use Rattle.py_lines.specs.Private.LineEnds.{lone_returns}
 use Rattle.py_lines.proofs.line_ends.line_ends.Given as goal
 

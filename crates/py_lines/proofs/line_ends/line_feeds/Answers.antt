@@ -43,3 +43,9 @@ copy_from_slice-requires c = grind (arith, common_steps)
 
 pub overflow_cast-result : goal.overflow_cast-result
 overflow_cast-result c = grind (arith, common_steps)
+
+pub slice_bounds-feeds64-end : goal.slice_bounds-feeds64-end
+slice_bounds-feeds64-end c = grind (arith, common_steps)
+
+pub feeds64-requires-2 : goal.feeds64-requires-2
+feeds64-requires-2 c = grind (arith, common_steps)

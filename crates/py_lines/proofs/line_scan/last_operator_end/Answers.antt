@@ -16,3 +16,6 @@ returns-else-not-matches c = grind (arith, common_steps)
 
 pub returns-after-loop-end : goal.returns-after-loop-end
 returns-after-loop-end c = grind (arith, common_steps)
+
+pub overflow_sub-end-in-loop-end : goal.overflow_sub-end-in-loop-end
+overflow_sub-end-in-loop-end c = grind arith

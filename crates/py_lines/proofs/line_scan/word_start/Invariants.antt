@@ -1,5 +1,4 @@
-use Rattle.py_lines.proofs.Prelude.{◌≡◌, ◌<◌, ◌≤◌, ℕ, true, length, slice_index}
-use Rattle.py_lines.specs.Private.Run.{is_ascii_word}
+use Rattle.py_lines.proofs.Prelude.{◌≡◌, ◌<◌, ◌≤◌, ℕ, true, length, slice_index, is_ascii_word}
 use Rattle.py_lines.proofs.line_scan.word_start.Given as goal
 
 abbrev pub invariant-loop-start : goal.invariant-loop-start

@@ -1,11 +1,7 @@
-use Rattle.py_lines.proofs.Prelude.{◌≡◌, ◌<◌, ◌≤◌, ◌+◌, ◌∙◌, ℕ, List, ap, arith, drop, length, length-drop, refl, subst, sym, append-nil, false, true, slice_index, ⊎_elim, or_left}
-use Rattle.py_lines.specs.Character.{is_quote, is_space}
+use Rattle.py_lines.proofs.Prelude.{◌≡◌, ◌<◌, ◌≤◌, ◌+◌, ◌∙◌, ℕ, List, ap, arith, drop, length, length-drop, refl, subst, sym, append-nil, false, true, slice_index, ⊎_elim, or_left, is_quote, is_space, Token, rest_is, rest_of, is_of_class}
 use Rattle.py_lines.specs.declared.class.Class.{Class as ByteClass}
-use Rattle.py_lines.specs.declared.token.Token.{Token}
 use Rattle.py_lines.specs.Private.LineTokens.{AddsPiece, IsFirstAnyway, ReadsAnyway, Role, token_piece}
-use Rattle.py_lines.specs.Private.Marks.{is_of_class}
 use Rattle.py_lines.specs.Private.Run.{is_wide_word}
-use Rattle.py_lines.proofs.FieldScans.TextLengths.{rest_is, rest_of}
 use Rattle.py_lines.proofs.PassedPieces.FirstBytes.{first_later}
 use Rattle.py_lines.proofs.LineTokens.FirstCharacters.{OfByte}
 use Rattle.py_lines.proofs.LineTokens.Anyway.{comment_anyway, feed_anyway, operator_anyway, run_some, space_anyway, word_anyway}

@@ -1,13 +1,10 @@
-use Rattle.py_lines.proofs.Prelude.{◌≡◌, ◌+◌, ◌∙◌, ℕ, List, true, false, ap, append-nil, arith, drop, le_refl, length, length-drop, refl, slice_index, subst, sym, ⊎_elim, MatchOption, nat_le, both_ways, or_left, or_right, take_all}
-use Rattle.py_lines.specs.Piece.{Piece}
+use Rattle.std.proofs.lemmas.Grind.{common_steps}
+use Rattle.py_lines.proofs.Prelude.{◌≡◌, ◌+◌, ◌∙◌, ℕ, List, true, false, ap, append-nil, arith, drop, le_refl, length, length-drop, refl, slice_index, subst, sym, ⊎_elim, MatchOption, nat_le, both_ways, or_left, or_right, take_all, Piece, Token, nat_tests, rest_is, rest_of, is_of_class}
 use Rattle.py_lines.specs.declared.class.Class.{Class as ByteClass}
 use Rattle.py_lines.specs.declared.class.Class.TheVariants as class
-use Rattle.py_lines.specs.declared.token.Token.{Token}
 use Rattle.py_lines.specs.declared.token.TokKind.TheVariants as kind
 use Rattle.py_lines.specs.Private.LineTokens.{AddsPiece, BeginWithPiece, IsFirstPiece, ReadsAnyway, ReadsPiece, Role, StaysUnread, is_simple}
-use Rattle.py_lines.specs.Private.Marks.{is_of_class}
 use Rattle.py_lines.specs.Private.Run.{is_ascii_word, is_wide_word}
-use Rattle.py_lines.proofs.FieldScans.TextLengths.{rest_is, rest_of}
 use Rattle.py_lines.proofs.LineTokens.Anyway.{begins_from, piece_read}
 use Rattle.py_lines.proofs.LineTokens.FirstCharacters.{class_is, class_told, some_bytes}
 use Rattle.py_lines.proofs.LineTokens.FirstPieces.{join_taken, line_end_taken}
@@ -121,3 +118,12 @@ returns-in_ok-add_token-in-Quote c =
       adds = subst (λ (t : List Token). AddsPiece t (Role.token_of kind.Str) start (start + r.0) c.args.line c.add_token-in-Quote.new.tokens.items)
           (unread (goal.at.returns-in_ok-add_token-in-Quote c).In_default).1 c.in_ok-add_token-in-Quote.ensures;
     })
+
+pub read_anyway-requires-clause-class : goal.read_anyway-requires-clause-class
+read_anyway-requires-clause-class c = grind (arith, common_steps)
+
+pub overflow_add-result : goal.overflow_add-result
+overflow_add-result c = grind (arith, nat_tests)
+
+pub string_len-len-requires-clause-quote : goal.string_len-len-requires-clause-quote
+string_len-len-requires-clause-quote c = grind (arith, nat_tests)

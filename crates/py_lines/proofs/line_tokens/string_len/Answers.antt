@@ -1,7 +1,6 @@
-use Rattle.py_lines.proofs.Prelude.{sym, ◌∙◌, subst, arith, refl, encode_utf8_all, length-take-le}
-use Rattle.py_lines.specs.Piece.{spelled, string}
+use Rattle.std.proofs.lemmas.Grind.{common_steps}
+use Rattle.py_lines.proofs.Prelude.{sym, ◌∙◌, subst, arith, refl, encode_utf8_all, length-take-le, spelled, string, rest_of}
 use Rattle.py_lines.specs.Private.Run.{HasWholePlainString}
-use Rattle.py_lines.proofs.FieldScans.TextLengths.{rest_of}
 use Rattle.py_lines.proofs.LineTokens.FirstCharacters.{spelled_bytes}
 use Rattle.py_lines.proofs.LineTokens.FirstPieces.{cut_at, taken}
 use Rattle.py_lines.proofs.LineTokens.FirstString.{string_within}
@@ -29,3 +28,15 @@ returns c = λ p b.
     let stop = c.take_first.ensures p is b in
     let text = cut_at c.args.bytes.now (encode_utf8_all p.text) (encode_utf8_all (spelled b.others)) _ (spelled_bytes c.args.bytes.now p b) stop in
     taken b string is refl stop (c.line_ends.ensures.count p.text (sym text.0))
+
+pub overflow_add-result : goal.overflow_add-result
+overflow_add-result c = grind (arith, common_steps)
+
+pub whole_plain_string-requires : goal.whole_plain_string-requires
+whole_plain_string-requires c = grind (arith, common_steps)
+
+pub slice_bounds-whole_plain_string-count : goal.slice_bounds-whole_plain_string-count
+slice_bounds-whole_plain_string-count c = grind (arith, common_steps)
+
+pub slice_bounds-whole_plain_string-start : goal.slice_bounds-whole_plain_string-start
+slice_bounds-whole_plain_string-start c = grind (arith, common_steps)

@@ -1,8 +1,7 @@
 use Rattle.std.specs.Bool.{then_some}
-use Rattle.py_lines.proofs.Prelude.{◌≡◌, Bool, Some, arith, false, true, refl, subst, sym}
+use Rattle.py_lines.proofs.Prelude.{◌≡◌, Bool, Some, arith, false, true, refl, subst, sym, Spelling}
 use Rattle.py_lines.specs.Private.Machine.{begins_string, is_field_spelling}
 use Rattle.py_lines.specs.Private.Passing.{TellsFields}
-use Rattle.py_lines.specs.declared.mode.Spelling.{Spelling}
 use Rattle.py_lines.proofs.PassedPieces.WordsBefore.{no_word_there, word_there}
 use Rattle.py_lines.proofs.passing.fields_after.Goals as goal
 

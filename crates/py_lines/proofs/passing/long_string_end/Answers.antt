@@ -2,8 +2,7 @@ use Rattle.std.proofs.lemmas.Grind.{common_steps}
 use Rattle.py_lines.specs.Private.LongStrings.{TakesLong}
 use Rattle.py_lines.specs.Private.Passing.{TellsFields, tail_of}
 use Rattle.py_lines.specs.Private.Scan.{passed}
-use Rattle.py_lines.proofs.Prelude.{◌+◌, ◌-◌, Some, arith, drop, refl, slice_index, subst, take}
-use Rattle.py_lines.proofs.FieldScans.TextLengths.{rest_is}
+use Rattle.py_lines.proofs.Prelude.{◌+◌, ◌-◌, Some, arith, drop, refl, slice_index, subst, take, rest_is}
 use Rattle.py_lines.proofs.passing.long_string_end.Goals as goal
 
 pub overflow_add-result : goal.overflow_add-result

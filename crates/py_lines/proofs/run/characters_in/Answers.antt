@@ -1,8 +1,7 @@
 use Rattle.std.proofs.lemmas.Grind.{common_steps}
-use Rattle.py_lines.proofs.Prelude.{arith, ◌≡◌, ◌<◌, ℕ, Bool, List, true, rules, sym, and_parts, ltb-true, length-take-le}
+use Rattle.py_lines.proofs.Prelude.{arith, ◌≡◌, ◌<◌, ℕ, Bool, List, true, rules, sym, and_parts, ltb-true, length-take-le, OpenMode}
 use Rattle.py_lines.specs.Character.{is_backslash, is_space}
 use Rattle.py_lines.specs.Private.Run.{IsRunOf, Spans, is_ascii_word, is_long_byte, is_long_text_byte, stays}
-use Rattle.py_lines.specs.declared.mode.Mode.{Mode as OpenMode}
 use Rattle.py_lines.specs.declared.mode.Mode.TheVariants as opens
 use Rattle.py_lines.specs.declared.mode.Spelling.{Spelling}
 use Rattle.py_lines.specs.declared.mode.Spelling.TheVariants as spellings

@@ -26,3 +26,6 @@ returns-then-is_none-clause-no c = λ is lacks.
 pub returns-else-is_none-clause-no : goal.returns-else-is_none-clause-no
 returns-else-is_none-clause-no c = λ is lacks.
     (tells c.args.bytes.now c.args.word.now c.find.result c.requires c.find.ensures).1 (c.is_none.ensures ∙ ap not c.if-is_none.false) lacks.0
+
+pub returns-else-is_none-clause-yes : goal.returns-else-is_none-clause-yes
+returns-else-is_none-clause-yes c = grind arith

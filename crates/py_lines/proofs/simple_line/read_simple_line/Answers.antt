@@ -1,10 +1,5 @@
-use Rattle.py_lines.proofs.Prelude.{◌≡◌, ◌+◌, ◌-◌, ◌≤◌, ◌∙◌, List, [], ℕ, add-zero, ap, arith, drop, length-drop, refl, slice_index, subst, sym, take, transport, eqb-false, IfOk-from_err, IfSome}
-use Rattle.py_lines.specs.declared.token.Token.{Token}
-use Rattle.py_lines.specs.declared.passing.Passing.{Passing}
-use Rattle.py_lines.specs.declared.scan.Scan.{Scan}
-use Rattle.py_lines.specs.Private.Frames.{has_field}
+use Rattle.py_lines.proofs.Prelude.{◌≡◌, ◌+◌, ◌-◌, ◌≤◌, ◌∙◌, List, [], ℕ, add-zero, ap, arith, drop, length-drop, refl, slice_index, subst, sym, take, transport, eqb-false, IfOk-from_err, IfSome, Token, Passing, Scan, nat_tests, has_field, is_of_class}
 use Rattle.py_lines.specs.Private.LineTokens.{HaveReadAnyway, HoldsTokens, IsLineAfter, ReadsAnyway, ReadsUpTo}
-use Rattle.py_lines.specs.Private.Marks.{is_of_class}
 use Rattle.py_lines.specs.Private.Passing.{PassesSo, with_frames}
 use Rattle.py_lines.proofs.LineTokens.Anyway.{begun_anyway, line_read, piece_read, reads_on}
 use Rattle.py_lines.proofs.LineTokens.Strings.{short_taken}
@@ -159,3 +154,21 @@ pass-requires-in-LineEnd c = omega (arith, stop (goal.at.pass-requires-in-LineEn
 
 pub overflow_add-result : goal.overflow_add-result
 overflow_add-result c = omega (arith, (read (goal.at.overflow_add-result c).In-Some).few, c.specials.invariant.2, c.specials-test.true, c.requires.lines)
+
+pub pass_short_string-requires-clause-next : goal.pass_short_string-requires-clause-next
+pass_short_string-requires-clause-next c = grind arith
+
+pub read_anyway-requires : goal.read_anyway-requires
+read_anyway-requires c = grind arith
+
+pub pass_short_string-requires-clause-within : goal.pass_short_string-requires-clause-within
+pass_short_string-requires-clause-within c = grind arith
+
+pub read_up_to-requires-clause-within : goal.read_up_to-requires-clause-within
+read_up_to-requires-clause-within c = grind arith
+
+pub returns-in_default-2 : goal.returns-in_default-2
+returns-in_default-2 c = grind (arith, nat_tests)
+
+pub returns-in-Unpassed : goal.returns-in-Unpassed
+returns-in-Unpassed c = omega arith

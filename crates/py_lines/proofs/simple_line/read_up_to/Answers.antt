@@ -1,3 +1,4 @@
+use Rattle.std.proofs.lemmas.Grind.{common_steps}
 use mir.Val.{bool_byte}
 use Rattle.py_lines.proofs.Prelude.{◌≤◌, ℕ, Bool, true, false, arith, drop, length-drop, subst}
 use Rattle.py_lines.specs.Private.LineTokens.{HaveReadAnyway, ReadsAnyway}
@@ -47,3 +48,9 @@ overflow_add-at-in-pieces c =
 
 pub pieces-smaller : goal.pieces-smaller
 pieces-smaller c = omega (arith, (read (goal.at.pieces-smaller c).In-Some).some, c.pieces-test.true)
+
+pub slice_bounds-starts_with-count : goal.slice_bounds-starts_with-count
+slice_bounds-starts_with-count c = grind (arith, common_steps)
+
+pub slice_bounds-starts_with-start : goal.slice_bounds-starts_with-start
+slice_bounds-starts_with-start c = grind (arith, common_steps)

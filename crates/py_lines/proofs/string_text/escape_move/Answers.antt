@@ -1,5 +1,4 @@
-use Rattle.py_lines.proofs.Prelude.{◌≡◌, ◌<◌, ◌≤◌, ℕ, true, length, drop, slice_index, Option, None, Some, arith, drop-cons, ne_eqb, nat_tests, get_or_past}
-use Rattle.py_lines.specs.Character.{is_brace, is_break, is_quote}
+use Rattle.py_lines.proofs.Prelude.{◌≡◌, ◌<◌, ◌≤◌, ℕ, true, length, drop, slice_index, Option, None, Some, arith, drop-cons, ne_eqb, nat_tests, get_or_past, is_brace, is_break, is_quote}
 use Rattle.py_lines.specs.declared.mode.Mode.TheVariants as opens
 use Rattle.py_lines.specs.Private.Scan.{host_in, escape_in}
 use Rattle.py_lines.proofs.FieldScans.StringTexts.{HasNoName}

@@ -1,11 +1,7 @@
-use Rattle.py_lines.proofs.Prelude.{◌≡◌, ◌∙◌, ◌==◌, ℕ, true, false, List, ◌∷◌, drop, slice_index, ap, inl, inr, arith, refl, subst, ne_eqb, nat_tests, take_rest, byte}
-use Rattle.py_lines.specs.Character.{is_backslash, is_break, is_quote}
-use Rattle.py_lines.specs.Piece.{begins}
-use Rattle.py_lines.specs.declared.mode.Region.{Region}
+use Rattle.py_lines.proofs.Prelude.{◌≡◌, ◌∙◌, ◌==◌, ℕ, true, false, List, ◌∷◌, drop, slice_index, ap, inl, inr, arith, refl, subst, ne_eqb, nat_tests, take_rest, byte, is_backslash, is_break, is_quote, begins, Region, BeginsWith}
 use Rattle.py_lines.specs.declared.mode.Region.TheVariants as regions
 use Rattle.py_lines.specs.declared.mode.Mode.TheVariants as opens
 use Rattle.py_lines.specs.Private.FieldMachine.{between_move, body_move, field_move}
-use Rattle.py_lines.specs.Private.Run.{BeginsWith}
 use Rattle.py_lines.specs.Private.Scan.{GrowsInText, WaitsInText, WouldDo, region_in}
 use Rattle.py_lines.proofs.Text.CharacterTests.{not_quote}
 use Rattle.py_lines.proofs.FieldScans.StringBytes.{does_so, end_grows, first_byte_at, first_is, grows_braces, text_in, waits_brace}

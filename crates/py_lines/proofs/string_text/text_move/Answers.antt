@@ -1,6 +1,4 @@
-use Rattle.py_lines.proofs.Prelude.{◌≡◌, ◌∙◌, ℕ, Option, Some, None, List, drop, slice_index, sym, ap, subst, arith, ne_eqb, nat_tests}
-use Rattle.py_lines.specs.Character.{is_backslash, is_break}
-use Rattle.py_lines.specs.Private.Run.{BeginsWith}
+use Rattle.py_lines.proofs.Prelude.{◌≡◌, ◌∙◌, ℕ, Option, Some, None, List, drop, slice_index, sym, ap, subst, arith, ne_eqb, nat_tests, is_backslash, is_break, BeginsWith}
 use Rattle.py_lines.specs.Private.Scan.{IsTextAt, mode_from, quotes_in}
 use Rattle.py_lines.proofs.FieldScans.StringTexts.{plain_escapes}
 use Rattle.py_lines.proofs.FieldScans.StringBytes.{Comes, breaks_short, closes_short, escapes_come, first_byte_is, grows_other, quotes_come}
@@ -46,3 +44,6 @@ returns-in-Some-len-clause-does c at = come_here (goal.at.returns-in-Some-len-cl
 
 pub returns-in-None-len-clause-does : goal.returns-in-None-len-clause-does
 returns-in-None-len-clause-does c at = come_here (goal.at.returns-in-None-len-clause-does c).Joined-c-quote-2 at None c.in-None-len.is
+
+pub returns-in-None-clause-does : goal.returns-in-None-clause-does
+returns-in-None-clause-does c = grind arith

@@ -10,3 +10,6 @@ returns-else-at-eq0 c = grind (arith, common_steps)
 
 pub returns-else-is_quote : goal.returns-else-is_quote
 returns-else-is_quote c = grind (arith, common_steps)
+
+pub bounds-bytes-at-else-at-eq0 : goal.bounds-bytes-at-else-at-eq0
+bounds-bytes-at-else-at-eq0 c = grind arith

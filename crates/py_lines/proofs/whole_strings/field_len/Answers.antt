@@ -10,3 +10,9 @@ returns c = elim c.if-len-bytes.branch [
       w.len-is (omega arith) (omega arith)
   | else-len-bytes w ↦ plain_field _ _ _ _ c.requires c.code_len-len.ensures w.len-is (omega arith) (omega arith)
 ]
+
+pub overflow_add-result : goal.overflow_add-result
+overflow_add-result c = grind arith
+
+pub bounds-bytes-len-else-len-bytes-2 : goal.bounds-bytes-len-else-len-bytes-2
+bounds-bytes-len-else-len-bytes-2 c = grind arith

@@ -1,7 +1,7 @@
+use Rattle.std.proofs.lemmas.Grind.{common_steps}
 use Rattle.py_lines.specs.Private.LongStrings.{TakesLong}
 use Rattle.py_lines.specs.Private.Scan.{passed, with_bytes}
-use Rattle.py_lines.proofs.Prelude.{◌+◌, ap, arith, length, length-drop, refl}
-use Rattle.py_lines.proofs.FieldScans.TextLengths.{rest_is}
+use Rattle.py_lines.proofs.Prelude.{◌+◌, ap, arith, length, length-drop, refl, rest_is}
 use Rattle.py_lines.proofs.PassedPieces.Items.{long_closed, long_grown, long_run}
 use Rattle.py_lines.proofs.whole_strings.long_text_len.Goals as goal
 use Rattle.py_lines.proofs.whole_strings.long_text_len.Goals.{After-characters_in-len-in-items, In-Closes}
@@ -34,3 +34,15 @@ overflow_add-len-in-items c = omega (arith, (grown c).within, c.well_formed)
 
 pub items-preserved : goal.items-preserved
 items-preserved c = grown (goal.at.items-preserved c).After-characters_in-len-in-items
+
+pub overflow_add-len : goal.overflow_add-len
+overflow_add-len c = grind (arith, common_steps)
+
+pub slice_bounds-characters_in-count : goal.slice_bounds-characters_in-count
+slice_bounds-characters_in-count c = grind (arith, common_steps)
+
+pub slice_bounds-characters_in-start : goal.slice_bounds-characters_in-start
+slice_bounds-characters_in-start c = grind (arith, common_steps)
+
+pub items-smaller : goal.items-smaller
+items-smaller c = grind arith

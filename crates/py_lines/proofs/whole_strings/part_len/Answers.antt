@@ -1,5 +1,4 @@
-use Rattle.py_lines.proofs.Prelude.{arith, refl, nat_tests}
-use Rattle.py_lines.specs.Character.{is_brace, is_break}
+use Rattle.py_lines.proofs.Prelude.{arith, refl, nat_tests, is_brace, is_break}
 use Rattle.py_lines.proofs.FieldScans.TextLengths.{brace_part, field_part, two_part}
 use Rattle.py_lines.proofs.FieldScans.Texts.{escape_leads, two_lead}
 use Rattle.py_lines.proofs.whole_strings.part_len.Goals as goal
@@ -19,3 +18,9 @@ returns-in-92-2-2 c = (omega arith, two_part c.args.quote 123 123 c.args.bytes.n
 
 pub returns-in_ok-field_len-in-123 : goal.returns-in_ok-field_len-in-123
 returns-in_ok-field_len-in-123 c = (omega arith, field_part _ _ _ (grind arith) (grind arith) c.in_ok-field_len-in-123.ensures)
+
+pub returns-in_err-field_len-in-123 : goal.returns-in_err-field_len-in-123
+returns-in_err-field_len-in-123 c = grind (arith, nat_tests)
+
+pub bounds-bytes-1-in-123-bytes-2 : goal.bounds-bytes-1-in-123-bytes-2
+bounds-bytes-1-in-123-bytes-2 c = grind arith

@@ -1,3 +1,4 @@
+use Rattle.std.proofs.lemmas.Grind.{common_steps}
 use Rattle.py_lines.proofs.Prelude.{◌+◌, ◌<◌, ◌≤◌, length, arith}
 use Rattle.py_lines.proofs.FieldScans.TextLengths.{code_counted, code_counted_on, quote_next, rest_within, text_within}
 use Rattle.py_lines.proofs.whole_strings.simple_code_len.Goals as goal
@@ -38,3 +39,6 @@ returns-in_default c = c.loop-text.invariant.counted.code
 
 pub returns : goal.returns
 returns c = c.loop-text.invariant.counted.code
+
+pub slice_bounds-len_in-start : goal.slice_bounds-len_in-start
+slice_bounds-len_in-start c = grind (arith, common_steps)

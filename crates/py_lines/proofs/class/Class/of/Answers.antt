@@ -1,10 +1,7 @@
-use Rattle.py_lines.proofs.Prelude.{◌≡◌, ℕ, zero, suc, ◌+◌, ◌<◌, ◌&&◌, Bool, true, List, [], ◌∷◌, length, slice_index_or, refl, ap, sym, ◌∙◌, arith, and_parts}
+use Rattle.py_lines.proofs.Prelude.{◌≡◌, ℕ, zero, suc, ◌+◌, ◌<◌, ◌&&◌, Bool, true, List, [], ◌∷◌, length, slice_index_or, refl, ap, sym, ◌∙◌, arith, and_parts, is_backslash, is_break, is_hash, is_line_feed, is_operator, is_quote, is_return, is_space, is_closing, is_opening, is_ascii_word}
 use Rattle.py_lines.specs.declared.class.Class.{Class}
 use Rattle.py_lines.specs.declared.class.Class.TheVariants as class
 use Rattle.py_lines.specs.declared.class.TheConstants.{CLASSES}
-use Rattle.py_lines.specs.Character.{is_backslash, is_break, is_hash, is_line_feed, is_operator, is_quote, is_return, is_space}
-use Rattle.py_lines.specs.Balance.{is_closing, is_opening}
-use Rattle.py_lines.specs.Private.Run.{is_ascii_word}
 use Rattle.py_lines.specs.Private.Marks.{begins_nothing, is_of_class, is_plain}
 use Rattle.py_lines.proofs.class.Class.of.Goals as goal
 

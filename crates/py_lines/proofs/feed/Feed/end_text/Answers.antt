@@ -1,7 +1,6 @@
-use Rattle.py_lines.proofs.Prelude.{◌≢◌, ap, length, ◌∙◌, List, ℕ, Ok, Some, sym, subst, arith, vec_len, eqb-false}
+use Rattle.py_lines.proofs.Prelude.{◌≢◌, ap, length, ◌∙◌, List, ℕ, Ok, Some, sym, subst, arith, vec_len, eqb-false, LineState}
 use Rattle.py_lines.specs.Private.Feed.{EndsText}
 use Rattle.py_lines.specs.Private.LineState.{HasNextFault, HasNextLine}
-use Rattle.py_lines.specs.declared.line_state.LineState.{LineState}
 use Rattle.py_lines.proofs.Feeds.EndedHeld.{last_fault, last_line, text_empty}
 use Rattle.py_lines.proofs.Feeds.OpenLine.{fails_so, none_held}
 use Rattle.py_lines.proofs.feed.Feed.end_text.Goals as goal

@@ -1,5 +1,4 @@
-use Rattle.py_lines.proofs.Prelude.{◌++◌, ap, refl, sym, ◌∙◌, subst, length, take, length-append, length-take, arith, length-take-le}
-use Rattle.py_lines.specs.Private.LineState.{first_mode}
+use Rattle.py_lines.proofs.Prelude.{◌++◌, ap, refl, sym, ◌∙◌, subst, length, take, length-append, length-take, arith, length-take-le, first_mode}
 use Rattle.py_lines.specs.Private.LineScan.{ScansIn}
 use Rattle.py_lines.specs.Private.Feed.{Stop}
 use Rattle.py_lines.proofs.Feeds.GivenBack.{HoldsStop, holds_bytes, holds_line_end, stop_within, takes_met}

@@ -1,6 +1,6 @@
-use Rattle.py_lines.proofs.Prelude.{◌≡◌, ◌≤◌, ℕ, ◌+◌, ◌-◌, ◌==◌, Ok, sym, ap, ◌∙◌, subst, arith, is_some, length, length-take, get_or_default_zero, vec_len}
+use Rattle.std.proofs.lemmas.Grind.{common_steps}
+use Rattle.py_lines.proofs.Prelude.{◌≡◌, ◌≤◌, ℕ, ◌+◌, ◌-◌, ◌==◌, Ok, sym, ap, ◌∙◌, subst, arith, is_some, length, length-take, get_or_default_zero, vec_len, byte_len}
 use Rattle.py_lines.specs.Private.Feed.{Feed, Meets, Stop, StopsHeld}
-use Rattle.py_lines.specs.LogicalLine.{byte_len}
 use Rattle.py_lines.specs.Settled.{IsHopeless}
 use Rattle.py_lines.proofs.Readers.LineAnswers.{all_within}
 use Rattle.py_lines.proofs.Readers.LineFaults.{refused_within}
@@ -116,3 +116,9 @@ overflow_sub-result-in_default c =
 
 pub overflow_add-place : goal.overflow_add-place
 overflow_add-place c = let (s, (at, never)) = hopeless c in omega (arith, (within_held c.args.self.now s.read s.rest s.spell _ (all_within s.read _ at)).0, c.requires.room.fits)
+
+pub returns-in-LineEnd-clause-ready : goal.returns-in-LineEnd-clause-ready
+returns-in-LineEnd-clause-ready c = grind (arith, common_steps)
+
+pub returns-in_default-clause-ready : goal.returns-in_default-clause-ready
+returns-in_default-clause-ready c = grind arith

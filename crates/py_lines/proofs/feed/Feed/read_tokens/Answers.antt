@@ -1,3 +1,4 @@
+use Rattle.std.proofs.lemmas.Grind.{common_steps}
 use Rattle.py_lines.proofs.Prelude.{ℕ, List, sym, subst, length-take, take, arith}
 use Rattle.py_lines.specs.Private.Feed.{HasReadTokens, HoldsLine, HoldsSo, LineState}
 use Rattle.py_lines.specs.Private.LineState.{lent}
@@ -32,3 +33,9 @@ returns-in-Ok c =
     let after = subst (λ (l : List ℕ). IsLineAfter f.state.line (text l) n line) held c.in-Ok.ensures.after in
     subst (λ (s : LineState). HasReadTokens f (record f { state = record s { scan = lent f.state.scan s.scan }; next_line = line })) (sym c.in-Ok.ensures.same)
     (some_read f new n line tokens after c.requires.no_fault c.requires.room c.in-Some.is (stands (goal.at.returns-in-Ok c).In-Some))
+
+pub slice_bounds-read_line-end : goal.slice_bounds-read_line-end
+slice_bounds-read_line-end c = grind (arith, common_steps)
+
+pub returns-in_default : goal.returns-in_default
+returns-in_default c = search (arith)

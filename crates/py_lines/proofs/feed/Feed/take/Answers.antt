@@ -1,5 +1,4 @@
-use Rattle.py_lines.proofs.Prelude.{◌++◌, ap, refl, sym, length, take, length-append, length-take, arith, ◌-◌, drop, length-take-le}
-use Rattle.py_lines.specs.Private.LineState.{first_mode}
+use Rattle.py_lines.proofs.Prelude.{◌++◌, ap, refl, sym, length, take, length-append, length-take, arith, ◌-◌, drop, length-take-le, first_mode}
 use Rattle.py_lines.specs.Private.LineScan.{Reached}
 use Rattle.py_lines.proofs.LineScan.TextSteps.{begun_sound}
 use Rattle.py_lines.proofs.Feeds.GivenBack.{takes_met, takes_reread}
@@ -65,3 +64,9 @@ hold-requires-clause-room c = c.requires.room
 
 pub returns : goal.returns
 returns c = takes_reread c.args.self.now _ refl c.args.piece.now c.hold.result c.hold.new.self c.hold.ensures.takes
+
+pub returns-in_err-extend_from_slice : goal.returns-in_err-extend_from_slice
+returns-in_err-extend_from_slice c = grind arith
+
+pub slice_bounds-extend-start : goal.slice_bounds-extend-start
+slice_bounds-extend-start c = grind arith

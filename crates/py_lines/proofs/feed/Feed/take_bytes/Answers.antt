@@ -66,3 +66,9 @@ returns-after-loop-taken c = taken c.args.self.now c.requires.sound c.in_default
 
 pub loop-taken-smaller : goal.loop-taken-smaller
 loop-taken-smaller c = grind (arith, common_steps)
+
+pub slice_bounds-take-start : goal.slice_bounds-take-start
+slice_bounds-take-start c = grind arith
+
+pub slice_bounds-take-count : goal.slice_bounds-take-count
+slice_bounds-take-count c = grind arith

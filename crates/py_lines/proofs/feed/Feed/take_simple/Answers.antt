@@ -1,4 +1,4 @@
-use Rattle.py_lines.proofs.Prelude.{◌≡◌, ◌∙◌, [], None, sym, subst, err_from_is_err_and, IfSome}
+use Rattle.py_lines.proofs.Prelude.{◌≡◌, ◌∙◌, [], None, sym, subst, err_from_is_err_and, IfSome, arith}
 use Rattle.py_lines.specs.Private.LineState.{ReadsLine}
 use Rattle.py_lines.proofs.Feeds.OpenLine.{none_held}
 use Rattle.py_lines.proofs.Feeds.ReadyLines.{none_is}
@@ -33,3 +33,9 @@ returns-in_err-taken c =
 
 pub returns : goal.returns
 returns c = not_taken c.args.self.now c.requires.sound (no_fault (goal.at.returns c).Else-is_some) c.requires.not_ready c.read_simple.ensures.same c.restart.ensures
+
+pub hold-requires-clause-room : goal.hold-requires-clause-room
+hold-requires-clause-room c = grind arith
+
+pub read_simple-requires : goal.read_simple-requires
+read_simple-requires c = grind arith

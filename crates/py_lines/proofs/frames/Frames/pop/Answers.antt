@@ -23,3 +23,9 @@ returns-in-Field c = (less (goal.at.returns-in-Field c).In_ok-frame).is
 
 pub returns-in_default : goal.returns-in_default
 returns-in_default c = (less (goal.at.returns-in_default c).In_ok-frame).is
+
+pub overflow_sub-self-in-Field : goal.overflow_sub-self-in-Field
+overflow_sub-self-in-Field c = grind arith
+
+pub overflow_sub-self : goal.overflow_sub-self
+overflow_sub-self c = grind arith

@@ -1,9 +1,6 @@
 use mir.Val.{bool_byte}
-use Rattle.py_lines.proofs.Prelude.{List, ◌≡◌, ◌+◌, ◌<◌, ◌≤◌, ◌∙◌, ap, arith, length, rules, subst, sym, nat_lt}
-use Rattle.py_lines.specs.Piece.{Piece, spelled}
-use Rattle.py_lines.specs.LogicalLine.{line_ends}
+use Rattle.py_lines.proofs.Prelude.{List, ◌≡◌, ◌+◌, ◌<◌, ◌≤◌, ◌∙◌, ap, arith, length, rules, subst, sym, nat_lt, Piece, spelled, line_ends, rest_is}
 use Rattle.py_lines.specs.Private.LineTokens.{AreLineOf, BeginWithPiece, HaveRead, ReadsPiece}
-use Rattle.py_lines.proofs.FieldScans.TextLengths.{rest_is}
 use Rattle.py_lines.proofs.LineScan.LineCount.{line_ends-bytes}
 use Rattle.py_lines.proofs.LineTokens.Lines.{IsReadNext, IsWholeRead, before_end, begun, byte_within, end_within, has_next, past_byte, read_next, whole_read}
 use Rattle.py_lines.proofs.line_state.LineState.read_line.Goals as goal

@@ -1,6 +1,5 @@
-use Rattle.py_lines.proofs.Prelude.{◌≡◌, ◌∙◌, ℕ, zero, suc, ap, refl, IfSome_then, IfOk-weaker}
+use Rattle.py_lines.proofs.Prelude.{◌≡◌, ◌∙◌, ℕ, zero, suc, ap, refl, IfSome_then, IfOk-weaker, first_mode}
 use Rattle.py_lines.specs.Private.LineScan.{first_open}
-use Rattle.py_lines.specs.Private.LineState.{first_mode}
 use Rattle.py_lines.specs.Private.Scan.{opened_at}
 use Rattle.py_lines.specs.declared.mode.Mode.TheVariants as opens
 use Rattle.py_lines.proofs.LineScan.LineSteps.{begun_reached}

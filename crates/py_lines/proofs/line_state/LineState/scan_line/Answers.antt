@@ -1,9 +1,8 @@
-use Rattle.py_lines.proofs.Prelude.{◌≡◌, ℕ, ◌∙◌, List, ap}
+use Rattle.std.proofs.lemmas.Grind.{common_steps}
+use Rattle.py_lines.proofs.Prelude.{◌≡◌, ℕ, ◌∙◌, List, ap, Scan, arith, first_mode}
 use Rattle.py_lines.specs.Private.LineScan.{ScansIn, WhereverReached, first_open}
-use Rattle.py_lines.specs.Private.LineState.{first_mode}
 use Rattle.py_lines.specs.Private.Scan.{opened_at}
 use Rattle.py_lines.specs.declared.mode.Mode.{Mode}
-use Rattle.py_lines.specs.declared.scan.Scan.{Scan}
 use Rattle.py_lines.specs.declared.scan.Stop.{Stop}
 use Rattle.py_lines.proofs.LineScan.LineSteps.{begun_reached}
 use Rattle.py_lines.proofs.LineScan.TextSteps.{begun_sound}
@@ -37,3 +36,6 @@ returns-in-TextEnd-clause-scans c =
 
 pub returns-in-Wrong-clause-scans : goal.returns-in-Wrong-clause-scans
 returns-in-Wrong-clause-scans c = character_refused c.args.self.now (scanned c.args.self.now.place c.first_mode.ensures c.restart.ensures c.in-Wrong.ensures.stops)
+
+pub extend-requires-clause-bytes : goal.extend-requires-clause-bytes
+extend-requires-clause-bytes c = grind (arith, common_steps)

@@ -1,10 +1,7 @@
-use Rattle.py_lines.proofs.Prelude.{◌≡◌, ℕ, ◌+◌, ◌-◌, ◌≤◌, List, length, take, drop, ◌∙◌, sym, subst, arith, length-take, le_of_lt, le_trans}
-use Rattle.py_lines.specs.LogicalLine.{line_ends}
+use Rattle.py_lines.proofs.Prelude.{◌≡◌, ℕ, ◌+◌, ◌-◌, ◌≤◌, List, length, take, drop, ◌∙◌, sym, subst, arith, length-take, le_of_lt, le_trans, line_ends, LineState, reader_of}
 use Rattle.py_lines.proofs.LineScan.LineCount.{few_first}
 use Rattle.py_lines.specs.Lines.{PassesUpTo}
 use Rattle.py_lines.specs.Reader.{Reader}
-use Rattle.py_lines.specs.Reader.View.{reader_of}
-use Rattle.py_lines.specs.declared.line_state.LineState.{LineState}
 use Rattle.py_lines.proofs.Feeds.ReadyLines.{none_is}
 use Rattle.py_lines.proofs.Readers.NextLines.{further}
 use Rattle.py_lines.proofs.Readers.PassedLines.{passes_found}
@@ -36,3 +33,6 @@ invariant_of-source c = rw c.pass.ensures (record {
   within = le_trans (within_end _ _ _ c.self.inside.source.bytes.now (le_of_lt c.if-place-before.false) c.pass_lines-len.ensures.lines.within) c.if-before-source.false;
   few_lines = few_more _ _ _ _ _ c.self.inside.source.few_lines c.pass_lines-len.ensures.ends;
 })
+
+pub pass-requires : goal.pass-requires
+pass-requires c = grind arith

@@ -1,6 +1,4 @@
-use Rattle.py_lines.proofs.Prelude.{List, ◌∙◌, sym, subst, refl}
-use Rattle.py_lines.specs.Token.{EachLiesIn}
-use Rattle.py_lines.specs.declared.token.Token.{Token}
+use Rattle.py_lines.proofs.Prelude.{List, ◌∙◌, sym, subst, refl, Token, EachLiesIn}
 use Rattle.py_lines.proofs.LineTokens.Outlines.{lies_of, with_own}
 use Rattle.py_lines.proofs.lines.Lines.tokens.Goals as goal
 

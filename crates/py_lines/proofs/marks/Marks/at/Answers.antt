@@ -1,5 +1,4 @@
-use Rattle.py_lines.proofs.Prelude.{◌∙◌, sym, arith}
-use Rattle.py_lines.proofs.FieldScans.TextLengths.{rest_of}
+use Rattle.py_lines.proofs.Prelude.{◌∙◌, sym, arith, rest_of}
 use Rattle.py_lines.proofs.SpecialBytes.Places.{fed, has_marks, marked}
 use Rattle.py_lines.proofs.marks.Marks.at.Goals as goal
 

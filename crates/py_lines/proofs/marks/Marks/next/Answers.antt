@@ -18,3 +18,9 @@ pub returns : goal.returns
 returns c from has =
     finds_lowest c.args.text.now from c.advance.new.self (rw c.blocks-2-test.ensures.marks.0 (c.blocks-2.invariant.1 from has))
     (omega (arith, c.if-self-eq0.false)) (search rules)
+
+pub blocks-2-init : goal.blocks-2-init
+blocks-2-init c = grind arith
+
+pub overflow_add-place : goal.overflow_add-place
+overflow_add-place c = grind arith

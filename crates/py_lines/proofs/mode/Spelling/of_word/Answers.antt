@@ -14,3 +14,12 @@ returns-in-len2 c = grind (arith, common_steps)
 
 pub returns-in_default : goal.returns-in_default
 returns-in_default c = grind (arith, common_steps)
+
+pub char-d : goal.char-d
+char-d c = grind arith
+
+pub char-c-in-len2 : goal.char-c-in-len2
+char-c-in-len2 c = grind arith
+
+pub char-c : goal.char-c
+char-c c = grind arith

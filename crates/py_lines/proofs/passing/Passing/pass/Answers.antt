@@ -1,8 +1,6 @@
-use Rattle.py_lines.proofs.Prelude.{◌+◌, ◌∙◌, ◌≤◌, List, ℕ, ap, arith, drop, length, length-drop, refl, slice_index, subst, sym, low_scalar, both_ways}
-use Rattle.py_lines.specs.Character.{is_break}
+use Rattle.py_lines.proofs.Prelude.{◌+◌, ◌∙◌, ◌≤◌, List, ℕ, ap, arith, drop, length, length-drop, refl, slice_index, subst, sym, low_scalar, both_ways, is_break, nat_tests, rest_is, rest_of}
 use Rattle.py_lines.specs.Private.LineEnds.{BeginsOuterEnd}
 use Rattle.py_lines.proofs.FieldScans.LineEnds.{feed_breaks, return_breaks}
-use Rattle.py_lines.proofs.FieldScans.TextLengths.{rest_is, rest_of}
 use Rattle.py_lines.proofs.PassedPieces.Counts.{few_ends, join_counts}
 use Rattle.py_lines.proofs.PassedPieces.Items.{join_over}
 use Rattle.py_lines.proofs.PassedPieces.Passed.{closing_passed, feed_begins, line_end_passed, opening_passed, passes_same}
@@ -105,3 +103,9 @@ char-first c = low_scalar (slice_index c.args.bytes.now c.args.at) (omega (arith
 
 pub char-first-in-Closing-1 : goal.char-first-in-Closing-1
 char-first-in-Closing-1 c = low_scalar (slice_index c.args.bytes.now c.args.at) (omega (arith, c.type_inv.bytes c.args.at))
+
+pub pass-requires-in-Backslash-clause-base : goal.pass-requires-in-Backslash-clause-base
+pass-requires-in-Backslash-clause-base c = grind (arith, nat_tests)
+
+pub pass-requires-clause-base : goal.pass-requires-clause-base
+pass-requires-clause-base c = grind (arith, nat_tests)

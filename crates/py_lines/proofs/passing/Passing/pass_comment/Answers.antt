@@ -1,5 +1,4 @@
-use Rattle.py_lines.proofs.Prelude.{◌<◌, ◌∙◌, arith, length, sym, true, false, refl, slice_index, low_scalar, both_ways}
-use Rattle.py_lines.specs.Character.{is_break, is_hash}
+use Rattle.py_lines.proofs.Prelude.{◌<◌, ◌∙◌, arith, length, sym, true, false, refl, slice_index, low_scalar, both_ways, is_break, is_hash}
 use Rattle.py_lines.proofs.PassedPieces.Reads.{comment_begun, comment_item, comment_passed, reads_on}
 use Rattle.py_lines.proofs.passing.Passing.pass_comment.Goals as goal
 
@@ -42,3 +41,6 @@ pub keep-requires : goal.keep-requires
 keep-requires c =
     let held = c.specials.invariant.next.held (omega (arith, c.if-end-bytes.false)) in
     record { base = held.0; reach = held.1 }
+
+pub next-end-requires-in-specials : goal.next-end-requires-in-specials
+next-end-requires-in-specials c = grind arith

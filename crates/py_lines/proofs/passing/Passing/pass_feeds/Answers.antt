@@ -1,5 +1,4 @@
-use Rattle.py_lines.proofs.Prelude.{rules, ap, inl, inr}
-use Rattle.py_lines.specs.declared.marks.Marks.{Marks}
+use Rattle.py_lines.proofs.Prelude.{rules, ap, inl, inr, Marks}
 use Rattle.py_lines.proofs.passing.Passing.pass_feeds.Goals as goal
 
 pub returns-then-is_empty : goal.returns-then-is_empty

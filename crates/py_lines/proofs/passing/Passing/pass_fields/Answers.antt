@@ -1,8 +1,6 @@
-use Rattle.py_lines.proofs.Prelude.{◌+◌, ◌<◌, ◌≡◌, ◌∙◌, List, ℕ, ap, arith, get_or-drop, length, length-drop, refl, slice_index, subst, sym, ◌≤◌, true, false, both_ways}
-use Rattle.py_lines.specs.declared.frames.Frame.{Frame}
+use Rattle.py_lines.proofs.Prelude.{◌+◌, ◌<◌, ◌≡◌, ◌∙◌, List, ℕ, ap, arith, get_or-drop, length, length-drop, refl, slice_index, subst, sym, ◌≤◌, true, false, both_ways, Frame, rest_is, rest_of}
 use Rattle.py_lines.specs.Private.FieldText.{HasText}
 use Rattle.py_lines.specs.Private.Scan.{quotes_in}
-use Rattle.py_lines.proofs.FieldScans.TextLengths.{rest_is, rest_of}
 use Rattle.py_lines.proofs.PassedPieces.Counts.{line_counts, quoted_counts}
 use Rattle.py_lines.proofs.PassedPieces.FieldStrings.{field_over}
 use Rattle.py_lines.proofs.PassedPieces.FirstBytes.{bytes_from}
@@ -46,3 +44,6 @@ pub pass-requires : goal.pass-requires
 pass-requires c =
     let room = more_there c.args.bytes.now (c.args.at + 1) c.text_len-len.result c.text_len-len.ensures.0 c.if-len-text.false in
     record { base = omega (arith, (c.requires.quote.next.held c.requires.quote.within).0); within = omega (arith, room) }
+
+pub bounds-text-len : goal.bounds-text-len
+bounds-text-len c = grind arith

@@ -1,9 +1,8 @@
-use Rattle.py_lines.proofs.Prelude.{◌+◌, ◌∙◌, Some, ap, arith, drop, get_or-drop, length-drop, refl, slice_index, subst, sym, true, false, length, ◌<◌, ◌≡◌, both_ways, drop-drop}
+use Rattle.py_lines.proofs.Prelude.{◌+◌, ◌∙◌, Some, ap, arith, drop, get_or-drop, length-drop, refl, slice_index, subst, sym, true, false, length, ◌<◌, ◌≡◌, both_ways, drop-drop, rest_is}
 use Rattle.py_lines.specs.Private.LongStrings.{TakesLong}
 use Rattle.py_lines.specs.Private.Marks.{HasMarks}
 use Rattle.py_lines.specs.Private.Passing.{MeetsString, TellsFields, word_before}
 use Rattle.py_lines.specs.Private.Scan.{passed, quotes_in}
-use Rattle.py_lines.proofs.FieldScans.TextLengths.{rest_is}
 use Rattle.py_lines.proofs.PassedPieces.Counts.{plain_counts, quoted_counts}
 use Rattle.py_lines.proofs.PassedPieces.FirstBytes.{bytes_from, first_later, quotes_fit}
 use Rattle.py_lines.proofs.PassedPieces.Items.{empty_over, long_over}
@@ -111,3 +110,16 @@ returns-in_default-2 c = record { passed = λ so. absurd (both_ways false refl s
 
 pub returns-in-None : goal.returns-in-None
 returns-in-None c = record { passed = λ so. absurd (both_ways false refl so); same = λ _. refl }
+
+pub pass_to-requires-clause-within : goal.pass_to-requires-clause-within
+pass_to-requires-clause-within c =
+    let bytes = c.args.bytes.now in
+    let at = c.args.at in
+    let is = c.in-Some.ensures in
+    omega (arith, is.text.within, is.size, length-drop (at + 3) bytes, quotes_fit (drop at bytes) 3 (three (goal.at.pass_to-requires-clause-within c).In-Some-eq3), length-drop at bytes)
+
+pub returns-in-None-long_string_end-clause-passed : goal.returns-in-None-long_string_end-clause-passed
+returns-in-None-long_string_end-clause-passed c = λ so. absurd (both_ways false refl so)
+
+pub returns-in-Some-clause-same : goal.returns-in-Some-clause-same
+returns-in-Some-clause-same c = grind arith

@@ -1,6 +1,5 @@
-use Rattle.py_lines.proofs.Prelude.{◌+◌, ◌<◌, ◌≡◌, ◌∙◌, List, ℕ, ap, arith, get_or-drop, length, length-drop, refl, slice_index, sym, true, false, ◌≤◌, both_ways, le_refl}
+use Rattle.py_lines.proofs.Prelude.{◌+◌, ◌<◌, ◌≡◌, ◌∙◌, List, ℕ, ap, arith, get_or-drop, length, length-drop, refl, slice_index, sym, true, false, ◌≤◌, both_ways, le_refl, rest_is, rest_of}
 use Rattle.py_lines.specs.Private.Run.{is_line_byte}
-use Rattle.py_lines.proofs.FieldScans.TextLengths.{rest_is, rest_of}
 use Rattle.py_lines.proofs.PassedPieces.FirstBytes.{first_later}
 use Rattle.py_lines.proofs.PassedPieces.Reads.{TextItem, escape_item, reads_on, string_at, string_passed, text_begun, text_item}
 use Rattle.py_lines.proofs.passing.Passing.pass_text.Goals.{Joined-this-lt2, in-92, in-len1-up-2}

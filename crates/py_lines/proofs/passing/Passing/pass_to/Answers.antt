@@ -1,6 +1,4 @@
-use Rattle.py_lines.proofs.Prelude.{ap, arith, drop, ◌-◌, ◌≤◌, ◌≡◌, ◌∙◌, List, ℕ, ◌+◌, refl, drop-drop}
-use Rattle.py_lines.specs.LogicalLine.{line_ends}
-use Rattle.py_lines.proofs.FieldScans.TextLengths.{rest_is, rest_of}
+use Rattle.py_lines.proofs.Prelude.{ap, arith, drop, ◌-◌, ◌≤◌, ◌≡◌, ◌∙◌, List, ℕ, ◌+◌, refl, drop-drop, line_ends, rest_is, rest_of}
 use Rattle.py_lines.proofs.LineScan.LineCount.{line_ends-le}
 use Rattle.py_lines.proofs.passing.Passing.pass_to.Goals as goal
 

@@ -1,5 +1,4 @@
-use Rattle.py_lines.proofs.Prelude.{◌≡◌, List, ℕ, ltb, arith}
-use Rattle.py_lines.specs.Character.{is_backslash, is_brace, is_space}
+use Rattle.py_lines.proofs.Prelude.{◌≡◌, List, ℕ, ltb, arith, is_backslash, is_brace, is_space}
 use Rattle.py_lines.specs.declared.run.ByteRun.{ByteRun}
 use Rattle.py_lines.specs.Private.Run.{is_code_sign, is_in_run}
 use Rattle.py_lines.proofs.Text.Lanes.{Shows, both, compared, either, none, same, set_first}

@@ -1,3 +1,4 @@
+use Rattle.std.proofs.lemmas.Grind.{common_steps}
 use Rattle.py_lines.proofs.Prelude.{arith, length, replicate, length-take-le}
 use Rattle.py_lines.specs.Private.Run.{is_in_run}
 use Rattle.py_lines.proofs.Text.Lanes.{shorter_run}
@@ -11,3 +12,6 @@ returns c = record {
   within = omega (arith, c.min.ensures);
   counted = shorter_run (is_in_run c.args.self) c.args.bytes.now _ _ _ c.min.result c.copy_from_slice.ensures.after c.len_in_lanes.ensures c.min.ensures;
 }
+
+pub slice_bounds-copy_from_slice-end : goal.slice_bounds-copy_from_slice-end
+slice_bounds-copy_from_slice-end c = grind (arith, common_steps)

@@ -56,3 +56,6 @@ pub pieces-smaller : goal.pieces-smaller
 pieces-smaller c =
     let to = c.in_default-take_items.ensures in
     omega (arith, (come (goal.at.pieces-smaller c).Joined-is_in_code).1, to.stop, to.some, (pieces-preserved c).within, (pieces-preserved c).further)
+
+pub take_pieces-requires-clause-bytes : goal.take_pieces-requires-clause-bytes
+take_pieces-requires-clause-bytes c = grind arith

@@ -1,11 +1,9 @@
-use Rattle.py_lines.proofs.Prelude.{length-take-le, ◌≡◌, ◌+◌, ◌≤◌, ◌∙◌, false, length, length-take, refl, subst, sym, arith}
+use Rattle.py_lines.proofs.Prelude.{length-take-le, ◌≡◌, ◌+◌, ◌≤◌, ◌∙◌, false, length, length-take, refl, subst, sym, arith, OpenMode, rest_is}
 use Rattle.py_lines.specs.declared.mode.Region.TheVariants as regions
-use Rattle.py_lines.specs.declared.mode.Mode.{Mode as OpenMode}
 use Rattle.py_lines.specs.declared.mode.Mode.TheVariants as opens
 use Rattle.py_lines.specs.Private.Scan.{HasQuote, HoldsField}
 use Rattle.py_lines.proofs.LineScan.AsciiRuns.{quote_fits}
 use Rattle.py_lines.proofs.FieldScans.Runs.{holds_characters, holds_code, holds_literal, holds_text}
-use Rattle.py_lines.proofs.FieldScans.TextLengths.{rest_is}
 use Rattle.py_lines.proofs.scan.Scan.hold.Goals as goal
 use Rattle.py_lines.proofs.scan.Scan.hold.Goals.{After-last_operator_end-len, Joined-self, in-Free, in-Fields-default-Literal-false, in-Fields+in-Fields, in_default}
 
@@ -64,3 +62,6 @@ returns c = let old = c.args.self.now in let bytes = c.args.bytes.now in (
   ],
   rest_is bytes c.match-self.len,
 )
+
+pub slice_bounds-result-end : goal.slice_bounds-result-end
+slice_bounds-result-end c = grind arith

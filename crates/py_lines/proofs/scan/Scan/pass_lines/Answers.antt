@@ -1,8 +1,5 @@
-use Rattle.py_lines.proofs.Prelude.{◌≡◌, ◌+◌, ◌-◌, ◌≤◌, ◌∙◌, List, ℕ, ap, arith, drop, length, length-drop, length-take, refl, sym, take, take_rest}
-use Rattle.py_lines.specs.LogicalLine.{line_ends}
+use Rattle.py_lines.proofs.Prelude.{◌≡◌, ◌+◌, ◌-◌, ◌≤◌, ◌∙◌, List, ℕ, ap, arith, drop, length, length-drop, length-take, refl, sym, take, take_rest, line_ends, Passing, Scan, nat_tests}
 use Rattle.py_lines.specs.Private.Mode as modes
-use Rattle.py_lines.specs.declared.passing.Passing.{Passing}
-use Rattle.py_lines.specs.declared.scan.Scan.{Scan}
 use Rattle.py_lines.specs.Private.Passing.{IsCounted, nothing_passed}
 use Rattle.py_lines.proofs.LineScan.FeedLines.{FindsOn, finds_on}
 use Rattle.py_lines.proofs.LineScan.WholeLines.{HasPassedLines, PassesOn, end_within, ends_of_lines, items_within, no_line_passed, passes_end, passes_items, passes_special, reached_word, unpassed}
@@ -174,3 +171,6 @@ overflow_sub-result c = omega (arith, counted c)
 
 pub returns : goal.returns
 returns c = record { lines = (last (goal.at.returns c).Left-specials).have.are; ends = omega (arith, counted c) }
+
+pub pass-requires-in-Unpassed : goal.pass-requires-in-Unpassed
+pass-requires-in-Unpassed c = grind (arith, nat_tests)

@@ -1,6 +1,5 @@
 use Rattle.py_lines.proofs.FieldScans.CodeItems.{code_mode}
-use Rattle.py_lines.proofs.Prelude.{◌≡◌, ℕ, List, refl, subst}
-use Rattle.py_lines.specs.FieldStrings.{Place, literal}
+use Rattle.py_lines.proofs.Prelude.{◌≡◌, ℕ, List, refl, subst, Place, literal}
 use Rattle.py_lines.specs.declared.mode.Mode.TheVariants as opens
 use Rattle.py_lines.specs.declared.string_text.TextMove.{TextMove}
 use Rattle.py_lines.specs.declared.string_text.TextMove.TheVariants as text_moves

@@ -1,6 +1,5 @@
-use Rattle.py_lines.proofs.Prelude.{encode_utf8_all, ◌-◌, length, take, drop, sym, ap, ◌∙◌, arith, length-drop, ◌≤◌, length-append, take_rest}
+use Rattle.py_lines.proofs.Prelude.{encode_utf8_all, ◌-◌, length, take, drop, sym, ap, ◌∙◌, arith, length-drop, ◌≤◌, length-append, take_rest, Scan}
 use Rattle.py_lines.specs.Private.Scan.{GoesOver}
-use Rattle.py_lines.specs.declared.scan.Scan.{Scan}
 use Rattle.py_lines.proofs.LineTokens.FirstString.{InFirst, at_start, first_run, first_stands, item_over, passed_with, some_left, step_comes, step_on, stops_there, string_within}
 use Rattle.py_lines.proofs.scan.Scan.take_first.Goals as goal
 use Rattle.py_lines.proofs.scan.Scan.take_first.Goals.{Else-is_in_code}

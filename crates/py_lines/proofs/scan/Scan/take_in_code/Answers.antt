@@ -1,5 +1,5 @@
-use Rattle.py_lines.proofs.Prelude.{arith}
-use Rattle.py_lines.specs.Character.{is_mark}
+use Rattle.std.proofs.lemmas.Grind.{common_steps}
+use Rattle.py_lines.proofs.Prelude.{arith, is_mark}
 use Rattle.py_lines.proofs.FieldScans.CodeItems.{mark_taken, nothing_waits, piece_grows}
 use Rattle.py_lines.proofs.Text.FirstCharacters.{first_size}
 use Rattle.py_lines.proofs.scan.Scan.take_in_code.Goals as goal
@@ -18,3 +18,6 @@ returns-in-Some-with c = λ t follow.
 
 pub overflow_add-self : goal.overflow_add-self
 overflow_add-self c = omega (arith, first_size c.in-Some.ensures, c.len_utf8-len.ensures.value, c.requires.bytes)
+
+pub pass-requires : goal.pass-requires
+pass-requires c = grind (arith, common_steps)

@@ -1,6 +1,5 @@
-use Rattle.py_lines.proofs.Prelude.{◌+◌, ◌≤◌, ap, arith, length, length-drop, rules, take_rest}
+use Rattle.py_lines.proofs.Prelude.{◌+◌, ◌≤◌, ap, arith, length, length-drop, rules, take_rest, is_backslash, nat_tests}
 use Rattle.py_lines.proofs.FieldScans.LineEnds.{half_join_waits, join_takes, join_waits, join_wrong, none_told}
-use Rattle.py_lines.specs.Character.{is_backslash}
 use Rattle.py_lines.proofs.Text.FirstCharacters.{begins_some}
 use Rattle.py_lines.proofs.scan.Scan.take_join.Goals as goal
 use Rattle.py_lines.proofs.scan.Scan.take_join.Goals.{In-Some}
@@ -29,3 +28,6 @@ fits c =
 
 pub overflow_add-result : goal.overflow_add-result
 overflow_add-result c = omega (arith, fits (goal.at.overflow_add-result c).In-Some, c.requires.bytes)
+
+pub slice_bounds-first_character-count : goal.slice_bounds-first_character-count
+slice_bounds-first_character-count c = grind (arith, nat_tests)

@@ -1,7 +1,5 @@
-use Rattle.py_lines.proofs.Prelude.{◌≡◌, List, ◌∷◌, arith, refl, sym, ◌∙◌, byte}
-use Rattle.py_lines.specs.declared.frames.Frame.{Frame}
+use Rattle.py_lines.proofs.Prelude.{◌≡◌, List, ◌∷◌, arith, refl, sym, ◌∙◌, byte, Frame, OpenField}
 use Rattle.py_lines.specs.declared.frames.Frame.TheVariants as frame
-use Rattle.py_lines.specs.declared.frames.OpenField.{OpenField}
 use Rattle.py_lines.proofs.FieldScans.Operators.{bracket_opens, bracket_too_deep, closes_bracket, closes_none, field_ends, field_specifies, innermost_is, sign_taken}
 use Rattle.py_lines.proofs.scan.Scan.take_operator.Goals as goal
 use Rattle.py_lines.proofs.scan.Scan.take_operator.Goals.{Joined-innermost, in-Some-Field+else-c-eq125+else-c-eq58, in-Some+in-Bracket-1, in-None-1, then-is_opening+else-not-open, else-is_opening+else-is_closing, else-is_closing-via-then-is_closing+else-not-close, else-is_closing-via-else-is_closing}
@@ -51,3 +49,6 @@ returns c = λ t follow is. let old = c.args.self.now in
                 (sym w.is_closing.ensures ∙ v.if-is_closing.false) c.pass.new.self (rw (w.self-is ∙ v.self-is) at c.pass.ensures)
           ]
     ]
+
+pub pass-requires : goal.pass-requires
+pass-requires c = grind arith

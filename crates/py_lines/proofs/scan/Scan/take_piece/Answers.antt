@@ -1,6 +1,5 @@
 use Rattle.py_lines.proofs.Text.FirstCharacters.{first_size}
-use Rattle.py_lines.proofs.Prelude.{arith, sym, ◌∙◌, refl, ⊎_elim}
-use Rattle.py_lines.specs.Character.{is_backslash, is_quote}
+use Rattle.py_lines.proofs.Prelude.{arith, sym, ◌∙◌, refl, ⊎_elim, is_backslash, is_quote}
 use Rattle.py_lines.specs.declared.class.Class.{Class}
 use Rattle.py_lines.specs.declared.class.Class.TheVariants as class
 use Rattle.py_lines.proofs.FieldScans.CodeItems.{begins_so, break_waits, comment_begins, line_end_comes, nothing_wrong, operator_comes, slash_low, some_first, space_begins, word_begins}

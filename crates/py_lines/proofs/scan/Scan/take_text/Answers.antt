@@ -1,5 +1,4 @@
-use Rattle.py_lines.proofs.Prelude.{◌≡◌, ◌==◌, ◌∷◌, arith, drop, length, length-append, refl, sym, subst, ap, ◌∙◌, byte, encode_utf8_all}
-use Rattle.py_lines.specs.FieldStrings.{specification}
+use Rattle.py_lines.proofs.Prelude.{◌≡◌, ◌==◌, ◌∷◌, arith, drop, length, length-append, refl, sym, subst, ap, ◌∙◌, byte, encode_utf8_all, specification}
 use Rattle.py_lines.specs.Private.FieldMachine.{FieldMode, closes, refused, text_place}
 use Rattle.py_lines.specs.Private.Scan.{GrowsInText, QuotesInText}
 use Rattle.py_lines.proofs.FieldScans.Ends.{specification_place}

@@ -1,12 +1,7 @@
-use Rattle.py_lines.proofs.Prelude.{◌≡◌, Bool, Option, Some, None, true, false, refl, sym, ap, ◌∙◌, arith, le-ltb, lt-ltb}
-use Rattle.py_lines.specs.declared.frames.Frame.{Frame}
+use Rattle.py_lines.proofs.Prelude.{◌≡◌, Bool, Option, Some, None, true, false, refl, sym, ap, ◌∙◌, arith, le-ltb, lt-ltb, Frame, Region, StringWithFields, is_quote, OpenMode}
 use Rattle.py_lines.specs.declared.frames.Frame.TheVariants as frame
-use Rattle.py_lines.specs.declared.mode.Region.{Region}
 use Rattle.py_lines.specs.declared.mode.Region.TheVariants as regions
-use Rattle.py_lines.specs.declared.mode.StringWithFields.{StringWithFields}
-use Rattle.py_lines.specs.declared.mode.Mode.{Mode as OpenMode}
 use Rattle.py_lines.specs.declared.mode.Mode.TheVariants as opens
-use Rattle.py_lines.specs.Character.{is_quote}
 use Rattle.py_lines.specs.Private.Frames.{IsInnermostFrame}
 use Rattle.py_lines.specs.Private.Scan.{EndsOpen, is_text}
 use Rattle.py_lines.proofs.FieldScans.CodeItems.{code_mode}

@@ -10,3 +10,6 @@ invariant_of-result c =
       room = record { fits = omega (arith, begins.place_is, c.requires.offset, ap length c.new.ensures.items); few_lines = omega (arith, begins.place_is, begins.line_is, c.requires.line) };
       state = λ no_fault. (c.new.result.items, begun_open f.state f (record { same = refl; begun = rw begins.place_is begins.begun }));
     }
+
+pub returns-clause-scans : goal.returns-clause-scans
+returns-clause-scans c = grind arith

@@ -1,4 +1,5 @@
-use Rattle.py_lines.proofs.Prelude.{◌≡◌, None, Ok, sym, ◌∙◌, arith, subst, err_from_is_err_and}
+use Rattle.py_lines.specs.ScannerState.{fed_of}
+use Rattle.py_lines.proofs.Prelude.{◌≡◌, None, Ok, sym, ◌∙◌, arith, subst, err_from_is_err_and, ap, nat_tests}
 use Rattle.py_lines.specs.Private.Feed.{IsSoundFeed, TakesSimple, scanning_of}
 use Rattle.py_lines.proofs.Feeds.FedScanner.{fed_short, takes_read, waits_so}
 use Rattle.py_lines.proofs.scanner.Scanner.feed.Goals.{In_default}
@@ -29,3 +30,28 @@ pub returns : goal.returns
 returns c =
     let (same, none, sound) = stays (goal.at.returns c).In_default in
     record { feeds = rw (← c.self.view_is, ← same) (takes_read c.in_ok-taken-2.ensures c.in_ok-read_tokens.ensures) }
+
+pub returns-in-Some : goal.returns-in-Some
+returns-in-Some c = record {
+  feeds = rw (← c.self.view_is) (subst (λ o. TakesSimple c.self.inside.feed c.args.piece.now (Ok o) c.take_simple.new.self) c.in-Some.is c.in_ok-taken.ensures).0;
+}
+
+pub take_bytes-requires-clause-sound : goal.take_bytes-requires-clause-sound
+take_bytes-requires-clause-sound c = (stays (goal.at.take_bytes-requires-clause-sound c).In_default).2
+
+pub take_bytes-requires-clause-fits : goal.take_bytes-requires-clause-fits
+take_bytes-requires-clause-fits c =
+    let same = (stays (goal.at.take_bytes-requires-clause-fits c).In_default).0 in
+    omega (arith, c.requires.fits, ap fed_of c.self.view_is, ap fed_of same)
+
+pub invariant_of-self-in-Some : goal.invariant_of-self-in-Some
+invariant_of-self-in-Some c = (subst (λ o. TakesSimple c.self.inside.feed c.args.piece.now (Ok o) c.take_simple.new.self) c.in-Some.is c.in_ok-taken.ensures).1
+
+pub take_simple-requires-clause-fits : goal.take_simple-requires-clause-fits
+take_simple-requires-clause-fits c = grind (arith, nat_tests)
+
+pub returns-in_err-taken-2 : goal.returns-in_err-taken-2
+returns-in_err-taken-2 c = grind arith
+
+pub take_bytes-requires-clause-not_ready : goal.take_bytes-requires-clause-not_ready
+take_bytes-requires-clause-not_ready c = grind arith

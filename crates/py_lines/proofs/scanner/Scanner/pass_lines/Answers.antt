@@ -1,5 +1,4 @@
-use Rattle.py_lines.proofs.Prelude.{rules, take, length-take, arith, sym, subst, ap, ◌∙◌, length-take-le}
-use Rattle.py_lines.specs.LogicalLine.{line_ends}
+use Rattle.py_lines.proofs.Prelude.{rules, take, length-take, arith, sym, subst, ap, ◌∙◌, length-take-le, line_ends}
 use Rattle.py_lines.specs.ScannerState.{PassesPieceLines, ScannerState, StandsAtLine}
 use Rattle.py_lines.specs.Private.LineState.{BeginsAnew}
 use Rattle.py_lines.specs.Private.Feed.{Feed, IsSoundFeed, LineState, scanning_of}
@@ -77,3 +76,9 @@ pass-requires c = omega (arith, c.pass_lines-len.ensures.lines.within, length-ta
 
 pub returns-then-not-stands_at_line : goal.returns-then-not-stands_at_line
 returns-then-not-stands_at_line c = record { passes = none_found c.args.self.now c.args.bytes.now c.args.before }
+
+pub drain-requires-clause-in_bounds : goal.drain-requires-clause-in_bounds
+drain-requires-clause-in_bounds c = grind arith
+
+pub shape_of-self-inside : goal.shape_of-self-inside
+shape_of-self-inside c = grind arith

@@ -1,7 +1,5 @@
-use Rattle.py_lines.proofs.Prelude.{IsUtf8, ◌≡◌, take, sym, ap, ◌∙◌, subst, transport}
-use Rattle.py_lines.specs.Piece.{spelled}
+use Rattle.py_lines.proofs.Prelude.{IsUtf8, ◌≡◌, take, sym, ap, ◌∙◌, subst, transport, arith, length, length-take, spelled, EachLiesIn}
 use Rattle.py_lines.specs.Outline.{Outline}
-use Rattle.py_lines.specs.Token.{EachLiesIn}
 use Rattle.py_lines.specs.Private.Feed.{StandsSo}
 use Rattle.py_lines.proofs.Feeds.ReadyLines.{ready_lies}
 use Rattle.py_lines.proofs.scanner.Scanner.ready.Goals as goal
@@ -19,3 +17,28 @@ of-line-requires-clause-utf8 c =
     let f = c.self.inside.feed in
     let line = (subst (StandsSo f) c.in_ok-end_len.was c.self.invariant.state).holds in
     subst (λ t. IsUtf8 (take f.state.scan.stop t)) (sym c.deref.ensures.value) (spelled line.pieces, (line.text.scalars, line.text.spell))
+
+pub of-line-requires-clause-places : goal.of-line-requires-clause-places
+of-line-requires-clause-places c =
+    let f = c.self.inside.feed in
+    omega (arith, length-take f.state.scan.stop c.deref.result.now, ap length c.deref.ensures.value, c.self.invariant.room.fits)
+
+pub of-line-requires-clause-lines : goal.of-line-requires-clause-lines
+of-line-requires-clause-lines c =
+    let f = c.self.inside.feed in
+    omega (arith, length-take f.state.scan.stop c.deref.result.now, ap length c.deref.ensures.value, c.self.invariant.room.fits, c.self.invariant.room.few_lines)
+
+pub returns-clause-some : goal.returns-clause-some
+returns-clause-some c = grind arith
+
+pub returns-clause-some_text : goal.returns-clause-some_text
+returns-clause-some_text c = grind arith
+
+pub slice_bounds-text-end : goal.slice_bounds-text-end
+slice_bounds-text-end c = grind arith
+
+pub returns-in_err-end_len-clause-some_text : goal.returns-in_err-end_len-clause-some_text
+returns-in_err-end_len-clause-some_text c = grind arith
+
+pub returns-clause-none : goal.returns-clause-none
+returns-clause-none c = grind arith

@@ -1,4 +1,4 @@
-use Rattle.py_lines.proofs.Prelude.{◌≡◌, ℕ, IsSome, Some, subst, sym}
+use Rattle.py_lines.proofs.Prelude.{◌≡◌, ℕ, IsSome, Some, subst, sym, arith}
 use Rattle.py_lines.specs.ScannerState.{ScannerState}
 use Rattle.py_lines.specs.Private.Feed.{IsReady}
 use Rattle.py_lines.proofs.Feeds.Released.{ready_from, release_seen}
@@ -17,3 +17,6 @@ ready c = ready_from c.self.inside.feed c.self.invariant (subst (λ (s : Scanner
 
 pub let_go-requires-clause-holds : goal.let_go-requires-clause-holds
 let_go-requires-clause-holds c = let at = ready c in (at.0, at.2.holds)
+
+pub let_go-requires-clause-after : goal.let_go-requires-clause-after
+let_go-requires-clause-after c = grind arith

@@ -1,10 +1,6 @@
-use Rattle.py_lines.proofs.Prelude.{Ok, length, refl, sym, ap, ◌∙◌, subst, arith, transport}
-use Rattle.py_lines.specs.Piece.{spelled}
-use Rattle.py_lines.specs.LogicalLine.{line_ends}
+use Rattle.py_lines.proofs.Prelude.{Ok, length, refl, sym, ap, ◌∙◌, subst, arith, transport, spelled, line_ends, LineState, reader_of}
 use Rattle.py_lines.specs.Reader.{PassesLine, Reader}
-use Rattle.py_lines.specs.Reader.View.{reader_of}
 use Rattle.py_lines.specs.Private.Source.{HasNext}
-use Rattle.py_lines.specs.declared.line_state.LineState.{LineState}
 use Rattle.py_lines.proofs.Readers.GivenLines.{bounds, each_lies, moved, passes_it, pieces, whole_is}
 use Rattle.py_lines.proofs.source.Source.advance.Goals as goal
 
@@ -29,3 +25,11 @@ invariant_of-self c =
     let place = ap (λ (r : Reader). r.place) to in
     let line = ap (λ (r : Reader). r.line) to in
     record { within = omega (arith, place, within, ap (λ (r : Reader). length r.text) same); few_lines = omega (arith, place, line, few, s.few_lines) }
+
+pub returns-then-not-branch : goal.returns-then-not-branch
+returns-then-not-branch c = subst (λ b. HasNext c.args.self.now (Ok b)) c.if-not-branch.true c.in_ok-has_next.ensures
+
+pub pass-requires : goal.pass-requires
+pass-requires c =
+    let (same, read) = c.in_ok-line.ensures in
+    omega (arith, ap (λ (r : Reader). r.place) same, (bounds read.is).0, c.well_formed)

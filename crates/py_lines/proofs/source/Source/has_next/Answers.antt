@@ -11,3 +11,6 @@ returns-in-None c = by _ refl where
       let s = c.args.self.now in
       let end : s.state.place ≡ length s.bytes.now = grind (arith, nat_tests, s.within) in
       record { all = λ lines given. all_first _ _ _ lines given.first end; place = end; fault = c.in-None.is; same = refl }
+
+pub returns-in-Some : goal.returns-in-Some
+returns-in-Some c = grind arith

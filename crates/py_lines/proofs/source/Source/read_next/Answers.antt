@@ -1,12 +1,10 @@
-use Rattle.py_lines.proofs.Prelude.{◌≡◌, take, sym, ap, ◌∙◌, subst, transport, IfSome}
+use Rattle.py_lines.proofs.Prelude.{◌≡◌, take, sym, ap, ◌∙◌, subst, transport, IfSome, arith, rest_is, rest_of, reader_of}
 use Rattle.py_lines.specs.Outline.{Outline}
 use Rattle.py_lines.specs.Reader.{Reader}
-use Rattle.py_lines.specs.Reader.View.{reader_of}
 use Rattle.py_lines.specs.Private.LineState.{HasNextLine, ReadsLine}
-use Rattle.py_lines.specs.Private.LineTokens.{HoldsTokens, IsLineAfter}
+use Rattle.py_lines.specs.Private.LineTokens.{HoldsTokens, IsLineAfter, AreLineText}
 use Rattle.py_lines.specs.Private.Source.{HasNextOf, IsNext, IsOutlineNext}
-use Rattle.py_lines.proofs.FieldScans.TextLengths.{rest_is, rest_of}
-use Rattle.py_lines.proofs.Readers.GivenLines.{is_next, read_is, reader_at}
+use Rattle.py_lines.proofs.Readers.GivenLines.{is_next, read_is, reader_at, is_line, pieces}
 use Rattle.py_lines.proofs.Readers.NextLines.{line_scanned}
 use Rattle.py_lines.proofs.source.Source.read_next.Goals as goal
 use Rattle.py_lines.proofs.source.Source.read_next.Goals.{In-Some}
@@ -56,3 +54,17 @@ returns c =
       read_is next (transport (λ i. HoldsTokens (text i) l.end_len (line i) c.read_line.new.self.tokens.items) c.in_ok-after.ensures.tokens)
           (transport (λ i. IsLineAfter (line i) (text i) l.end_len c.in_ok-after.after) c.in_ok-after.ensures.after),
     )
+
+pub read_line-requires-clause-text : goal.read_line-requires-clause-text
+read_line-requires-clause-text c =
+    let (text, ends) = is_line c.in_ok-line.ensures.1 in
+    (pieces c.in_ok-line.ensures.1, (subst (λ t. AreLineText t (pieces c.in_ok-line.ensures.1)) (sym c.as_bytes-text.ensures.value) text, ends))
+
+pub invariant_of-self-2 : goal.invariant_of-self-2
+invariant_of-self-2 c = grind arith
+
+pub invariant_of-self : goal.invariant_of-self
+invariant_of-self c = grind arith
+
+pub read_line-requires-clause-lines : goal.read_line-requires-clause-lines
+read_line-requires-clause-lines c = grind arith

@@ -58,3 +58,9 @@ read_line-requires c =
       text = (is.pieces, (subst (λ t. AreLineText t is.pieces) text (text_of is), ends_of is));
       lines = omega (arith, c.args.line.now.lines_fit, ap length c.as_bytes-text.ensures.value);
     }
+
+pub invariant_of-self-2 : goal.invariant_of-self-2
+invariant_of-self-2 c = grind arith
+
+pub returns : goal.returns
+returns c = grind arith

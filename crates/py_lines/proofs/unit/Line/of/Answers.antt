@@ -1,9 +1,7 @@
 use Rattle.std.proofs.lemmas.Grind.{common_steps}
-use Rattle.py_lines.proofs.Prelude.{◌≡◌, arith, drop, ap, ◌∙◌, subst}
-use Rattle.py_lines.specs.Character.{is_break, is_hash, is_space}
+use Rattle.py_lines.proofs.Prelude.{◌≡◌, arith, drop, ap, ◌∙◌, subst, is_break, is_hash, is_space, nat_tests, rest_is, rest_of}
 use Rattle.py_lines.specs.Private.Outline.{indent_in, kind_from, unmarked}
 use Rattle.py_lines.specs.Private.Run.{IsRunOf}
-use Rattle.py_lines.proofs.FieldScans.TextLengths.{rest_is, rest_of}
 use Rattle.py_lines.proofs.LineTokens.Outlines.{run_prefix}
 use Rattle.py_lines.proofs.unit.Line.of.Goals as goal
 use Rattle.py_lines.proofs.unit.Line.of.Goals.{Joined-unmarked-indent-lt1, in-35, in-empty, in-empty-2, in_default}
@@ -24,3 +22,6 @@ returns c =
     let indent : c.space_len-indent.result ≡ indent_in text = run_prefix is_space _ _ (subst (λ l. IsRunOf is_space l c.space_len-indent.result) bare c.space_len-indent.ensures) in
     let kind = kind (goal.at.returns c).Joined-unmarked-indent-lt1 ∙ ap kind_from (rest_is (rest_of text c.mark_len.result) c.space_len-indent.result ∙ (λ i. drop (indent i) (bare i))) in
     λ i. record { kind = kind i; text = c.from_utf8_unchecked.ensures i; offset = c.args.offset; line = c.args.line; indent = indent i; end_len = c.args.end_len }
+
+pub invariant_of-result : goal.invariant_of-result
+invariant_of-result c = grind (arith, nat_tests)
