@@ -8,6 +8,7 @@ use Rattle.py_lines.specs.LogicalLine.{is_line_end_class}
 use Rattle.py_lines.proofs.Text.CharacterTests.{none_of, excluded}
 use Rattle.py_lines.proofs.Fields.Elsewhere.{none_false}
 use Rattle.py_lines.specs.Neighbours.{is_simple, is_space_class, is_word_class, may_touch, AreSimple, MayTouch}
+use Rattle.py_lines.proofs.FieldScans.PlainCode.{operator_is, space_is}
 
 -- what computes here
 unfoldable computes : Unit {0}
@@ -56,6 +57,8 @@ no_space class c n h = none_of is_space (starts_of class) c refl h
 no_word : (class : Class) (c : ℕ) → not (is_word_class class) ≡ true → opens class c ≡ true → (is_word_character c ≡ false) × (is_quote c ≡ false)
 unfolding computes
 no_word word c n h = absurd (cc)
+no_word operator c n h = let is = operator_is c h in (is.0, is.1)
+no_word space c n h = space_is c h
 no_word class c n h = (none_of is_word_character (starts_of class) c refl h, none_of is_quote (starts_of class) c refl h)
 
 end_breaks : (class : Class) (c : ℕ) → is_line_end_class class ≡ true → opens class c ≡ true → is_break c ≡ true

@@ -1,9 +1,9 @@
 -- The machine is as many bytes further after characters as they have.
-use Rattle.py_lines.proofs.Prelude.{◌≡◌, ℕ, ◌+◌, Bool, false, Option, None, Some, List, [], ◌∷◌, ◌++◌, refl, sym, ap, ◌∙◌, subst, append_assoc, append-nil, arith, len_utf8, both_ways, cond_both, byte_len, Class, Piece, line_end, operator, spelled, Frame, Scan, Host, Place, literal, specification, OpenMode, piece}
+use Rattle.py_lines.proofs.Prelude.{◌≡◌, ℕ, ◌+◌, Bool, false, Option, None, Some, List, [], ◌∷◌, ◌++◌, refl, sym, ap, ◌∙◌, subst, append_assoc, append-nil, arith, len_utf8, both_ways, cond_both, byte_len, Class, Piece, line_end, operator, spelled, Frame, Scan, Host, Place, literal, specification, OpenMode, piece, true, if◌then◌else◌, ◌==◌}
 use Rattle.py_lines.specs.declared.mode.Mode.TheVariants as opens
-use Rattle.py_lines.specs.Private.Machine.{Start, long_move, move_of, short_move, start_of, Start as starts}
+use Rattle.py_lines.specs.Private.Machine.{Move, Start, move_of, start_of, Start as starts}
 use Rattle.py_lines.specs.Private.FieldFaults.{here}
-use Rattle.py_lines.specs.Private.FieldMachine.{At, after_brace, between_move, FieldMode, FieldMove, FieldScanned, Level, after_operator, before, begins_code, between, body, body_move, breaks, closes, code_operator, ends_field, field_class_of, field_closed, field_ended, field_fresh, field_move, field_moved, field_operator, field_started, field_step, grows, has_room, is_after_brace, opened_level, opens_field, refused, specification_ended, text_place}
+use Rattle.py_lines.specs.Private.FieldMachine.{At, after_brace, FieldMode, FieldMove, FieldScanned, Level, after_operator, before, begins_code, between, body, breaks, closes, code_operator, ends_field, field_class_of, field_closed, field_ended, field_fresh, field_move, field_moved, field_operator, field_started, field_step, grows, has_room, is_after_brace, opened_level, opens_field, refused, specification_ended, text_place, begins_host, empty, opened, plain, plain_move}
 use Rattle.py_lines.specs.Private.Scan.{Follows, FramesFollow, Goes, HasNoList, HoldsCode, NoListAt, host_in, mode_from, region_in}
 use Rattle.py_lines.proofs.FieldScans.Bytes.{byte_len-more, push_three, push_two}
 use Rattle.py_lines.proofs.FieldScans.Moves.{BodyMoved, bare_in, body_moved, holds_plain, list_at, said}
@@ -53,11 +53,21 @@ moved_whole : (host : Host) (place : Place) (named : Bool) (at : At) (c : ℕ) (
 moved_whole host place named at c (grows n) (b, a, is, fit) = subst IsWhole (sym is) (body_whole host place b a fit)
 moved_whole host place named at c v moved = tt
 
+plain_whole : (v : Move) → StaysWhole (plain_move v)
+plain_whole (Move.Grows m) = tt
+plain_whole other = tt
+
+one_whole : (is : Bool) (v w : FieldMove) → StaysWhole v → StaysWhole w → StaysWhole (if is then v else w)
+one_whole true v w one other = one
+one_whole false v w one other = other
+
 stays_whole : (m : FieldMode) (held : List ℕ) (c : ℕ) → StaysWhole (field_move m held c)
-unfolding field_move move_of short_move long_move body_move between_move
+unfolding field_move
+stays_whole (plain m) held c = one_whole (begins_host m held c) _ _ tt (plain_whole (move_of m c))
+stays_whole (opened host) held c = one_whole (c == host.quote) _ _ tt (moved_whole host literal false between c (field_move (body host literal false between) held c) (body_moved host literal false between held c))
+stays_whole (empty host) held c = one_whole (c == host.quote) _ _ tt tt
 stays_whole (body host place named at) held c =
     moved_whole host place named at c (field_move (body host place named at) held c) (body_moved host place named at held c)
-stays_whole m held c = grind arith
 
 -- it has come to this byte, and is laid out so
 abbrev IsAt : ℕ → Option FieldScanned → Type 0

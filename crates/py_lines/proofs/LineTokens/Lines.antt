@@ -1,7 +1,7 @@
 -- How a line begins, with its mark and its indentation, and how its pieces are read one after another.
 use mir.Val.{bool_byte}
 use Rattle.py_lines.proofs.Prelude.{◌≡◌, ℕ, ◌+◌, ◌<◌, ◌≤◌, Bool, true, false, List, [], ◌∷◌, ◌++◌, length, drop, refl, sym, ap, ◌∙◌, subst, append_assoc, append-nil, arith, length-drop, zero, suc, ◌⊎◌, inl, inr, ⊎_elim, zero-add, add-zero, slice_index, encode_utf8_all, if◌then◌else◌, nat_eq, nat_lt, starts_with, drop-append_seam, drop-drop, encodes-append, length-le-encodes, both_ways, false_from_ne_true, Decides-eqb, starts_is, encode, is_mark, is_space, is_line_feed, is_return, depth_after, Token, AreReadBefore, InClass, rest_is, rest_of, byte_len-append}
-use Rattle.py_lines.specs.Piece.{Class, line_end, mark, Piece, begins, spelled, space, begins_marked, is_mark_class}
+use Rattle.py_lines.specs.Piece.{string, Class, line_end, mark, Piece, begins, spelled, space, begins_marked, is_mark_class}
 use Rattle.py_lines.specs.LogicalLine.{byte_len, end_len_of, is_line_end_class, line_ends, tokens_of_piece, indent_of, space_len, tokens_from}
 use Rattle.py_lines.specs.declared.class.Class.TheVariants as class
 use Rattle.py_lines.specs.Private.LineTokens.{mark_bytes, mark_len, AreTextAt, BeginWithPiece, HaveReadOf, ReadsPiece, role_of, token_in, AreLineText, FirstPiece, HaveRead}
@@ -13,6 +13,9 @@ use Rattle.py_lines.proofs.Text.CharacterTests.{mark_is}
 use Rattle.py_lines.proofs.LogicalLines.NextLine.{line_ends-spelled}
 use Rattle.py_lines.proofs.LineTokens.FirstCharacters.{begins_so, class_told, first_of, unmarked_first}
 use Rattle.py_lines.proofs.LineTokens.FirstPieces.{line_end_taken, spaces}
+
+no_string : space ≡ string → ⊥
+no_string is = cc
 
 -- a piece's token is that of its part in the line
 own_token : (class : Class) (text : List ℕ) (start stop line : ℕ) → token_in (role_of class text) start stop line ≡ tokens_of_piece start stop line class text
@@ -134,7 +137,7 @@ module _ {text : List ℕ} {pieces : List Piece} {first start line : ℕ} {t : L
             spell = ap (drop 1) h.are.spell ∙ drop-drop 1 start text;
             after = h.are.after;
             fit = ((d, ds, refl, h.are.fit.0.3), h.are.fit.1, h.are.fit.2, h.are.fit.3);
-            shallow = (h.are.shallow.0, λ no. absurd (cc), h.are.shallow.2);
+            shallow = (h.are.shallow.0, λ no. absurd (no_string no), h.are.shallow.2);
           };
           ends = sym (no_line_end (space_of (d ∷ ds)) qs refl) ∙ no_line_end (space_of (32 ∷ d ∷ ds)) qs refl ∙ h.ends;
           lines = omega (arith, h.lines);

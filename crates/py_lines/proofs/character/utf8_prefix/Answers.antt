@@ -1,3 +1,4 @@
+use Rattle.std.proofs.lemmas.Grind.{common_steps}
 use Rattle.py_lines.proofs.Prelude.{◌≡◌, ℕ, length, take, sym, ap, ◌∙◌, arith, length-take-le, take_all, IsValidUpTo, nat_tests}
 use Rattle.py_lines.proofs.Text.Utf8Prefixes.{whole_text, front_text}
 use Rattle.py_lines.proofs.character.utf8_prefix.Goals as goal
@@ -30,3 +31,6 @@ returns-in-Ok-text c = grind (arith, nat_tests)
 
 pub from_utf8_unchecked-requires : goal.from_utf8_unchecked-requires
 from_utf8_unchecked-requires c = grind (arith, nat_tests)
+
+pub slice_bounds-from_utf8_unchecked-end : goal.slice_bounds-from_utf8_unchecked-end
+slice_bounds-from_utf8_unchecked-end c = grind (arith, common_steps)

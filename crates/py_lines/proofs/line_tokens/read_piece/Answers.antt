@@ -127,3 +127,6 @@ overflow_add-result c = grind (arith, nat_tests)
 
 pub string_len-len-requires-clause-quote : goal.string_len-len-requires-clause-quote
 string_len-len-requires-clause-quote c = grind (arith, nat_tests)
+
+pub read_anyway-requires-clause-within : goal.read_anyway-requires-clause-within
+read_anyway-requires-clause-within c = grind (arith, nat_tests)

@@ -27,3 +27,6 @@ returns-in_default-2 c = grind (arith, common_steps)
 
 pub returns-in_err-len : goal.returns-in_err-len
 returns-in_err-len c = grind (arith, common_steps)
+
+pub char-bytes : goal.char-bytes
+char-bytes c = grind arith

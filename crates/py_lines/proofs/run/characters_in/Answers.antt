@@ -1,5 +1,7 @@
+use Rattle.memchr.specs.Find.{IsFirstByte, is_byte2}
+use Rattle.std.specs.Option.{unwrap_or}
 use Rattle.std.proofs.lemmas.Grind.{common_steps}
-use Rattle.py_lines.proofs.Prelude.{arith, ◌≡◌, ◌<◌, ℕ, Bool, List, true, rules, sym, and_parts, ltb-true, length-take-le, OpenMode}
+use Rattle.py_lines.proofs.Prelude.{Option, length, arith, ◌≡◌, ◌<◌, ℕ, Bool, List, true, rules, sym, and_parts, ltb-true, length-take-le, OpenMode}
 use Rattle.py_lines.specs.Character.{is_backslash, is_space}
 use Rattle.py_lines.specs.Private.Run.{IsRunOf, Spans, is_ascii_word, is_long_byte, is_long_text_byte, stays}
 use Rattle.py_lines.specs.declared.mode.Mode.TheVariants as opens
@@ -55,12 +57,17 @@ returns-in_default-3 c = none (stays c.args.mode) c.args.bytes.now
 pub returns-in_default-4 : goal.returns-in_default-4
 returns-in_default-4 c = none (stays c.args.mode) c.args.bytes.now
 
+-- the bytes before the first quote or backslash
+before_first : (q : ℕ) (bytes : List ℕ) (r : Option ℕ) → IsFirstByte (is_byte2 q 92) bytes r → IsRunOf (is_long_byte q) bytes (unwrap_or r (length bytes))
+unfolding is_backslash
+before_first q bytes r first = grind (arith, common_steps)
+
 -- the run whose whole characters are taken
 run : (c : Joined-mode) → IsRunOf (stays c.args.mode) c.args.bytes.now c.match-mode.run
 unfolding is_backslash
 run c = elim c.match-mode.branch [
   | in-Short w ↦ rw (w.run-is, w.in-Short.is) w.len_in-run.ensures
-  | in-Long+else-ascii-bytes+else-bytes-ascii-lt128 w ↦ rw (w.run-is, w.in-Long.is) (grind (arith, common_steps))
+  | in-Long+else-ascii-bytes+else-bytes-ascii-lt128 w ↦ rw (w.run-is, w.in-Long.is, w.unwrap_or-run.ensures) (before_first w.in-Long.quote c.args.bytes.now w.memchr2.result w.memchr2.ensures)
   | in-Comment w ↦ rw (w.run-is, w.in-Comment.is) w.comment_run-run.ensures
 ]
 

@@ -79,7 +79,7 @@ goes_on c =
             adds = w.in_ok-add_token-in-Quote.ensures;
           } in
           let far : at + (all - at) ≡ all = omega (arith, so.further) in
-          rw (w.scan-is, w.tokens-is, w.start-is, w.line_here-is, w.passing-is) (record {
+          transport (λ i. GoesOn bytes at c.args.line (sym w.line_here-is i) c.specials.scan c.specials.passing (sym w.scan-is i) (sym w.tokens-is i).items (sym w.start-is i) (sym w.passing-is i)) (record {
             same = refl;
             so = so;
             few = omega (arith, few, so.further);
@@ -88,7 +88,7 @@ goes_on c =
       | in_default-class+in-Passed+in_ok-len-in-Passed+in-Some-2 w ↦
           let place : at ≡ c.specials.scan.stop + at = omega (arith, stop (goal.at.Joined-class c).In-specials) in
           let piece = piece_read _ w.in-Some-2.is w.in_ok-len-in-Passed.ensures in
-          rw (w.scan-is, w.tokens-is, w.start-is, w.line_here-is, w.passing-is) (record {
+          transport (λ i. GoesOn bytes at c.args.line (sym w.line_here-is i) c.specials.scan c.specials.passing (sym w.scan-is i) (sym w.tokens-is i).items (sym w.start-is i) (sym w.passing-is i)) (record {
             same = refl;
             so = subst (λ (n : ℕ). PassesSo bytes at n c.specials.passing c.specials.scan.frames w.pass.new.self w.pass.new.frames) place w.in-Passed.ensures;
             few = omega (arith, few, piece.few);
@@ -172,3 +172,6 @@ returns-in_default-2 c = grind (arith, nat_tests)
 
 pub returns-in-Unpassed : goal.returns-in-Unpassed
 returns-in-Unpassed c = omega arith
+
+pub next-at-requires : goal.next-at-requires
+next-at-requires c = grind arith

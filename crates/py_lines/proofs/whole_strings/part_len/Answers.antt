@@ -24,3 +24,12 @@ returns-in_err-field_len-in-123 c = grind (arith, nat_tests)
 
 pub bounds-bytes-1-in-123-bytes-2 : goal.bounds-bytes-1-in-123-bytes-2
 bounds-bytes-1-in-123-bytes-2 c = grind arith
+
+pub bounds-bytes-1-in_default-bytes-3 : goal.bounds-bytes-1-in_default-bytes-3
+bounds-bytes-1-in_default-bytes-3 c = grind arith
+
+pub bounds-bytes-1 : goal.bounds-bytes-1
+bounds-bytes-1 c = grind arith
+
+pub field_len-requires : goal.field_len-requires
+field_len-requires c = grind arith

@@ -1,5 +1,5 @@
 use mir.Val.{bool_byte}
-use Rattle.py_lines.proofs.Prelude.{List, ◌≡◌, ◌+◌, ◌<◌, ◌≤◌, ◌∙◌, ap, arith, length, rules, subst, sym, nat_lt, Piece, spelled, line_ends, rest_is}
+use Rattle.py_lines.proofs.Prelude.{List, ◌≡◌, ◌+◌, ◌<◌, ◌≤◌, ◌∙◌, ap, arith, length, rules, subst, sym, nat_lt, Piece, spelled, line_ends, rest_is, nat_tests}
 use Rattle.py_lines.specs.Private.LineTokens.{AreLineOf, BeginWithPiece, HaveRead, ReadsPiece}
 use Rattle.py_lines.proofs.LineScan.LineCount.{line_ends-bytes}
 use Rattle.py_lines.proofs.LineTokens.Lines.{IsReadNext, IsWholeRead, before_end, begun, byte_within, end_within, has_next, past_byte, read_next, whole_read}
@@ -90,3 +90,6 @@ returns-clause-tokens c = λ ps is. (whole (goal.at.returns-clause-tokens c).Aft
 
 pub returns-clause-after : goal.returns-clause-after
 returns-clause-after c = after (goal.at.returns-clause-after c).After-pieces
+
+pub read_piece-requires-clause-within : goal.read_piece-requires-clause-within
+read_piece-requires-clause-within c = grind (arith, nat_tests)

@@ -36,3 +36,6 @@ invariant_of-source c = rw c.pass.ensures (record {
 
 pub pass-requires : goal.pass-requires
 pass-requires c = grind arith
+
+pub returns-then-place-before : goal.returns-then-place-before
+returns-then-place-before c = grind arith

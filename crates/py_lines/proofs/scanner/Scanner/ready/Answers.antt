@@ -42,3 +42,6 @@ returns-in_err-end_len-clause-some_text c = grind arith
 
 pub returns-clause-none : goal.returns-clause-none
 returns-clause-none c = grind arith
+
+pub returns-in_err-end_len-clause-some : goal.returns-in_err-end_len-clause-some
+returns-in_err-end_len-clause-some c = grind arith

@@ -1,4 +1,3 @@
-use Rattle.std.proofs.lemmas.Grind.{common_steps}
 use Rattle.py_lines.proofs.Prelude.{◌≡◌, arith, drop, ap, ◌∙◌, subst, is_break, is_hash, is_space, nat_tests, rest_is, rest_of}
 use Rattle.py_lines.specs.Private.Outline.{indent_in, kind_from, unmarked}
 use Rattle.py_lines.specs.Private.Run.{IsRunOf}
@@ -9,10 +8,10 @@ use Rattle.py_lines.proofs.unit.Line.of.Goals.{Joined-unmarked-indent-lt1, in-35
 kind : (c : Joined-unmarked-indent-lt1) → c.if-unmarked-indent-lt1.kind ≡ kind_from (rest_of (rest_of c.args.text.now c.mark_len.result) c.space_len-indent.result)
 unfolding is_break is_hash
 kind c = elim c.if-unmarked-indent-lt1.branch [
-  | in-35 w ↦ w.kind-is ∙ grind (arith, common_steps)
-  | in-empty w ↦ w.kind-is ∙ grind (arith, common_steps)
-  | in-empty-2 w ↦ w.kind-is ∙ grind (arith, common_steps)
-  | in_default w ↦ w.kind-is ∙ grind (arith, common_steps)
+  | in-35 w ↦ w.kind-is ∙ grind arith
+  | in-empty w ↦ w.kind-is ∙ grind arith
+  | in-empty-2 w ↦ w.kind-is ∙ grind arith
+  | in_default w ↦ w.kind-is ∙ grind arith
 ]
 
 pub returns : goal.returns
