@@ -1,5 +1,5 @@
 -- Simple text of a string with fields: the machine goes through it, from one place to another.
-use Rattle.py_lines.proofs.Prelude.{◌≡◌, ℕ, ◌+◌, ◌<◌, ◌≤◌, Bool, true, false, not, ◌&&◌, ◌==◌, Some, List, [], ◌∷◌, ◌++◌, length, refl, sym, ap, ◌∙◌, subst, arith, nat_lt, nat_tests, list_all, and_from, and_parts, and_right, both_ways, eq-eqb, list_all-append, is_space, is_quote, is_operator, is_break, is_backslash, is_brace, is_line_feed, Piece, spelled, operator, string, is_opening, is_closing, closing_of, Host, Place, literal, specification, is_plain, piece}
+use Rattle.py_lines.proofs.Prelude.{◌≡◌, ℕ, ◌+◌, ◌<◌, ◌≤◌, Bool, true, false, not, ◌&&◌, ◌==◌, Some, List, [], ◌∷◌, ◌++◌, length, refl, sym, ap, ◌∙◌, subst, arith, nat_lt, nat_tests, list_all, and_from, and_parts, and_right, both_ways, eq-eqb, list_all-append, is_space, is_quote, is_operator, is_break, is_backslash, is_brace, is_line_feed, Piece, spelled, operator, string, is_opening, is_closing, closing_of, Host, Place, literal, specification, is_plain, piece, eqb-true, false_from_ne_true}
 use Rattle.py_lines.specs.Private.Machine.{Mode, Move as moves, Start as starts, IsFull, closed, short_move, move_of, start_of, first_spelling}
 use Rattle.py_lines.specs.Private.Mode as modes
 use Rattle.py_lines.specs.Private.FieldMachine.{At, FieldMode, between, after_brace, after_slash, plain, body, FieldMove, grows, closes, breaks, begins_code, ends_field, Level, FieldScanned, field_state, field_fresh, field_ended, begins_host, plain_move, between_move, body_move, field_move, field_moved, field_started, field_step, code_operator, openers_with, levels_open, frames, has_room, has_room_at, room_step}
@@ -198,7 +198,7 @@ operator_breaks m held c simple h = let is = operator_is c h in code_results m h
 -- the bytes that code has mostly
 pub code_plain : (c : ℕ) → is_code_byte c ≡ true → (is_plain c ≡ true) × (c == 58 ≡ false)
 unfolding is_plain is_ascii_word is_code_sign is_space is_operator is_opening is_closing
-code_plain c h = (grind (arith, nat_tests), grind (arith, nat_tests))
+code_plain c h = (grind (arith, nat_tests), false_from_ne_true _ (λ colon. both_ways (is_code_byte 58) refl (subst (λ x. is_code_byte x ≡ true) (eqb-true c 58 colon) h)))
 
 code_line : (c : ℕ) → is_code_byte c ≡ true → is_line_byte c ≡ true
 unfolding is_ascii_word is_code_sign is_break

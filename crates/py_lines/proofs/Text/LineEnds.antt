@@ -61,8 +61,8 @@ cut_ends zero bytes within = omega arith
 cut_ends (suc zero) (b ∷ []) within = grind arith
 cut_ends (suc zero) (b ∷ c ∷ bs) within = grind arith
 cut_ends (suc (suc n)) (b ∷ c ∷ bs) within =
-    let on = cut_ends (suc n) (c ∷ bs) (omega (arith, within)) in
-    simp unary_clauses (omega (arith, simp unary_clauses at on))
+    let on = simp unary_clauses at (cut_ends (suc n) (c ∷ bs) (omega (arith, within))) in
+    simp unary_clauses (omega (arith, on.0), omega (arith, on.0, on.1))
 cut_ends (suc (suc n)) (b ∷ []) within = absurd (omega (arith, within))
 cut_ends (suc n) [] within = absurd (omega (arith, within))
 

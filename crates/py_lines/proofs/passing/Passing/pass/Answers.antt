@@ -1,4 +1,5 @@
-use Rattle.py_lines.proofs.Prelude.{◌+◌, ◌∙◌, ◌≤◌, List, ℕ, ap, arith, drop, length, length-drop, refl, slice_index, subst, sym, low_scalar, both_ways, is_break, nat_tests, rest_is, rest_of}
+use Rattle.py_lines.specs.Private.Passing.{PassesSo}
+use Rattle.py_lines.proofs.Prelude.{◌+◌, ◌∙◌, ◌≤◌, List, ℕ, ap, arith, drop, length, length-drop, refl, slice_index, subst, sym, low_scalar, both_ways, is_break, nat_tests, rest_is, rest_of, transport}
 use Rattle.py_lines.specs.Private.LineEnds.{BeginsOuterEnd}
 use Rattle.py_lines.proofs.FieldScans.LineEnds.{feed_breaks, return_breaks}
 use Rattle.py_lines.proofs.PassedPieces.Counts.{few_ends, join_counts}
@@ -43,21 +44,21 @@ returns-then-passed c =
     let next = c.requires.next in
     let rest = next.rest c.requires.within in
     elim c.match-of.branch [
-      | in-Quote w ↦ rw (w.self-is, w.frames-is) (w.pass_string-passed.ensures.passed (sym w.passed-is ∙ c.if-passed.true) place)
+      | in-Quote w ↦ transport (λ i. PassesSo bytes at place old before (sym w.self-is i) (sym w.frames-is i)) (w.pass_string-passed.ensures.passed (sym w.passed-is ∙ c.if-passed.true) place)
       | in-Backslash+in-Some-outer_end_len w ↦
           let len = w.in-Some-outer_end_len.len in
           let ends = subst (λ (xs : List ℕ). BeginsOuterEnd xs len) (rest_is bytes (at + 1)) w.in-Some-outer_end_len.ensures in
-          rw (w.self-is, w.frames-is) (passes_same bytes at old next c.requires.within _ before (1 + len) place (omega arith)
+          transport (λ i. PassesSo bytes at place old before (sym w.self-is i) (sym w.frames-is i)) (passes_same bytes at old next c.requires.within _ before (1 + len) place (omega arith)
           (omega (arith, ends.within, length-drop (at + 1) bytes, c.requires.within)) (omega arith) refl
           (omega (arith, join_counts bytes at len c.requires.within w.in-Backslash.ensures ends))
           (w.pass-in-Backslash.ensures (at + 1) rest (omega arith))
           (λ scan p frames. join_over p first (drop (at + 1) bytes) (next.special c.requires.within) len w.in-Backslash.ensures ends))
-      | in-Hash w ↦ rw (w.self-is, w.frames-is) (w.pass_comment-passed.ensures.passed (sym w.passed-is ∙ c.if-passed.true) place before)
+      | in-Hash w ↦ transport (λ i. PassesSo bytes at place old before (sym w.self-is i) (sym w.frames-is i)) (w.pass_comment-passed.ensures.passed (sym w.passed-is ∙ c.if-passed.true) place before)
       | in-Opening w ↦
-          rw (w.self-is, w.frames-is) (opening_passed bytes at old next c.requires.within _ before w.open.new.self place rest
+          transport (λ i. PassesSo bytes at place old before (sym w.self-is i) (sym w.frames-is i)) (opening_passed bytes at old next c.requires.within _ before w.open.new.self place rest
           w.in-Opening.ensures (rw w.if-open.true at w.open.ensures))
       | in-Closing w ↦
-          rw (w.self-is, w.frames-is) (closing_passed bytes at old next c.requires.within _ before w.close.new.self place rest
+          transport (λ i. PassesSo bytes at place old before (sym w.self-is i) (sym w.frames-is i)) (closing_passed bytes at old next c.requires.within _ before w.close.new.self place rest
           w.in-Closing.ensures (rw w.if-close.true at w.close.ensures))
       | in_default-2 w ↦ absurd (both_ways _ w.passed-is c.if-passed.true)
       | in_default-3 w ↦ absurd (both_ways _ w.passed-is c.if-passed.true)

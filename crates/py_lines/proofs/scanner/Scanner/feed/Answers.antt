@@ -1,4 +1,4 @@
-use Rattle.py_lines.specs.ScannerState.{fed_of}
+use Rattle.py_lines.specs.ScannerState.{fed_of, TakesBytes, Feeds}
 use Rattle.py_lines.proofs.Prelude.{◌≡◌, None, Ok, sym, ◌∙◌, arith, subst, err_from_is_err_and, ap, nat_tests}
 use Rattle.py_lines.specs.Private.Feed.{IsSoundFeed, TakesSimple, scanning_of}
 use Rattle.py_lines.proofs.Feeds.FedScanner.{fed_short, takes_read, waits_so}
@@ -6,7 +6,7 @@ use Rattle.py_lines.proofs.scanner.Scanner.feed.Goals.{In_default}
 use Rattle.py_lines.proofs.scanner.Scanner.feed.Goals as goal
 
 pub returns-then-is_some : goal.returns-then-is_some
-returns-then-is_some c = record { feeds = rw (← c.self.view_is) (waits_so c.self.inside.feed c.args.piece.now c.self.invariant (sym c.is_some.ensures ∙ c.if-is_some.true)) }
+returns-then-is_some c = record { feeds = subst (λ s. Feeds s c.args.piece.now (Ok 0) s) c.self.view_is (waits_so c.self.inside.feed c.args.piece.now c.self.invariant (sym c.is_some.ensures ∙ c.if-is_some.true)) }
 
 -- no simple line was taken
 stays : (c : In_default) → let new = c.take_simple.new.self in (scanning_of new ≡ scanning_of c.self.inside.feed) × (new.ready ≡ None) × IsSoundFeed new
@@ -33,7 +33,7 @@ returns c =
 
 pub returns-in-Some : goal.returns-in-Some
 returns-in-Some c = record {
-  feeds = rw (← c.self.view_is) (subst (λ o. TakesSimple c.self.inside.feed c.args.piece.now (Ok o) c.take_simple.new.self) c.in-Some.is c.in_ok-taken.ensures).0;
+  feeds = subst (λ s. TakesBytes s c.args.piece.now c.in-Some.taken (scanning_of c.take_simple.new.self)) c.self.view_is (subst (λ o. TakesSimple c.self.inside.feed c.args.piece.now (Ok o) c.take_simple.new.self) c.in-Some.is c.in_ok-taken.ensures).0;
 }
 
 pub take_bytes-requires-clause-sound : goal.take_bytes-requires-clause-sound

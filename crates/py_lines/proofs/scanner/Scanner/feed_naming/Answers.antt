@@ -1,5 +1,5 @@
-use Rattle.py_lines.proofs.Prelude.{◌≡◌, inl, true, sym, ◌∙◌, arith, is_some, take, ap, ℕ, ◌+◌, err_from_is_err_and, both_ways}
-use Rattle.py_lines.specs.ScannerState.{LacksBoth}
+use Rattle.py_lines.proofs.Prelude.{◌≡◌, inl, true, sym, ◌∙◌, arith, is_some, take, ap, ℕ, ◌+◌, err_from_is_err_and, both_ways, Ok, subst}
+use Rattle.py_lines.specs.ScannerState.{LacksBoth, FeedsNaming}
 use Rattle.py_lines.specs.Private.Feed.{scanning_of}
 use Rattle.py_lines.proofs.Feeds.FedScanner.{fed_named, fed_released, fed_short, naming_fails, naming_same, size_taken, some_taken, stands_taken, waits_so}
 use Rattle.py_lines.proofs.Feeds.Released.{released_sound}
@@ -10,11 +10,11 @@ use Rattle.py_lines.proofs.scanner.Scanner.feed_naming.Goals as goal
 pub returns-then-is_some : goal.returns-then-is_some
 returns-then-is_some c =
     let f = c.self.inside.feed in
-    record { feeds = rw (← c.self.view_is) (naming_same c.args.word.now c.args.other.now (scanning_of f) (scanning_of f) c.args.piece.now 0 (waits_so f c.args.piece.now c.self.invariant (sym c.is_some.ensures ∙ c.if-is_some.true)) (λ line is. inl is)) }
+    record { feeds = subst (λ s. FeedsNaming c.args.word.now c.args.other.now s c.args.piece.now (Ok 0) s) c.self.view_is (naming_same c.args.word.now c.args.other.now (scanning_of f) (scanning_of f) c.args.piece.now 0 (waits_so f c.args.piece.now c.self.invariant (sym c.is_some.ensures ∙ c.if-is_some.true)) (λ line is. inl is)) }
 
 pub returns-then-lacks_both : goal.returns-then-lacks_both
 returns-then-lacks_both c =
-    record { feeds = rw (← c.self.view_is) (fed_released c.in_ok-taken.ensures (none_is c.self.inside.feed.ready (sym c.is_some.ensures ∙ c.if-is_some.false)) (sym c.is_some-2.ensures ∙ c.if-is_some-2.true) (rw c.deref.ensures.value at (c.lacks_both.ensures.yes c.if-lacks_both.true)) c.let_go.ensures).0 }
+    record { feeds = subst (λ s. FeedsNaming c.args.word.now c.args.other.now s c.args.piece.now (Ok c.in_ok-taken.taken) (scanning_of c.let_go.new.self)) c.self.view_is (fed_released c.in_ok-taken.ensures (none_is c.self.inside.feed.ready (sym c.is_some.ensures ∙ c.if-is_some.false)) (sym c.is_some-2.ensures ∙ c.if-is_some-2.true) (rw c.deref.ensures.value at (c.lacks_both.ensures.yes c.if-lacks_both.true)) c.let_go.ensures).0 }
 
 pub invariant_of-self-in_err-read_tokens : goal.invariant_of-self-in_err-read_tokens
 invariant_of-self-in_err-read_tokens c =
@@ -27,7 +27,7 @@ returns c =
       | else-is_some-2-via-then-is_some-2+else-lacks_both w ↦ rw w.deref.ensures.value at (w.lacks_both.ensures.no w.if-lacks_both.false)
       | else-is_some-2-via-else-is_some-2 w ↦ absurd (both_ways _ (sym c.is_some-2.ensures ∙ w.if-is_some-2.false) some)
     ] in
-    record { feeds = rw (← c.self.view_is) (fed_named c.in_ok-taken.ensures stays c.in_ok-read_tokens.ensures) }
+    record { feeds = subst (λ s. FeedsNaming c.args.word.now c.args.other.now s c.args.piece.now (Ok c.in_ok-taken.taken) (scanning_of c.read_tokens.new.self)) c.self.view_is (fed_named c.in_ok-taken.ensures stays c.in_ok-read_tokens.ensures) }
 
 pub take_bytes-requires-clause-sound : goal.take_bytes-requires-clause-sound
 take_bytes-requires-clause-sound c = c.self.invariant
@@ -44,7 +44,7 @@ invariant_of-self c = c.in_err-taken.ensures.1
 pub returns-in_err-taken : goal.returns-in_err-taken
 returns-in_err-taken c =
     let (error, is, same) = err_from_is_err_and c.from_residual.result c.from_residual.ensures.1 in
-    record { feeds = rw (← c.self.view_is, is, same) (naming_fails c.args.word.now c.args.other.now _ _ _ _ c.in_err-taken.ensures.0) }
+    record { feeds = subst (λ s. FeedsNaming c.args.word.now c.args.other.now s c.args.piece.now c.from_residual.result (scanning_of c.take_bytes.new.self)) c.self.view_is (rw (is, same) (naming_fails c.args.word.now c.args.other.now _ _ _ _ c.in_err-taken.ensures.0)) }
 
 pub read_tokens-requires-clause-holds : goal.read_tokens-requires-clause-holds
 read_tokens-requires-clause-holds c = (c.in_ok-taken.ensures.line, c.in_ok-taken.ensures.holds)
@@ -58,7 +58,7 @@ read_tokens-requires-clause-room c = c.in_ok-taken.ensures.room
 pub returns-in_err-read_tokens : goal.returns-in_err-read_tokens
 returns-in_err-read_tokens c =
     let (error, is, same) = err_from_is_err_and c.from_residual-in_err-read_tokens.result c.from_residual-in_err-read_tokens.ensures.1 in
-    record { feeds = rw (← c.self.view_is, is, same) (naming_fails c.args.word.now c.args.other.now _ _ _ _ (fed_short c.in_ok-taken.ensures c.self.invariant (none_is c.self.inside.feed.ready (sym c.is_some.ensures ∙ c.if-is_some.false)) (omega (arith, c.len-before.ensures)) _ c.in_err-read_tokens.ensures).0) }
+    record { feeds = subst (λ s. FeedsNaming c.args.word.now c.args.other.now s c.args.piece.now c.from_residual-in_err-read_tokens.result (scanning_of c.read_tokens.new.self)) c.self.view_is (rw (is, same) (naming_fails c.args.word.now c.args.other.now _ _ _ _ (fed_short c.in_ok-taken.ensures c.self.invariant (none_is c.self.inside.feed.ready (sym c.is_some.ensures ∙ c.if-is_some.false)) (omega (arith, c.len-before.ensures)) _ c.in_err-read_tokens.ensures).0)) }
 
 pub invariant_of-self-2 : goal.invariant_of-self-2
 invariant_of-self-2 c = c.in_ok-read_tokens.ensures.sound

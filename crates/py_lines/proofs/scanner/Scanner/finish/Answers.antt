@@ -1,6 +1,6 @@
-use Rattle.py_lines.specs.Private.Feed.{StandsSo}
-use Rattle.py_lines.proofs.Prelude.{ap, ◌∙◌, arith, sym, subst, err_from_is_err_and}
-use Rattle.py_lines.specs.ScannerState.{ScannerState}
+use Rattle.py_lines.specs.Private.Feed.{StandsSo, scanning_of}
+use Rattle.py_lines.proofs.Prelude.{ap, ◌∙◌, arith, sym, subst, err_from_is_err_and, Ok, true}
+use Rattle.py_lines.specs.ScannerState.{ScannerState, Finishes}
 use Rattle.py_lines.proofs.Feeds.EndedHeld.{ends_known, finish_errs, finish_read, finish_short, same_room}
 use Rattle.py_lines.proofs.Feeds.ReadyLines.{none_ready}
 use Rattle.py_lines.proofs.scanner.Scanner.finish.Goals as goal
@@ -40,7 +40,7 @@ pub invariant_of-self-2 : goal.invariant_of-self-2
 invariant_of-self-2 c = (finish_read c.self.invariant c.in_default.is c.in_ok-end_text.ensures c.in_ok-read_tokens.ensures).1
 
 pub returns : goal.returns
-returns c = record { finishes = rw (← c.self.view_is) (finish_read c.self.invariant c.in_default.is c.in_ok-end_text.ensures c.in_ok-read_tokens.ensures).0 }
+returns c = record { finishes = subst (λ s. Finishes s (Ok tt) (scanning_of (record c.read_tokens.new.self { ended = true }))) c.self.view_is (finish_read c.self.invariant c.in_default.is c.in_ok-end_text.ensures c.in_ok-read_tokens.ensures).0 }
 
 pub returns-in-Some : goal.returns-in-Some
 returns-in-Some c = record { finishes = ends_known c.args.self.now (ap (λ (s : ScannerState). s.fault) (sym c.self.view_is) ∙ c.in-Some.is) }

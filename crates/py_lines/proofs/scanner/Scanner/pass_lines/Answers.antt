@@ -29,7 +29,10 @@ pub invariant_of-self : goal.invariant_of-self
 invariant_of-self c = (none_passed c (c.stands_at_line.ensures c.if-not-stands_at_line.false)).1
 
 pub returns-then-is_err : goal.returns-then-is_err
-returns-then-is_err c = record { passes = rw (← c.self.view_is) (none_passed c (c.stands_at_line.ensures c.if-not-stands_at_line.false)).0 }
+returns-then-is_err c = record {
+  passes = subst (λ s. PassesPieceLines s c.args.bytes.now c.args.before 0 (scanning_of (record c.self.inside.feed { held = c.extend_from_slice.new.self; state = c.restart.new.self })))
+      c.self.view_is (none_passed c (c.stands_at_line.ensures c.if-not-stands_at_line.false)).0;
+}
 
 -- lines were passed, if any were found
 some_passed : (c : goal.After-restart-2) → StandsAtLine (scanning_of c.self.inside.feed)
@@ -48,7 +51,10 @@ pub invariant_of-self-2 : goal.invariant_of-self-2
 invariant_of-self-2 c = (some_passed c (c.stands_at_line.ensures c.if-not-stands_at_line.false)).1
 
 pub returns : goal.returns
-returns c = record { passes = rw (← c.self.view_is) (some_passed c (c.stands_at_line.ensures c.if-not-stands_at_line.false)).0 }
+returns c = record {
+  passes = subst (λ s. PassesPieceLines s c.args.bytes.now c.args.before c.pass_lines-len.result.0 (scanning_of (record c.self.inside.feed { held = c.drop-drain.new.self.0; state = c.restart-2.new.self })))
+      c.self.view_is (some_passed c (c.stands_at_line.ensures c.if-not-stands_at_line.false)).0;
+}
 
 pub slice_bounds-clear-end : goal.slice_bounds-clear-end
 slice_bounds-clear-end c = sym (length-take-le c.min.result c.args.bytes.now (omega (arith, c.min.ensures)))
