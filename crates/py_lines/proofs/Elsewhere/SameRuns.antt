@@ -1,6 +1,6 @@
 -- A text that has no prefix of a string with fields before a quote is live with fields exactly if it is live without: the machine goes
 -- through it and opens no string with fields, and nor does what closes all that is open.
-use Rattle.py_lines.proofs.Prelude.{◌≡◌, ℕ, true, false, Option, None, Some, List, [], ◌∷◌, ◌++◌, refl, sym, ap, ◌∙◌, subst, inl, inr, append_assoc, append-nil, and_parts, both_ways, false_from_ne_true, append_cancel_left, is_mark, is_quote, piece}
+use Rattle.py_lines.proofs.Prelude.{◌≡◌, ℕ, true, false, Option, None, Some, List, [], ◌∷◌, ◌++◌, refl, sym, ap, ◌∙◌, subst, inl, inr, append_assoc, append-nil, and_parts, both_ways, false_from_ne_true, append_cancel_left, is_mark, is_quote, piece, arith}
 use Rattle.py_lines.specs.Piece.{Class, mark, string, operator, line_end, Piece, begins, spelled}
 use Rattle.py_lines.specs.PieceGrammar.{IsPrefix, InPlainClass, MayPrecedePlain, AreReadPlain}
 use Rattle.py_lines.specs.Balance.{IsBalanced, IsShallowPlain, OpensShallow}
@@ -167,12 +167,12 @@ record Opens (class : Class) (c : ℕ) (cs rest : List ℕ) : Type 0 where
 
 string_opens : (prefix : List ℕ) (q : ℕ) (body rest : List ℕ) (c : ℕ) (cs : List ℕ) → c ∷ cs ≡ prefix ++ q ∷ body → IsPrefix prefix → is_quote q ≡ true → EndsWith string (modes.Opened q) body rest → Opens string c cs rest
 string_opens [] q body rest c cs is begun quotes ends =
-    let first : q ≡ c = cc in let others : body ≡ cs = cc in
+    let first : q ≡ c = grind arith in let others : body ≡ cs = grind arith in
     rw (← first, ← others) (record { mode = modes.Opened q; starts_as = start-quote q quotes; ends = ends })
-string_opens (a ∷ bs) q body rest c cs is (inl none) quotes ends = absurd (cc)
+string_opens (a ∷ bs) q body rest c cs is (inl none) quotes ends = absurd (grind arith)
 string_opens (a ∷ bs) q body rest c cs is (inr begun) quotes ends =
-    let first : a ≡ c = cc in
-    let others : (bs ++ q ∷ []) ++ body ≡ cs = append_assoc bs (q ∷ []) body ∙ (cc) in rw (← first, ← others) (record {
+    let first : a ≡ c = grind arith in
+    let others : (bs ++ q ∷ []) ++ body ≡ cs = append_assoc bs (q ∷ []) body ∙ (grind arith) in rw (← first, ← others) (record {
       mode = modes.Word (first_spelling a);
       starts_as = start-word a (prefix_word a bs begun).0;
       ends = ends_after string _ (modes.Opened q) (bs ++ q ∷ []) body rest (grown-prefix a bs q begun quotes) ends;

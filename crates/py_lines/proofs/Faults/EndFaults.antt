@@ -112,7 +112,7 @@ brace_is_open limit outer done openers host named held read sound =
 -- no `{` of a specification waits for the next character
 pub no_brace_at : (outer : List Level) (depth : ℕ) (held : List ℕ) (host : Host) (named : Bool) (at : At) → HoldsAt two_hundred outer depth host specification named at held → at ≡ after_brace → ⊥
 no_brace_at outer depth held host named after_brace holds same = not_specification (sym holds.2)
-no_brace_at outer depth held host named at holds same = absurd (cc)
+no_brace_at outer depth held host named at holds same = absurd (grind arith)
 
 -- the machine stands directly after the `{` of a literal part, with 200 brackets and fields open
 abbrev pub IsDeepBrace : List Level → List ℕ → FieldMode → Type 0

@@ -56,13 +56,13 @@ unclosed outer inner a all opens within = let (o, os, some) = some_after outer i
 pub one_bracket : (outer others inner more : List Piece) (a b : Piece) → outer ++ a ∷ inner ≡ others ++ b ∷ more → is_opener a ≡ true → is_opener b ≡ true → IsBalanced inner → IsBalanced more → outer ≡ others
 one_bracket [] [] inner more a b same one two first second = refl
 one_bracket [] (z ∷ zs) inner more a b same one two first second =
-    let is : inner ≡ zs ++ b ∷ more = cc in
+    let is : inner ≡ zs ++ b ∷ more = grind arith in
     absurd (unclosed zs more b (subst IsBalanced is first) two second)
 one_bracket (x ∷ xs) [] inner more a b same one two first second =
-    let is : xs ++ a ∷ inner ≡ more = cc in
+    let is : xs ++ a ∷ inner ≡ more = grind arith in
     absurd (unclosed xs inner a (subst IsBalanced (sym is) second) one first)
 one_bracket (x ∷ xs) (z ∷ zs) inner more a b same one two first second =
-    let here : x ≡ z = cc in let later : xs ++ a ∷ inner ≡ zs ++ b ∷ more = cc in
+    let here : x ≡ z = grind arith in let later : xs ++ a ∷ inner ≡ zs ++ b ∷ more = grind arith in
     ap (λ p. p ∷ xs) here ∙ ap (λ l. z ∷ l) (one_bracket xs zs inner more a b later one two first second)
 
 -- a `{` is one byte more

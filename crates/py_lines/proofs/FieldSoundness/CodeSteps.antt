@@ -114,11 +114,11 @@ start_sound limit outer done openers read c ready room = go (start_of c) (starts
   begun : (m : Mode) → StartsSo c (starts.Open m) → (class_of m ≡ string → BeginsPlain (c ∷ [])) × AtStart (plain m) outer done
   begun modes.Start so = absurd so
   begun (modes.Opened q) so = (λ at. record { prefix = []; quote = c; body = []; spell = refl; none = refl; opens = so.0; plain = refl }, tt)
-  begun modes.Space so = (λ at. absurd (cc), tt)
-  begun (modes.Word s) so = (λ at. absurd (cc), tt)
-  begun modes.Comment so = (λ at. absurd (cc), tt)
-  begun modes.Return so = (λ at. absurd (cc), tt)
-  begun modes.Backslash so = (λ at. absurd (cc), tt)
+  begun modes.Space so = (λ at. absurd (grind arith), tt)
+  begun (modes.Word s) so = (λ at. absurd (grind arith), tt)
+  begun modes.Comment so = (λ at. absurd (grind arith), tt)
+  begun modes.Return so = (λ at. absurd (grind arith), tt)
+  begun modes.Backslash so = (λ at. absurd (grind arith), tt)
   begun m so = absurd so
 
   go : (s : Start) → StartsSo c s → StartHolds c s → FieldSoundIf limit (field_started outer done openers c s) (read ++ c ∷ [])

@@ -215,7 +215,7 @@ module _ (Room : ℕ → Type 0) (outer : List Level) (done : List Piece) (opene
 -- the quote of a string that is open
 pub quotes_at : (limit : Limit) (outer : List Level) (depth : ℕ) (host : Host) (place : Place) (named : Bool) (at : At) (held : List ℕ) → HoldsAt limit outer depth host place named at held → is_quote host.quote ≡ true
 quotes_at limit outer depth host place named after_brace held h = h.4.quotes
-quotes_at limit outer depth host place named at held h = (at_open limit outer depth host place named at held (λ same. absurd (cc)) h).parts.quotes
+quotes_at limit outer depth host place named at held h = (at_open limit outer depth host place named at held (λ same. absurd (grind arith)) h).parts.quotes
 
 -- so from every state
 pub state_finishes : (limit : Limit) (Room : ℕ → Type 0) (outer : List Level) (done : List Piece) (openers : List ℕ) (m : FieldMode) (held read : List ℕ) → IsFieldSound limit (field_state outer done openers m held) read → Finishes Room (field_state outer done openers m held)

@@ -1,4 +1,4 @@
-use Rattle.py_lines.proofs.Prelude.{◌+◌, ◌<◌, ◌≡◌, ◌∙◌, List, ℕ, ap, arith, get_or-drop, length, length-drop, refl, slice_index, sym, true, false, ◌≤◌, both_ways, le_refl, rest_is, rest_of}
+use Rattle.py_lines.proofs.Prelude.{subst, ◌+◌, ◌<◌, ◌≡◌, ◌∙◌, List, ℕ, ap, arith, get_or-drop, length, length-drop, refl, slice_index, sym, true, false, ◌≤◌, both_ways, le_refl, rest_is, rest_of}
 use Rattle.py_lines.specs.Private.Run.{is_line_byte}
 use Rattle.py_lines.proofs.PassedPieces.FirstBytes.{first_later}
 use Rattle.py_lines.proofs.PassedPieces.Reads.{TextItem, escape_item, reads_on, string_at, string_passed, text_begun, text_item}
@@ -32,10 +32,10 @@ item c =
     elim c.if-this-lt2.branch [
       | in-92 w ↦
           let next = ap (λ xs. slice_index xs 1) (rest_is bytes end) ∙ get_or-drop end bytes 1 0 in
-          rw w.marks-is (escape_item q c.requires.quote.quote (w.pass.ensures (end + 1) marked (omega arith)) (sym first ∙ grind arith)
+          subst (TextItem q bytes end) (sym w.marks-is) (escape_item q c.requires.quote.quote (w.pass.ensures (end + 1) marked (omega arith)) (sym first ∙ grind arith)
           (omega (arith, w.in-92.len_at_least, rest)) (ap is_line_byte (sym next) ∙ sym w.is_line_byte.ensures ∙ w.if-is_line_byte.true))
       | in-len1-up-2 w ↦
-          rw w.marks-is (text_item q c.requires.quote.quote within marked (λ same. c.if-b-quote.false (first ∙ same))
+          subst (TextItem q bytes end) (sym w.marks-is) (text_item q c.requires.quote.quote within marked (λ same. c.if-b-quote.false (first ∙ same))
           (λ same. w.if-b-ne92.true (first ∙ same))
           (ap is_line_byte (sym first) ∙ sym w.is_line_byte-then-b-ne92.ensures ∙ w.if-is_line_byte-2.true))
     ]

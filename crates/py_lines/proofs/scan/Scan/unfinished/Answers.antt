@@ -26,7 +26,7 @@ returns-in-Fields-default-Specification-default c = let a = c.in-Fields-default-
     specification_left c.args.self.now c.args.bytes.now c.requires.pending a.field-0 a.field-2 (fields_mode a.is (rw a.is at a.field-1-is) refl) _ c.last_place.ensures refl
 
 plain : (c : In-Fields-default-Literal-false) → c.in-Fields-default-Literal-false.field-2 ≡ false
-plain c = cc
+plain c = grind arith
 
 pub returns-then-len-lt-MAX_DEPTH : goal.returns-then-len-lt-MAX_DEPTH
 returns-then-len-lt-MAX_DEPTH c = let a = c.in-Fields-default-Literal-false in let few = c.if-len-lt-MAX_DEPTH.true in
@@ -41,7 +41,7 @@ returns-else-len-lt-MAX_DEPTH c = let a = c.in-Fields-default-Literal-false in l
 -- no field opens in it
 text_mode : (c : In-Fields) → lone_of c.args.bytes.now ≡ c.if-bytes-eq1.lone → IsStringOf c.in-Fields.host.is_long (lone_of c.args.bytes.now) c.args.self.now.mode
 text_mode c byte =
-    let is : c.args.self.now.mode ≡ opens.Fields c.in-Fields.host regions.Literal c.in-Fields.field-2 = fields_mode c.in-Fields.is (cc) refl in
+    let is : c.args.self.now.mode ≡ opens.Fields c.in-Fields.host regions.Literal c.in-Fields.field-2 = fields_mode c.in-Fields.is (grind arith) refl in
     rw is (refl, λ plain brace. let own : c.if-bytes-eq1.lone ≡ 123 = sym byte ∙ brace in grind arith)
 
 pub returns-in-Fields : goal.returns-in-Fields
