@@ -75,7 +75,7 @@
 -- none in what closes all that is open. So the text is live with fields exactly if it is live without. Nothing that is open in it is a string with
 -- fields, so its fault is the same, and its lexing.
 --
--- proofs/Prelude has what the files use of the standard library, and of the definitions what most of them use, and each names in one line
+-- proofs/Prelude has what the files use of the standard library, and of the definitions what many of them use, and each names in one line
 -- what it needs of it. proofs/Text has characters, the bytes that spell them, and vectors of bytes (Lanes). Files named WorkedRows are rows
 -- worked out by hand, which are proved of the definitions.
 pub mod Prelude

@@ -34,7 +34,7 @@ pub use Rattle.std.specs.Str.{all_scalars, byte, chars, is_utf8, IsCharBoundary,
 pub use Rattle.std.specs.Str.Lossy.{error_len_after_one, error_len_after_two, error_len_of_some, second_byte_max, second_byte_min}
 unfoldable pub use Rattle.std.specs.Str.Lossy.{utf8_error_len}
 pub use Rattle.std.specs.Vec.{vec_len}
--- What most of them use of the definitions.
+-- What many of them use of the definitions.
 pub use Rattle.py_lines.specs.Balance.{IsBalanced, closing_of, depth_after, depth_through}
 unfoldable pub use Rattle.py_lines.specs.Balance.{is_closing, is_opening}
 unfoldable pub use Rattle.py_lines.specs.Character.{is_backslash, is_brace, is_break, is_hash, is_line_feed, is_mark, is_operator, is_quote, is_return, is_space, is_word_character}
