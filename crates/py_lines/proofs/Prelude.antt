@@ -54,6 +54,7 @@ pub use Rattle.py_lines.specs.declared.scan.LineFault.{LineFault}
 pub use Rattle.py_lines.specs.declared.scan.Progress.{Progress}
 pub use Rattle.py_lines.specs.declared.scan.Scan.{Scan}
 pub use Rattle.py_lines.specs.declared.token.Token.{Token}
+pub use Rattle.py_lines.specs.declared.token.TokKind.{TokKind}
 pub use Rattle.py_lines.specs.FieldStrings.{Host, Place, literal, specification}
 pub use Rattle.py_lines.specs.Fields.{AreReadBefore, InClass, IsShallow, MayPrecede}
 pub use Rattle.py_lines.specs.Private.Run.{BeginsWith}

@@ -1,10 +1,10 @@
 //! The tokens of a whole logical line, which are read from its text alone.
 
-ghost use Rattle.std.specs.Prelude.{◌≡◌, ◌+◌, ◌<◌, ◌^◌, false, true, drop, length, slice_index, take, IfOk, MatchOption, OnOk};
+ghost use Rattle.std.specs.Prelude.{◌≡◌, ◌+◌, ◌<◌, ◌^◌, false, true, Some, drop, length, slice_index, take, IfOk, MatchOption, OnOk};
 ghost use Rattle.py_lines.specs.Private.LineTokens.{AddsPiece, BeginWithPiece, IsFirstPiece, IsRunOf, Piece};
 ghost use Rattle.py_lines.specs.Private.LineTokens.{ReadsAnyway, ReadsPiece, StaysUnread, begins, is_ascii_digit, is_field_spelling, is_of_class};
 ghost use Rattle.py_lines.specs.Private.LineTokens.{is_prefix_word, is_quote, is_space, is_wide_word, line_end_len, mark_len, string, string_piece};
-ghost use Rattle.py_lines.specs.Private.LineTokens.{token_of, token_piece, word_kind, word_spelling};
+ghost use Rattle.py_lines.specs.Private.LineTokens.{token_piece, word_kind, word_spelling};
 
 use crate::character::{is_quote, is_space};
 use crate::class::Class;
@@ -103,7 +103,7 @@ pub fn add_token(
     line: u64,
 ) -> Result<(), AllocError>
     requires { start + len < 2 ^ 64 }
-    ensures { OnOk result (AddsPiece tokens.old.items (token_of kind) start (start + len) line tokens.new.items) }
+    ensures { OnOk result (AddsPiece tokens.old.items (Some kind) start (start + len) line tokens.new.items) }
 {
     tokens.push(Token {
         kind,

@@ -1,11 +1,11 @@
 -- Pieces that are the same wherever after them a line ends, and how they are read one after another.
 use mir.Val.{bool_byte}
-use Rattle.py_lines.proofs.Prelude.{◌≡◌, ℕ, Option, Some, ◌+◌, ◌-◌, ◌<◌, ◌≤◌, Bool, true, false, zero, suc, List, [], ◌∷◌, length, take, drop, slice_index, refl, sym, ap, ◌∙◌, subst, arith, length-drop, add-zero, MatchOption, ◌&&◌, if◌then◌else◌, nat_eq, nat_lt, starts_with, is_ascii_digit, both_ways, lt-ltb, ne_eqb, or_left, drop-take, get_or-take, length-take-le, is_line_feed, is_quote, is_space, Piece, begins, operator, Token, rest_is, rest_of, is_of_class}
+use Rattle.py_lines.proofs.Prelude.{◌≡◌, ℕ, ◌+◌, ◌-◌, ◌<◌, ◌≤◌, Bool, true, false, zero, suc, Option, None, Some, List, [], ◌∷◌, length, take, drop, slice_index, refl, sym, ap, ◌∙◌, subst, arith, length-drop, add-zero, MatchOption, ◌&&◌, if◌then◌else◌, nat_eq, nat_lt, starts_with, is_ascii_digit, both_ways, lt-ltb, ne_eqb, or_left, drop-take, get_or-take, length-take-le, is_line_feed, is_quote, is_space, Piece, begins, operator, Token, rest_is, rest_of, is_of_class}
 use Rattle.py_lines.specs.LogicalLine.{end_len_of}
 use Rattle.py_lines.specs.declared.class.Class.{Class as ByteClass}
 use Rattle.py_lines.specs.declared.class.Class.TheVariants as class
 use Rattle.py_lines.specs.declared.token.TokKind.TheVariants as kind
-use Rattle.py_lines.specs.Private.LineTokens.{AreLineOf, BeginWithPiece, HaveReadAnyway, HoldsTokens, IsFirstAnyway, IsFirstPiece, IsLineAfter, IsTakenFor, ReadsAnyway, ReadsPiece, Role, StaysUnread, line_end_len, mark_bytes, mark_len, token_piece, word_kind}
+use Rattle.py_lines.specs.Private.LineTokens.{AreLineOf, BeginWithPiece, HaveReadAnyway, HoldsTokens, IsFirstAnyway, IsFirstPiece, IsLineAfter, IsTakenFor, ReadsAnyway, ReadsPiece, StaysUnread, line_end_len, mark_bytes, mark_len, token_piece, word_kind}
 use Rattle.py_lines.specs.Private.Run.{IsRunOf, is_ascii_word, is_comment_byte, is_wide_word}
 use Rattle.py_lines.proofs.Text.CharacterTests.{the_one}
 use Rattle.py_lines.proofs.LineTokens.FirstCharacters.{OfByte, class_told}
@@ -52,7 +52,7 @@ operator_anyway bytes k is of n fits within p b =
     subst (λ c. IsTakenFor p (token_piece (kind.Op c) 1 0)) (first_same bytes n within some) (operator_taken b (of p (class_there bytes n within k p some is b)))
 
 pub space_anyway : (bytes : List ℕ) (len : ℕ) → is_space (slice_index bytes 0) ≡ true → IsRunOf is_space bytes len → 0 < len
-    → IsFirstAnyway bytes (record { role = Role.none; len = len; line_ends = 0 })
+    → IsFirstAnyway bytes (record { role = None; len = len; line_ends = 0 })
 space_anyway bytes len is run some n fits within p b =
     space_taken b len (class_there bytes n within class.Space p (omega (arith, some, fits)) is b) (run_same bytes n within is_space len fits run)
 
@@ -60,12 +60,12 @@ feed_len : (bytes : List ℕ) → slice_index bytes 0 ≡ 10 → line_end_len by
 feed_len [] is = refl
 feed_len (b ∷ bs) is = rw is refl
 
-pub feed_anyway : (bytes : List ℕ) → is_line_feed (slice_index bytes 0) ≡ true → IsFirstAnyway bytes (record { role = Role.none; len = 1; line_ends = 1 })
+pub feed_anyway : (bytes : List ℕ) → is_line_feed (slice_index bytes 0) ≡ true → IsFirstAnyway bytes (record { role = None; len = 1; line_ends = 1 })
 unfolding is_line_feed
 feed_anyway bytes is n fits within p b =
     let some : 0 < n = omega (arith, fits) in
     let len = feed_len (take n bytes) (first_same bytes n within some ∙ the_one 10 (slice_index bytes 0) is) in
-    subst (λ k. IsTakenFor p (record { role = Role.none; len = k; line_ends = 1 })) len
+    subst (λ k. IsTakenFor p (record { role = None; len = k; line_ends = 1 })) len
     (line_end_taken b (class_there bytes n within class.LineFeed p some is b))
 
 pub comment_anyway : (bytes : List ℕ) (len : ℕ) → is_of_class class.Hash (slice_index bytes 0) ≡ true → IsRunOf is_comment_byte (rest_of bytes 1) len

@@ -1,5 +1,5 @@
 -- The piece that bytes begin with, where it is no string, as its line takes it: how long it is, and what tells a word from a prefix.
-use Rattle.py_lines.proofs.Prelude.{◌≡◌, ℕ, zero, suc, ◌≤◌, Bool, true, false, List, [], ◌∷◌, ◌++◌, length, refl, ap, ◌∙◌, arith, min, zero-add, ⊎_elim, ◌+◌, ◌<◌, ◌⊎◌, inl, inr, ◌&&◌, drop, slice_index, sym, subst, take, append_assoc, encode_utf8_all, not, codes, nat_le, list_all, list_any, is_ascii_digit, and_from, and_parts, both_ways, cases_lt, or_parts, or_cases, get_or-take, length-take, encode, nat_tests, encodes-append, take-append_seam, drop-append_seam, drop-cons, rest_is, rest_of}
+use Rattle.py_lines.proofs.Prelude.{◌≡◌, ℕ, zero, suc, ◌≤◌, Bool, true, false, Option, None, Some, List, [], ◌∷◌, ◌++◌, length, refl, ap, ◌∙◌, arith, min, zero-add, ⊎_elim, ◌+◌, ◌<◌, ◌⊎◌, inl, inr, ◌&&◌, drop, slice_index, sym, subst, take, append_assoc, encode_utf8_all, not, codes, nat_le, list_all, list_any, is_ascii_digit, and_from, and_parts, both_ways, cases_lt, or_parts, or_cases, get_or-take, length-take, encode, nat_tests, encodes-append, take-append_seam, drop-append_seam, drop-cons, rest_is, rest_of, TokKind}
 use Rattle.py_lines.specs.Piece.{begins, Class, space, operator, comment, join, line_end, Piece, ends, spelled, word, string}
 use Rattle.py_lines.specs.Character.{is_break, is_line_feed, is_return, is_space, is_digit, is_quote, is_word_character, is_word_start}
 use Rattle.py_lines.specs.PieceGrammar.{IsLineEnd, feed, return_feed, return}
@@ -7,9 +7,8 @@ use Rattle.py_lines.specs.Fields.{InClass, MayPrecede, fielded}
 use Rattle.py_lines.specs.LogicalLine.{byte_len, first_or_zero, line_ends}
 use Rattle.py_lines.specs.declared.token.TokKind.TheVariants as kind
 use Rattle.py_lines.specs.declared.class.Class.TheVariants as class
-use Rattle.py_lines.specs.declared.token.TokKind.{TokKind}
 use Rattle.py_lines.specs.Private.Run.{IsRunOf, is_comment_byte, is_ascii_word, is_wide_word, word_spelling}
-use Rattle.py_lines.specs.Private.LineTokens.{BeginWithPiece, IsTakenFor, Role, line_end_len, role_of, word_kind}
+use Rattle.py_lines.specs.Private.LineTokens.{BeginWithPiece, IsTakenFor, line_end_len, role_of, word_kind}
 use Rattle.py_lines.specs.Private.Machine.{begins_string}
 use Rattle.py_lines.proofs.Text.CharacterTests.{feed_is, operator_ascii, none_of}
 use Rattle.py_lines.proofs.Text.HighBytes.{IsEvenAbove, encoded_begins, encoded_passes, low_even}
@@ -87,7 +86,7 @@ module _ {bytes : List ℕ} {p : Piece} (b : BeginWithPiece bytes p) where
   pub precedes : (class : Class) → p.class ≡ class → MayPrecede class p.text (spelled b.others ++ b.text.after)
   precedes class is = subst (λ (k : Class). MayPrecede k p.text (spelled b.others ++ b.text.after)) is b.text.fit.1
 
-  pub taken : (class : Class) {role : Role} {len ends : ℕ} → p.class ≡ class → role ≡ role_of class p.text → len ≡ byte_len p.text
+  pub taken : (class : Class) {role : Option TokKind} {len ends : ℕ} → p.class ≡ class → role ≡ role_of class p.text → len ≡ byte_len p.text
       → ends ≡ line_ends p.text → IsTakenFor p (record { role = role; len = len; line_ends = ends })
   taken class is role len ends =
       let role_is = role ∙ ap (λ (k : Class). role_of k p.text) (sym is) in λ i. record { role = role_is i; len = len i; line_ends = ends i }
@@ -107,7 +106,7 @@ module _ {bytes : List ℕ} {p : Piece} (b : BeginWithPiece bytes p) where
   space_unbroken is =
       unbroken p.text (all_other p.text (none_in is_space is_break (λ d. none_of is_space (10 ∷ 13 ∷ []) d refl) p.text (in_class space is).3))
 
-  pub space_taken : (n : ℕ) → p.class ≡ space → IsRunOf is_space bytes n → IsTakenFor p (record { role = Role.none; len = n; line_ends = 0 })
+  pub space_taken : (n : ℕ) → p.class ≡ space → IsRunOf is_space bytes n → IsTakenFor p (record { role = None; len = n; line_ends = 0 })
   space_taken n is run = taken space is refl (spaces n is run) (space_unbroken is)
 
   -- the bytes after the first, which is ASCII
@@ -120,11 +119,11 @@ module _ {bytes : List ℕ} {p : Piece} (b : BeginWithPiece bytes p) where
       let whole : byte_len p.text ≡ length (c ∷ encode_utf8_all cs) = ap byte_len is ∙ ap (λ t. length (t ++ encode_utf8_all cs)) (one c low) in
       omega (arith, whole, same)
 
-  pub operator_taken : p.class ≡ operator → IsTakenFor p (record { role = Role.token_of (kind.Op (slice_index bytes 0)); len = 1; line_ends = 0 })
+  pub operator_taken : p.class ≡ operator → IsTakenFor p (record { role = Some (kind.Op (slice_index bytes 0)); len = 1; line_ends = 0 })
   operator_taken is =
       let shape = in_class operator is in let c : ℕ = shape.0 in
       let low = operator_ascii c shape.2 in
-      taken operator is (ap (λ d. Role.token_of (kind.Op d)) (ap (λ t. slice_index t 0) (after_first c [] shape.1 low) ∙ ap first_or_zero (sym shape.1)))
+      taken operator is (ap (λ d. Some (kind.Op d)) (ap (λ t. slice_index t 0) (after_first c [] shape.1 low) ∙ ap first_or_zero (sym shape.1)))
       (longer c [] 0 shape.1 low refl) (unbroken p.text (ap (list_all is_comment_byte) shape.1 ∙ and_from _ true (ap not (operator-no_break c shape.2)) refl))
 
   comment_ends : (text after : List ℕ) → (text ++ after ≡ []) ⊎ (begins is_break (text ++ after) ≡ true) → begins is_comment_byte text ≡ false
@@ -133,7 +132,7 @@ module _ {bytes : List ℕ} {p : Piece} (b : BeginWithPiece bytes p) where
   comment_ends (c ∷ cs) after (inr breaks) = ap not breaks
 
   pub comment_taken : (n : ℕ) → p.class ≡ comment → IsRunOf is_comment_byte (rest_of bytes 1) n
-      → IsTakenFor p (record { role = Role.token_of kind.Remark; len = 1 + n; line_ends = 0 })
+      → IsTakenFor p (record { role = Some kind.Remark; len = 1 + n; line_ends = 0 })
   unfolding is_break
   comment_taken n is run =
       let shape = in_class comment is in let body : List ℕ = shape.1 in
@@ -143,7 +142,7 @@ module _ {bytes : List ℕ} {p : Piece} (b : BeginWithPiece bytes p) where
       (all_other body shape.4) (comment_ends rest b.text.after (precedes comment is))))
       (unbroken p.text (ap (list_all is_comment_byte) text ∙ all_other body shape.4))
 
-  pub line_end_taken : p.class ≡ line_end → IsTakenFor p (record { role = Role.none; len = line_end_len bytes; line_ends = 1 })
+  pub line_end_taken : p.class ≡ line_end → IsTakenFor p (record { role = None; len = line_end_len bytes; line_ends = 1 })
   line_end_taken is =
       taken line_end is refl (ap line_end_len (spelled_bytes bytes p b) ∙ end_len p.text rest b.text.after (in_class line_end is) (precedes line_end is))
       (one_end p.text (in_class line_end is))
@@ -161,7 +160,7 @@ module _ {bytes : List ℕ} {p : Piece} (b : BeginWithPiece bytes p) where
       let text : p.text ≡ 92 ∷ shape.1 = shape.2 ∙ ap (λ (c : ℕ). c ∷ shape.1) (slash_only shape.0 shape.3) in
       record { end = shape.1; text = text; is = shape.4; later = rest_is bytes 1 ∙ ap (drop 1) (after_first 92 shape.1 text (omega arith)) }
 
-  pub join_taken : p.class ≡ join → IsTakenFor p (record { role = Role.none; len = 1 + line_end_len (rest_of bytes 1); line_ends = 1 })
+  pub join_taken : p.class ≡ join → IsTakenFor p (record { role = None; len = 1 + line_end_len (rest_of bytes 1); line_ends = 1 })
   unfolding is_line_feed is_return
   join_taken is =
       let j = joined is in
@@ -285,7 +284,7 @@ module _ {bytes : List ℕ} {p : Piece} (b : BeginWithPiece bytes p) where
   is_string n wide run told = ⊎_elim (λ is. absurd (word_no_prefix n is run told)) (λ is. is) (word_or_string wide)
 
   pub word_taken : (n : ℕ) (k : TokKind) → begins is_wide_word bytes ≡ true → IsRunOf is_wide_word bytes n → (EndsPrefix bytes n → ⊥)
-      → k ≡ word_kind (is_ascii_digit (slice_index bytes 0)) → IsTakenFor p (record { role = Role.token_of k; len = n; line_ends = 0 })
+      → k ≡ word_kind (is_ascii_digit (slice_index bytes 0)) → IsTakenFor p (record { role = Some k; len = n; line_ends = 0 })
   word_taken n k wide run other told =
       let is = ⊎_elim (λ is. is) (λ is. absurd (other (string_prefix n is wide run))) (word_or_string wide) in
       let shape = in_class b word is in let f = first_of bytes p b in
@@ -293,5 +292,5 @@ module _ {bytes : List ℕ} {p : Piece} (b : BeginWithPiece bytes p) where
       let digit : is_ascii_digit (slice_index bytes 0) ≡ begins is_digit p.text
       = digit_told (slice_index bytes 0) shape.0 (λ low. sym first ∙ f.low low) (λ high. subst (λ c. 128 ≤ c) first (f.high high))
       ∙ ap (begins is_digit) (sym shape.2) in
-      taken b word is (ap Role.token_of (told ∙ ap word_kind digit)) (word_len n is run)
+      taken b word is (ap Some (told ∙ ap word_kind digit)) (word_len n is run)
       (unbroken p.text (all_other p.text (word-unbroken p.text (in_class b word is))))

@@ -1,9 +1,8 @@
 -- The tokens of pieces lie in the text that the pieces spell.
-use Rattle.py_lines.proofs.Prelude.{◌≡◌, ℕ, ◌+◌, ◌<◌, zero, suc, true, List, [], ◌∷◌, ◌++◌, length, get_or, refl, subst, append_assoc, arith, encode_utf8_all, all_scalars, IsCharBoundary, slice_get-get_or, same_Some, encodes-append, IsCharBoundary-at_seam, Token, byte_len-append}
+use Rattle.py_lines.proofs.Prelude.{◌≡◌, ℕ, ◌+◌, ◌<◌, zero, suc, true, List, [], ◌∷◌, ◌++◌, length, get_or, refl, subst, append_assoc, arith, encode_utf8_all, all_scalars, IsCharBoundary, slice_get-get_or, same_Some, encodes-append, IsCharBoundary-at_seam, Token, TokKind, byte_len-append}
 use Rattle.py_lines.specs.Piece.{Class, mark, space, join, line_end, Piece, spelled}
 use Rattle.py_lines.specs.LogicalLine.{byte_len, line_ends, tokens_of_piece, tokens_from}
 use Rattle.py_lines.specs.Token.{EachLiesIn, LiesIn}
-use Rattle.py_lines.specs.declared.token.TokKind.{TokKind}
 use Rattle.py_lines.proofs.Text.Utf8Prefixes.{all_scalars-parts}
 
 -- a token at a place of the list lies in the text

@@ -1,5 +1,5 @@
 -- The tokens of a whole logical line, which are read from its text alone.
-use Rattle.std.specs.Prelude.{◌≡◌, ℕ, ◌+◌, Bool, true, false, List, [], ◌∷◌, ◌++◌, if◌then◌else◌, encode_utf8_all, drop, length, nat_eq, take, ◌<◌, ◌≤◌}
+use Rattle.std.specs.Prelude.{◌≡◌, ℕ, ◌+◌, Bool, true, false, Option, None, Some, List, [], ◌∷◌, ◌++◌, if◌then◌else◌, encode_utf8_all, drop, length, nat_eq, take, ◌<◌, ◌≤◌}
 use Rattle.std.specs.List.{starts_with}
 use Rattle.std.specs.Str.{all_scalars}
 use Rattle.py_lines.specs.Character.{is_digit}
@@ -43,27 +43,23 @@ pub record BeginWithPiece (bytes : List ℕ) (p : Piece) : Type 0 where
 abbrev pub word_kind : Bool → TokKind
 word_kind digit = if digit then kind.Number else kind.Name
 
--- what a piece is to its line: a token, or nothing more
-pub data Role : Type 0 where
-  token_of : TokKind → Role
-  none : Role
-
-abbrev pub role_of : Class → List ℕ → Role
-role_of word text = token_of (word_kind (begins is_digit text))
-role_of string text = token_of kind.Str
-role_of operator text = token_of (kind.Op (first_or_zero text))
-role_of comment text = token_of kind.Remark
-role_of other text = none
+-- what a piece is to its line: a token of this kind, or nothing more
+abbrev pub role_of : Class → List ℕ → Option TokKind
+role_of word text = Some (word_kind (begins is_digit text))
+role_of string text = Some kind.Str
+role_of operator text = Some (kind.Op (first_or_zero text))
+role_of comment text = Some kind.Remark
+role_of other text = None
 
 -- the first piece of bytes: what it is to its line, how many bytes it has, and how many line ends it holds
 pub record FirstPiece : Type 0 where
-  pub role : Role
+  pub role : Option TokKind
   pub len : ℕ
   pub line_ends : ℕ
 
 -- so for a token, and for a string
 abbrev pub token_piece : TokKind → ℕ → ℕ → FirstPiece
-token_piece kind len line_ends = record { role = token_of kind; len = len; line_ends = line_ends }
+token_piece kind len line_ends = record { role = Some kind; len = len; line_ends = line_ends }
 
 abbrev pub string_piece : ℕ → ℕ → FirstPiece
 string_piece len line_ends = token_piece kind.Str len line_ends
@@ -109,18 +105,18 @@ abbrev pub IsLineAfter : ℕ → List ℕ → ℕ → ℕ → Type 0
 IsLineAfter line text end_len after = (pieces : List Piece) → AreLineOf text end_len pieces → after ≡ line + line_ends (spelled pieces)
 
 -- the token that a piece is, if it is one
-abbrev pub token_in : Role → ℕ → ℕ → ℕ → List Token
-token_in (token_of k) start stop line = token k start stop line ∷ []
-token_in other start stop line = []
+abbrev pub token_in : Option TokKind → ℕ → ℕ → ℕ → List Token
+token_in (Some k) start stop line = token k start stop line ∷ []
+token_in None start stop line = []
 
 -- the tokens with that of a piece, which stands between these bytes of its line, and on this line of the text
-abbrev pub AddsPiece : List Token → Role → ℕ → ℕ → ℕ → List Token → Type 0
+abbrev pub AddsPiece : List Token → Option TokKind → ℕ → ℕ → ℕ → List Token → Type 0
 AddsPiece old role start stop line new = new ≡ old ++ token_in role start stop line
 
 -- the first piece of these bytes was read, which stands at this byte of its line, and on this line of the text: so many bytes of it, with so
 -- many line ends
 pub record ReadsPiece (bytes : List ℕ) (old : List Token) (start line len line_ends : ℕ) (new : List Token) : Type 0 where
-  pub role : Role
+  pub role : Option TokKind
   pub is : IsFirstPiece bytes (record { role = role; len = len; line_ends = line_ends })
   pub adds : AddsPiece old role start (start + len) line new
 
@@ -133,7 +129,7 @@ pub record ReadsAnyway (bytes : List ℕ) (old : List Token) (start line len lin
   pub some : 0 < len
   pub within : len ≤ length bytes
   pub few : line_ends ≤ len
-  pub role : Role
+  pub role : Option TokKind
   pub is : IsFirstAnyway bytes (record { role = role; len = len; line_ends = line_ends })
   pub adds : AddsPiece old role start (start + len) line new
 

@@ -1,6 +1,6 @@
-use Rattle.py_lines.proofs.Prelude.{◌≡◌, ◌<◌, ◌≤◌, ◌+◌, ◌∙◌, ℕ, List, ap, arith, drop, length, length-drop, refl, subst, sym, append-nil, false, true, slice_index, ⊎_elim, or_left, is_quote, is_space, Token, rest_is, rest_of, is_of_class}
+use Rattle.py_lines.proofs.Prelude.{◌≡◌, ◌<◌, ◌≤◌, ◌+◌, ◌∙◌, ℕ, Option, List, ap, arith, drop, length, length-drop, refl, subst, sym, append-nil, false, true, slice_index, ⊎_elim, or_left, is_quote, is_space, Token, TokKind, rest_is, rest_of, is_of_class}
 use Rattle.py_lines.specs.declared.class.Class.{Class as ByteClass}
-use Rattle.py_lines.specs.Private.LineTokens.{AddsPiece, IsFirstAnyway, ReadsAnyway, Role, token_piece}
+use Rattle.py_lines.specs.Private.LineTokens.{AddsPiece, IsFirstAnyway, ReadsAnyway, token_piece}
 use Rattle.py_lines.specs.Private.Run.{is_wide_word}
 use Rattle.py_lines.proofs.PassedPieces.FirstBytes.{first_later}
 use Rattle.py_lines.proofs.LineTokens.FirstCharacters.{OfByte}
@@ -17,7 +17,7 @@ told : (bytes : List ℕ) (start : ℕ) {j k : ByteClass} → is_of_class j (sli
 told bytes start {j} class is = (λ i. is_of_class (sym is i) ((ap (λ l. slice_index l 0) (rest_is bytes start) ∙ first_later bytes start) i)) ∙ class
 
 -- so it was read, as a slice has the bytes
-read : (bytes : List ℕ) (start : ℕ) {old new : List Token} {line len ends : ℕ} {role : Role} → 0 < len → len ≤ length (rest_of bytes start) → ends ≤ len
+read : (bytes : List ℕ) (start : ℕ) {old new : List Token} {line len ends : ℕ} {role : Option TokKind} → 0 < len → len ≤ length (rest_of bytes start) → ends ≤ len
     → IsFirstAnyway (rest_of bytes start) (record { role = role; len = len; line_ends = ends }) → AddsPiece old role start (start + len) line new
     → ReadsAnyway (drop start bytes) old start line len ends new
 read bytes start {old} {new} {line} {len} {ends} some within few is adds =

@@ -1,9 +1,9 @@
 use Rattle.std.proofs.lemmas.Grind.{common_steps}
-use Rattle.py_lines.proofs.Prelude.{◌≡◌, ◌+◌, ◌∙◌, ℕ, List, true, false, ap, append-nil, arith, drop, le_refl, length, length-drop, refl, slice_index, subst, sym, ⊎_elim, MatchOption, nat_le, both_ways, or_left, or_right, take_all, Piece, Token, nat_tests, rest_is, rest_of, is_of_class}
+use Rattle.py_lines.proofs.Prelude.{◌≡◌, ◌+◌, ◌∙◌, ℕ, None, Some, List, true, false, ap, append-nil, arith, drop, le_refl, length, length-drop, refl, slice_index, subst, sym, ⊎_elim, MatchOption, nat_le, both_ways, or_left, or_right, take_all, Piece, Token, nat_tests, rest_is, rest_of, is_of_class}
 use Rattle.py_lines.specs.declared.class.Class.{Class as ByteClass}
 use Rattle.py_lines.specs.declared.class.Class.TheVariants as class
 use Rattle.py_lines.specs.declared.token.TokKind.TheVariants as kind
-use Rattle.py_lines.specs.Private.LineTokens.{AddsPiece, BeginWithPiece, IsFirstPiece, ReadsAnyway, ReadsPiece, Role, StaysUnread, is_simple}
+use Rattle.py_lines.specs.Private.LineTokens.{AddsPiece, BeginWithPiece, IsFirstPiece, ReadsAnyway, ReadsPiece, StaysUnread, is_simple}
 use Rattle.py_lines.specs.Private.Run.{is_ascii_word, is_wide_word}
 use Rattle.py_lines.proofs.LineTokens.Anyway.{begins_from, piece_read}
 use Rattle.py_lines.proofs.LineTokens.FirstCharacters.{class_is, class_told, some_bytes}
@@ -83,7 +83,7 @@ pub returns-in-Backslash : goal.returns-in-Backslash
 returns-in-Backslash c =
     let (text, start) : _ × _ = (c.args.text.now, c.args.start) in
     subst (λ l. ReadsPiece l c.args.tokens.now.items start c.args.line (1 + c.line_end_len.result) 1 c.read_anyway.new.tokens.items) (rest_is text start) (record {
-      role = Role.none;
+      role = None;
       is = λ p b. rw c.line_end_len.ensures (join_taken b (class_is b c.of-class.ensures c.in-Backslash.is));
       adds = (unread (goal.at.returns-in-Backslash c).In_default).1 ∙ sym (append-nil _);
     })
@@ -92,7 +92,7 @@ pub returns-in-Return : goal.returns-in-Return
 returns-in-Return c =
     let (text, start) : _ × _ = (c.args.text.now, c.args.start) in
     subst (λ l. ReadsPiece l c.args.tokens.now.items start c.args.line c.line_end_len-in-Return.result 1 c.read_anyway.new.tokens.items) (rest_is text start) (record {
-      role = Role.none;
+      role = None;
       is = λ p b. rw c.line_end_len-in-Return.ensures (line_end_taken b (class_is b c.of-class.ensures c.in-Return.is));
       adds = (unread (goal.at.returns-in-Return c).In_default).1 ∙ sym (append-nil _);
     })
@@ -102,9 +102,9 @@ returns-in_ok-add_token-in-Word c =
     let (text, start) : _ × _ = (c.args.text.now, c.args.start) in
     let k = c.word_or_string-kind.result in
     subst (λ l. ReadsPiece l c.args.tokens.now.items start c.args.line k.1 k.2 c.add_token.new.tokens.items) (rest_is text start) (record {
-      role = Role.token_of k.0;
+      role = Some k.0;
       is = c.word_or_string-kind.ensures;
-      adds = subst (λ (t : List Token). AddsPiece t (Role.token_of k.0) start (start + k.1) c.args.line c.add_token.new.tokens.items)
+      adds = subst (λ (t : List Token). AddsPiece t (Some k.0) start (start + k.1) c.args.line c.add_token.new.tokens.items)
           (unread (goal.at.returns-in_ok-add_token-in-Word c).In_default).1 c.in_ok-add_token-in-Word.ensures;
     })
 
@@ -113,9 +113,9 @@ returns-in_ok-add_token-in-Quote c =
     let (text, start) : _ × _ = (c.args.text.now, c.args.start) in
     let r = c.string_len-len.result in
     subst (λ l. ReadsPiece l c.args.tokens.now.items start c.args.line r.0 r.1 c.add_token-in-Quote.new.tokens.items) (rest_is text start) (record {
-      role = Role.token_of kind.Str;
+      role = Some kind.Str;
       is = c.string_len-len.ensures;
-      adds = subst (λ (t : List Token). AddsPiece t (Role.token_of kind.Str) start (start + r.0) c.args.line c.add_token-in-Quote.new.tokens.items)
+      adds = subst (λ (t : List Token). AddsPiece t (Some kind.Str) start (start + r.0) c.args.line c.add_token-in-Quote.new.tokens.items)
           (unread (goal.at.returns-in_ok-add_token-in-Quote c).In_default).1 c.in_ok-add_token-in-Quote.ensures;
     })
 
