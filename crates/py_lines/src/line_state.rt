@@ -119,8 +119,6 @@ impl LineState {
             let (piece, line_ends) = read_piece(tokens, scan, text, start, line_here)?;
             line_here += line_ends;
             start += piece;
-            // Mostly no space follows, or one.
-            start += text[start..].starts_with(b" ") as usize;
         }
         Ok(line_here + (end_len > 0) as u64)
     }

@@ -158,12 +158,6 @@ module _ {text : List ℕ} {pieces : List Piece} {first start line : ℕ} {t : L
       let is = f.begun.is ∙ ap (λ c. c ∷ f.begun.others) (f.low (omega (arith, at)) ∙ at) in
       less_space f.begun.others qs (subst (λ q. HaveReadOf text pieces (q ∷ qs) first start line t) (λ i. record { class = spaces i; text = is i }) h)
 
--- which lies within the text
-pub byte_within : (text : List ℕ) (start : ℕ) (is : Bool) → start ≤ length text → (is ≡ true → 1 ≤ length (rest_of text start))
-    → start + bool_byte is ≤ length text
-byte_within text start false less some = omega (arith, less)
-byte_within text start true less some = omega (arith, some refl, ap length (rest_is text start), length-drop start text)
-
 -- the line end of pieces is among their bytes
 pub end_within : (ps : List Piece) → end_len_of ps ≤ byte_len (spelled ps)
 end_within [] = omega arith

@@ -2,7 +2,7 @@ use mir.Val.{bool_byte}
 use Rattle.py_lines.proofs.Prelude.{List, ◌≡◌, ◌+◌, ◌<◌, ◌≤◌, ◌∙◌, ap, arith, length, rules, subst, sym, nat_lt, Piece, spelled, line_ends, rest_is, nat_tests}
 use Rattle.py_lines.specs.Private.LineTokens.{AreLineOf, BeginWithPiece, HaveRead, ReadsPiece}
 use Rattle.py_lines.proofs.LineScan.LineCount.{line_ends-bytes}
-use Rattle.py_lines.proofs.LineTokens.Lines.{IsReadNext, IsWholeRead, before_end, begun, byte_within, end_within, has_next, past_byte, read_next, whole_read}
+use Rattle.py_lines.proofs.LineTokens.Lines.{IsReadNext, IsWholeRead, before_end, begun, end_within, has_next, read_next, whole_read}
 use Rattle.py_lines.proofs.line_state.LineState.read_line.Goals as goal
 use Rattle.py_lines.proofs.line_state.LineState.read_line.Goals.{After-pieces, In_ok-piece}
 
@@ -41,25 +41,11 @@ pub overflow_add-start : goal.overflow_add-start
 overflow_add-start c =
     let bound : c.pieces.start + c.in_ok-piece.piece < 18446744073709551616 = omega (arith, room c, c.requires.lines) in search (rules, bound)
 
-pub slice_bounds-starts_with-count : goal.slice_bounds-starts_with-count
-slice_bounds-starts_with-count c = (read c c.requires.text.0 c.requires.text.1).within
-
-pub slice_bounds-starts_with-start : goal.slice_bounds-starts_with-start
-slice_bounds-starts_with-start c = (read c c.requires.text.0 c.requires.text.1).within
-
-pub overflow_add-start-in-pieces : goal.overflow_add-start-in-pieces
-overflow_add-start-in-pieces c =
-    let r = read (goal.at.overflow_add-start-in-pieces c).In_ok-piece c.requires.text.0 c.requires.text.1 in
-    let within = byte_within _ _ c.starts_with.result r.within c.starts_with.ensures.bound in
-    let bound : c.pieces.start + c.in_ok-piece.piece + bool_byte c.starts_with.result < 18446744073709551616
-    = omega (arith, within, c.requires.lines) in
-    search (rules, bound)
-
 pub pieces-smaller : goal.pieces-smaller
 pieces-smaller c = omega (arith, room (goal.at.pieces-smaller c).In_ok-piece, c.pieces-test.true)
 
 pub pieces-preserved : goal.pieces-preserved
-pieces-preserved c = λ ps is. past_byte _ c.starts_with.result (read (goal.at.pieces-preserved c).In_ok-piece ps is).more c.starts_with.ensures.value
+pieces-preserved c = λ ps is. let r = read (goal.at.pieces-preserved c).In_ok-piece ps is in (r.left, r.more)
 
 -- all was read but the line end
 whole : (c : After-pieces) → (ps : List Piece) → AreLineOf c.args.text.now c.args.end_len ps

@@ -110,3 +110,9 @@ pass-requires-in-Backslash-clause-base c = grind (arith, nat_tests)
 
 pub pass-requires-clause-base : goal.pass-requires-clause-base
 pass-requires-clause-base c = grind (arith, nat_tests)
+
+pub pass_string-passed-requires : goal.pass_string-passed-requires
+pass_string-passed-requires c = record { next = c.requires.next; within = c.requires.within; quote = c.in-Quote.ensures; counted = c.requires.counted }
+
+pub pass_comment-passed-requires : goal.pass_comment-passed-requires
+pass_comment-passed-requires c = record { next = c.requires.next; within = c.requires.within; hash = c.in-Hash.ensures }
