@@ -1,8 +1,22 @@
 //! The scanner inside a `Scanner`: the text that it holds, and the scan of the line that this text begins with.
 
+ghost use Rattle.std.specs.Prelude.{◌≡◌, ◌<◌, false, IsTrue, length};
+ghost use Rattle.py_lines.specs.ScannerState.{LacksBoth};
+
 use crate::fault::{FaultKind, LexError};
+use crate::line_ends::line_ends;
 use crate::line_state::LineState;
 use crate::scan::{LineFault, Stop};
+use memchr::memmem;
+
+/// Whether neither word stands in these bytes.
+fn lacks_both(bytes: &[u8], word: &[u8], other: &[u8]) -> bool
+    requires { 0 < length bytes.now }
+    ensures yes { IsTrue result → LacksBoth word.now other.now bytes.now }
+    ensures no { result ≡ false → ¬ (LacksBoth word.now other.now bytes.now) }
+{
+    memmem::find(bytes, word).is_none() && memmem::find(bytes, other).is_none()
+}
 
 /// The text since the line that was released last, and how far it was scanned.
 #[derive(Drop)]
@@ -20,25 +34,32 @@ pub struct Feed {
 }
 
 impl Feed {
-    ghost use Rattle.std.specs.Prelude.{◌≡◌, ℕ, ◌+◌, ◌≤◌, ◌^◌, true, None, Option, length, OnOk};
-    ghost use Rattle.py_lines.specs.Private.Feed.{EndsText, HasRoom, HoldsLine, HoldsSo, IsHeldOpen, IsLineAfterHeld, IsReadyAt};
-    ghost use Rattle.py_lines.specs.Private.Feed.{IsSoundFeed, LetsGo, LogicalLine, Meets, ReadsTokens, ScansPiece, StandsAtLine, StopsHeld, Takes};
-    ghost use Rattle.py_lines.specs.Private.Feed.{TakesSimple, TakesSo, scanning_of};
+    ghost use Rattle.std.specs.Prelude.{◌≡◌, ℕ, ◌+◌, ◌≤◌, ◌^◌, None, Option, length, IfSome, OnOk};
+    ghost use Rattle.py_lines.specs.Private.Feed.{HasRoom, HoldsLine, HoldsSo, IsHeldOpen, IsLineAfterHeld, IsReadyAt};
+    ghost use Rattle.py_lines.specs.Private.Feed.{IsSoundFeed, LetsGo, LogicalLine, Meets, ReadsTokens, ScansPiece, StandsBefore, StopsHeld, Takes};
+    ghost use Rattle.py_lines.specs.Private.Feed.{TakesSo, scanning_of};
+    ghost use Rattle.py_lines.specs.ScannerState.{Feeds, FeedsNaming, Finishes};
 
-    /// Whether a line begins where the text was fed up to, or one byte before it, and the text may go on. `false` promises nothing.
-    pub fn stands_at_line(&self) -> bool
-        ensures { result ≡ true → StandsAtLine (scanning_of self.now) }
+    /// How many bytes are held, if a line begins before them or after them, these bytes begin with them, and the text may go on. `None`
+    /// promises nothing.
+    pub fn held_before(&self, bytes: &[u8]) -> Option<usize>
+        ensures { IfSome result (StandsBefore self.now bytes.now) }
     {
-        self.held.len() <= 1 && self.ready.is_none() && !self.ended && self.state.fault.is_none()
+        let held = self.held.as_slice();
+        if held.len() > 1 || self.ready.is_some() || self.ended || self.state.fault.is_some() {
+            return None;
+        }
+        bytes.starts_with(held).then_some(held.len())
     }
 
-    /// Reads the tokens of the line that stands in what is held, if one does. If there is no memory for them, no line is ready: only so
-    /// many bytes stay held, and their scan is begun anew.
-    pub fn read_tokens(&mut self, before: usize) -> Result<(), LexError>
+    /// Reads the tokens of the line that stands in what is held, if one does. If there is no memory for them, no line is ready: so many
+    /// bytes that were taken last are let go, and the scan of those before them is begun anew.
+    pub fn read_tokens(&mut self, taken: usize) -> Result<(), LexError>
+        requires within { taken ≤ length self.old.held.items }
         requires holds { (line : Option LogicalLine) × HoldsSo self.old self.old.ready line }
         requires no_fault { self.old.state.fault ≡ None }
         requires room { HasRoom self.old 0 }
-        ensures { ReadsTokens self.old before result self.new }
+        ensures { ReadsTokens self.old taken result self.new }
     {
         let Some(end_len) = self.ready else {
             return Ok(());
@@ -54,7 +75,7 @@ impl Feed {
                 Ok(())
             }
             Err(error) => {
-                self.held.truncate(before);
+                self.held.truncate(self.held.len() - taken);
                 self.ready = None;
                 self.state.restart();
                 Err(error.into())
@@ -74,24 +95,25 @@ impl Feed {
         ensures ready { OnOk result (IsReadyAt self.old stop self.new) }
     {
         let scanned = self.state.scan.stop;
+        let held = &mut self.held;
         match stop {
             Stop::LineEnd(len) => {
                 self.ready = Some(len);
                 // After CR one byte shows that the line is whole.
-                let end = scanned + (self.held[scanned - 1] == b'\r') as usize;
-                self.held.truncate(end.max(before + 1));
-                Ok(self.held.len() - before)
+                let end = scanned + (held[scanned - 1] == b'\r') as usize;
+                held.truncate(end.max(before + 1));
+                Ok(held.len() - before)
             }
             // An item that the bytes don't tell yet may end with a part of a character.
-            Stop::TextEnd => match std::str::from_utf8(&self.held[scanned..]) {
+            Stop::TextEnd => match std::str::from_utf8(&held[scanned..]) {
                 Err(error) if error.error_len().is_some() => {
                     let kind = FaultKind::BadUtf8;
                     let place = scanned + error.valid_up_to();
-                    Err(self.state.fail(LineFault { kind, place }, &self.held))
+                    Err(self.state.fail(LineFault { kind, place }, held))
                 }
-                _ => Ok(self.held.len() - before),
+                _ => Ok(held.len() - before),
             },
-            Stop::Wrong(line_fault) => Err(self.state.fail(line_fault, &self.held)),
+            Stop::Wrong(line_fault) => Err(self.state.fail(line_fault, held)),
         }
     }
 
@@ -115,27 +137,6 @@ impl Feed {
             return Err(error.into());
         }
         self.meet(stop, before)
-    }
-
-    /// Takes the line with which a piece begins, with its tokens, if it is simple and nothing is held: how many bytes. If there is no
-    /// memory for it, none is taken. `None` promises nothing of the line.
-    pub fn take_simple(&mut self, piece: &[u8]) -> Result<Option<usize>, LexError>
-        requires sound { IsSoundFeed self.old }
-        requires not_ready { self.old.ready ≡ None }
-        requires fits { self.old.state.place + length self.old.held.items + length piece.now
-            ≤ 2 ^ 62 }
-        ensures { TakesSimple self.old piece.now result self.new }
-    {
-        if !self.held.is_empty() || self.state.fault.is_some() {
-            return Ok(None);
-        }
-        if let Ok(Some((end_len, line))) = self.state.read_simple(piece) {
-            let taken = self.hold(piece, Stop::LineEnd(end_len))?;
-            self.next_line = line;
-            return Ok(Some(taken));
-        }
-        self.state.restart();
-        Ok(None)
     }
 
     /// Takes bytes of a piece, up to a line's end: how many. If there is no memory for them, none is taken.
@@ -191,30 +192,90 @@ impl Feed {
         let stop = self.state.scan.stop;
         self.state.pass(stop, line);
         self.ready = None;
-        if stop == self.held.len() {
-            self.held.clear();
+        let held = &mut self.held;
+        if stop == held.len() {
+            held.clear();
         } else {
-            self.held.drain(..stop);
+            held.drain(..stop);
         }
         self.state.restart();
     }
 
-    /// The text's last line, which is ready then, if anything is held; or the fault that stands there.
-    pub fn end_text(&mut self) -> Result<(), LexError>
-        requires opens { IsHeldOpen self.old }
+    /// Ends the text: what is held is its last line, which is ready then with its tokens, if anything is held.
+    pub fn finish(&mut self) -> Result<(), LexError>
+        requires sound { IsSoundFeed self.old }
         requires not_ready { self.old.ready ≡ None }
-        requires room { HasRoom self.old 0 }
-        ensures { EndsText self.old result self.new }
+        ensures finishes { Finishes (scanning_of self.old) result (scanning_of self.new) }
+        ensures sound { IsSoundFeed self.new }
     {
-        if self.held.is_empty() {
-            return Ok(());
+        if let Some(fault) = self.state.fault {
+            return Err(LexError::Fault(fault));
         }
-        match self.state.scan_line(&self.held) {
-            Ok(end_len) => {
-                self.ready = Some(end_len);
-                Ok(())
+        if !self.held.is_empty() {
+            match self.state.scan_line(&self.held) {
+                Ok(end_len) => self.ready = Some(end_len),
+                Err(line_fault) => return Err(self.state.fail(line_fault, &self.held)),
             }
-            Err(line_fault) => Err(self.state.fail(line_fault, &self.held)),
         }
+        self.read_tokens(0)?;
+        self.ended = true;
+        Ok(())
+    }
+
+    /// Takes bytes of a piece, up to the end of a line, which is ready then with its tokens: how many. None is taken while a line is ready.
+    pub fn feed(&mut self, piece: &[u8]) -> Result<usize, LexError>
+        requires sound { IsSoundFeed self.old }
+        requires fits { self.old.state.place + length self.old.held.items + length piece.now
+            ≤ 2 ^ 62 }
+        ensures feeds { Feeds (scanning_of self.old) piece.now result (scanning_of self.new) }
+        ensures sound { IsSoundFeed self.new }
+    {
+        let ready = self.ready;
+        if ready.is_some() {
+            return Ok(0);
+        }
+        // Most lines are simple, and begin where nothing is held.
+        if self.held.is_empty() && self.state.fault.is_none() {
+            if let Ok(Some((end_len, after))) = self.state.read_simple(piece) {
+                let taken = self.hold(piece, Stop::LineEnd(end_len))?;
+                self.next_line = after;
+                return Ok(taken);
+            }
+            self.state.restart();
+        }
+        let taken = self.take_bytes(piece)?;
+        self.read_tokens(taken)?;
+        Ok(taken)
+    }
+
+    /// The same, and lets go a line that gets ready and holds neither word, without its tokens.
+    pub fn feed_naming(
+        &mut self,
+        piece: &[u8],
+        word: &[u8],
+        other: &[u8],
+    ) -> Result<usize, LexError>
+        requires sound { IsSoundFeed self.old }
+        requires fits { self.old.state.place + length self.old.held.items + length piece.now
+            ≤ 2 ^ 62 }
+        ensures feeds { FeedsNaming word.now other.now (scanning_of self.old) piece.now result (scanning_of self.new) }
+        ensures sound { IsSoundFeed self.new }
+    {
+        let ready = self.ready;
+        if ready.is_some() {
+            return Ok(0);
+        }
+        let taken = self.take_bytes(piece)?;
+        let ready = self.ready;
+        if ready.is_some() {
+            let text = &self.held[..self.state.scan.stop];
+            if lacks_both(text, word, other) {
+                let line = self.state.line + line_ends(text);
+                self.let_go(line);
+                return Ok(taken);
+            }
+        }
+        self.read_tokens(taken)?;
+        Ok(taken)
     }
 }

@@ -48,9 +48,10 @@ impl Scan {
         let mut passing = Passing::new(bytes);
         let mut at = passing.marks.next(bytes);
         'specials: while at < bytes.len() {
-            match passing.pass(&mut self.frames, bytes, at, self.stop + at) {
-                Special::Passed if self.frames.is_empty() => at = passing.marks.next(bytes),
-                Special::Passed => at = passing.next(&self.frames, bytes),
+            let frames = &mut self.frames;
+            match passing.pass(frames, bytes, at, self.stop + at) {
+                Special::Passed if frames.is_empty() => at = passing.marks.next(bytes),
+                Special::Passed => at = passing.next(frames, bytes),
                 Special::LineEnd(len) => {
                     self.pass(passing.all);
                     return Some(len);

@@ -130,29 +130,23 @@ pub fn read_anyway(
         ReadsAnyway (drop start bytes.now) tokens.old.items start line piece.0 piece.1 tokens.new.items)) }
 {
     let rest = &bytes[start..];
-    match class {
+    let (kind, len) = match class {
         Class::Word => {
             let len = ByteRun::WideWord.len_in(rest);
             // It may be the prefix of a string.
             if len < rest.len() && is_quote(rest[len] as char) {
                 return Ok(None);
             }
-            add_token(tokens, word_kind(rest[0]), start, len, line)?;
-            Ok(Some((len, 0)))
+            (word_kind(rest[0]), len)
         }
-        Class::Operator | Class::Opening | Class::Closing => {
-            add_token(tokens, TokKind::Op(rest[0]), start, 1, line)?;
-            Ok(Some((1, 0)))
-        }
-        Class::Hash => {
-            let len = 1 + comment_run(&rest[1..]);
-            add_token(tokens, TokKind::Remark, start, len, line)?;
-            Ok(Some((len, 0)))
-        }
-        Class::Space => Ok(Some((space_len(rest), 0))),
-        Class::LineFeed => Ok(Some((1, 1))),
-        _ => Ok(None),
-    }
+        Class::Operator | Class::Opening | Class::Closing => (TokKind::Op(rest[0]), 1),
+        Class::Hash => (TokKind::Remark, 1 + comment_run(&rest[1..])),
+        Class::Space => return Ok(Some((space_len(rest), 0))),
+        Class::LineFeed => return Ok(Some((1, 1))),
+        _ => return Ok(None),
+    };
+    add_token(tokens, kind, start, len, line)?;
+    Ok(Some((len, 0)))
 }
 
 /// Reads the piece that stands at this byte of a line, and on this line of the text, and is no mark: how many bytes it has, and how many line
@@ -173,20 +167,17 @@ pub fn read_piece(
     if let Some(piece) = read_anyway(tokens, class, text, start, line)? {
         return Ok(piece);
     }
-    match class {
-        Class::Word | Class::Wide => {
-            let (kind, len, line_ends) = word_or_string(scan, rest);
-            add_token(tokens, kind, start, len, line)?;
-            Ok((len, line_ends))
-        }
+    let (kind, len, line_ends) = match class {
+        Class::Word | Class::Wide => word_or_string(scan, rest),
         Class::Quote => {
             let (len, line_ends) = string_len(scan, rest, 0, false);
-            add_token(tokens, TokKind::Str, start, len, line)?;
-            Ok((len, line_ends))
+            (TokKind::Str, len, line_ends)
         }
         // A join of two lines (Python Language Reference, 2.1.5).
-        Class::Backslash => Ok((1 + line_end_len(&rest[1..]), 1)),
-        Class::Return => Ok((line_end_len(rest), 1)),
+        Class::Backslash => return Ok((1 + line_end_len(&rest[1..]), 1)),
+        Class::Return => return Ok((line_end_len(rest), 1)),
         _ => unreachable!(),
-    }
+    };
+    add_token(tokens, kind, start, len, line)?;
+    Ok((len, line_ends))
 }

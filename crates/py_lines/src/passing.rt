@@ -186,27 +186,6 @@ impl Passing {
         true
     }
 
-    /// Passes the string with fields that the quote at this byte begins, and answers whether it did: it does for short and simple ones where
-    /// few brackets are open. `false` promises that nothing changed, and no more.
-    #[inline(always)]
-    fn pass_fields(&mut self, frames: &Frames, bytes: &[u8], at: usize) -> bool
-        requires quote { MeetsString bytes.now at self.old 1 }
-        requires fields { TellsFields (word_before bytes.now at self.old) (Some true) }
-        ensures passed { IsTrue result
-            → (place : ℕ) → PassesSo bytes.now at place self.old frames.now self.new frames.now }
-        ensures same { result ≡ false → self.new ≡ self.old }
-    {
-        let quote = bytes[at];
-        let text = &bytes[at + 1..];
-        let len = text_len(quote, text);
-        if frames.len() > 10 || len == text.len() || text[len] != quote {
-            return false;
-        }
-        self.all = at + len + 2;
-        self.marks.pass(bytes, self.all);
-        true
-    }
-
     /// Passes the string that the quote at this byte begins, and answers whether it did: it does for most strings, as empty ones, those that
     /// are short and simple, and those of three quotes without fields. `false` promises that nothing changed, and no more.
     #[inline(always)]
@@ -221,7 +200,17 @@ impl Passing {
     {
         match quotes_len(&bytes[at..]) {
             Some(1) => match fields_after(&bytes[self.all..at]) {
-                Some(true) => self.pass_fields(frames, bytes, at),
+                // Deeper in fields, text is seldom simple.
+                Some(true) => {
+                    let text = &bytes[at + 1..];
+                    let len = text_len(bytes[at], text);
+                    if frames.len() > 10 || len == text.len() || text[len] != bytes[at] {
+                        return false;
+                    }
+                    self.all = at + len + 2;
+                    self.marks.pass(bytes, self.all);
+                    true
+                }
                 Some(false) => self.pass_text(bytes, at),
                 None => false,
             },

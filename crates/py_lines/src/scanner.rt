@@ -1,6 +1,6 @@
 //! The logical lines of a text that comes in pieces.
 ghost use Rattle.std.specs.Prelude.{◌≡◌, ℕ, ◌+◌, ◌<◌, ◌≤◌, ◌^◌, false, None, Some, IsSome, IsTrue, List, [], length, IfOk, IfErr};
-ghost use Rattle.py_lines.specs.ScannerState.{ScannerState, IsScanning, LacksBoth, ScansFrom, begun_at, fed_of};
+ghost use Rattle.py_lines.specs.ScannerState.{ScannerState, IsScanning, ScansFrom, begun_at, fed_of};
 ghost use Rattle.py_lines.specs.ScannerState.{Feeds, FeedsNaming, Releases, PassesPieceLines, Finishes};
 ghost use Rattle.py_lines.specs.ScannerState.View.{scanning_of};
 ghost use Rattle.py_lines.specs.UnitLine.{line_in};
@@ -8,21 +8,10 @@ ghost use Rattle.py_lines.specs.Private.Feed.{IsSoundFeed};
 
 use crate::fault::LexError;
 use crate::feed::Feed;
-use crate::line_ends::line_ends;
 use crate::line_state::LineState;
 use crate::unit::{Line, Unit};
-use memchr::memmem;
 use std::alloc::Global;
 use std::marker::Model;
-
-/// Whether neither word stands in these bytes.
-fn lacks_both(bytes: &[u8], word: &[u8], other: &[u8]) -> bool
-    requires { 0 < length bytes.now }
-    ensures yes { IsTrue result → LacksBoth word.now other.now bytes.now }
-    ensures no { result ≡ false → ¬ (LacksBoth word.now other.now bytes.now) }
-{
-    memmem::find(bytes, word).is_none() && memmem::find(bytes, other).is_none()
-}
 
 /// Reads a text that comes in pieces into its logical lines (Python Language Reference, 2.1). It keeps the text of one
 /// line and at most one byte more. Contracts see it as a [`ScannerState`]: the byte and line up to which lines were
@@ -87,16 +76,7 @@ impl Scanner {
         requires open_yet { self.old.ended ≡ false }
         ensures feeds { Feeds self.old piece.now result self.new }
     {
-        if self.feed.ready.is_some() {
-            return Ok(0);
-        }
-        if let Some(taken) = self.feed.take_simple(piece)? {
-            return Ok(taken);
-        }
-        let before = self.feed.held.len();
-        let taken = self.feed.take_bytes(piece)?;
-        self.feed.read_tokens(before)?;
-        Ok(taken)
+        self.feed.feed(piece)
     }
 
     /// Takes bytes of a piece as [`Scanner::feed`] does, and answers how many. A line that gets ready and holds neither word is released at
@@ -114,19 +94,7 @@ impl Scanner {
         requires open_yet { self.old.ended ≡ false }
         ensures feeds { FeedsNaming word.now other.now self.old piece.now result self.new }
     {
-        if self.feed.ready.is_some() {
-            return Ok(0);
-        }
-        let before = self.feed.held.len();
-        let taken = self.feed.take_bytes(piece)?;
-        let stop = self.feed.state.scan.stop;
-        if self.feed.ready.is_some() && lacks_both(&self.feed.held[..stop], word, other) {
-            let line = self.feed.state.line + line_ends(&self.feed.held[..stop]);
-            self.feed.let_go(line);
-            return Ok(taken);
-        }
-        self.feed.read_tokens(before)?;
-        Ok(taken)
+        self.feed.feed_naming(piece, word, other)
     }
 
     /// The line that is ready, lent out of the scanner, if one is. It isn't empty.
@@ -163,22 +131,22 @@ impl Scanner {
         requires fits { self.old.place + length bytes.now ≤ 2 ^ 62 }
         ensures passes { PassesPieceLines self.old bytes.now before result self.new }
     {
-        if !self.feed.stands_at_line() || !bytes.starts_with(&self.feed.held) {
+        let Some(held) = self.feed.held_before(bytes) else {
             return 0;
-        }
-        let held = self.feed.held.len();
+        };
         let clear = &bytes[..before.min(bytes.len())];
-        let (len, ends) = self.feed.state.scan.pass_lines(clear);
+        let state = &mut self.feed.state;
+        let (len, ends) = state.scan.pass_lines(clear);
         // The byte after CR shows that the last line is whole.
         let end = len + clear[..len].ends_with(b"\r") as usize;
         if self.feed.held.extend_from_slice(&clear[len..end]).is_err() {
-            self.feed.state.restart();
+            state.restart();
             return 0;
         }
         self.feed.held.drain(..held.min(len));
-        let line = self.feed.state.line + ends;
-        self.feed.state.pass(len, line);
-        self.feed.state.restart();
+        let line = state.line + ends;
+        state.pass(len, line);
+        state.restart();
         len
     }
 
@@ -192,14 +160,7 @@ impl Scanner {
         requires open_yet { self.old.ended ≡ false }
         ensures finishes { Finishes self.old result self.new }
     {
-        if let Some(fault) = self.feed.state.fault {
-            return Err(LexError::Fault(fault));
-        }
-        self.feed.end_text()?;
-        let all = self.feed.held.len();
-        self.feed.read_tokens(all)?;
-        self.feed.ended = true;
-        Ok(())
+        self.feed.finish()
     }
 
     /// The byte of the text up to which lines were released.

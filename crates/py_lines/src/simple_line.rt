@@ -77,33 +77,26 @@ pub fn read_simple_line(
     let mut passing = Passing::new(bytes);
     let mut at = passing.marks.next(bytes);
     'specials: while at < bytes.len() {
-        let Some(line_there) = read_up_to(tokens, bytes, start, line_here, at)? else {
-            return Ok(None);
+        line_here = match read_up_to(tokens, bytes, start, line_here, at)? {
+            Some(line) => line,
+            None => break,
         };
-        line_here = line_there;
-        let class = Class::of(bytes[at]);
-        match class {
-            Class::Quote => {
-                if !pass_short_string(&mut passing, bytes, at) {
-                    return Ok(None);
-                }
-                add_token(tokens, TokKind::Str, at, passing.all - at, line_here)?;
-                start = passing.all;
+        if let Class::Quote = Class::of(bytes[at]) {
+            if !pass_short_string(&mut passing, bytes, at) {
+                break;
             }
-            _ => match passing.pass(&mut scan.frames, bytes, at, at) {
-                Special::Passed => {
-                    let Some((len, ends)) = read_anyway(tokens, class, bytes, at, line_here)? else {
-                        return Ok(None);
-                    };
-                    start = at + len;
-                    line_here += ends;
-                }
+            add_token(tokens, TokKind::Str, at, passing.all - at, line_here)?;
+            start = passing.all;
+        } else {
+            match passing.pass(&mut scan.frames, bytes, at, at) {
+                // It is read with the pieces after it.
+                Special::Passed => start = at,
                 Special::LineEnd(len) => {
                     scan.pass(passing.all);
                     return Ok(Some((len, line_here + 1)));
                 }
-                Special::Unpassed => return Ok(None),
-            },
+                Special::Unpassed => break,
+            }
         }
         at = passing.marks.next(bytes);
     }

@@ -23,18 +23,8 @@ pub struct Source<'t> {
 
 impl<'t> Source<'t> {
     ghost use Rattle.std.specs.Prelude.{◌≡◌, OnOk};
-    ghost use Rattle.py_lines.specs.Private.Source.{Advances, HasNext, HasNextOf, HasTokens, IsLine, IsOutlineNext, LeavesNext, ReadsNext, ReadsNextLine, ScansNext, outline_in};
+    ghost use Rattle.py_lines.specs.Private.Source.{Advances, HasNextOf, HasTokens, IsLine, IsOutlineNext, LeavesNext, ReadsNextLine, ScansNext, outline_in};
     ghost use Rattle.py_lines.specs.Private.Source.{reader_of};
-
-    /// Whether a line is left. The error is the fault, once it was met.
-    fn has_next(&self) -> Result<bool, LexError>
-        ensures { HasNext self.now result }
-    {
-        match self.state.fault {
-            Some(fault) => Err(LexError::Fault(fault)),
-            None => Ok((self.state.place as usize) < self.bytes.len()),
-        }
-    }
 
     /// The next line, up to where the scan has stopped after it, with so many bytes of line end.
     #[inline(always)]
@@ -47,14 +37,14 @@ impl<'t> Source<'t> {
         Line::of(text, state.place, state.line, end_len)
     }
 
-    /// Scans the next line. It is not passed yet.
-    fn scan(&mut self) -> Result<Line<'t>, LexError>
+    /// Scans the next line: how many bytes its line end has. It is not passed yet.
+    fn scan(&mut self) -> Result<usize, LexError>
         requires { LeavesNext self.old }
         ensures { ScansNext self.old result self.new }
     {
         let rest = &self.bytes[self.state.place as usize..];
         match self.state.scan_line(rest) {
-            Ok(end_len) => Ok(self.line(end_len)),
+            Ok(end_len) => Ok(end_len),
             Err(line_fault) => Err(self.state.fail(line_fault, rest)),
         }
     }
@@ -63,10 +53,14 @@ impl<'t> Source<'t> {
     pub fn pass_line(&mut self) -> Result<Option<Line<'t>>, LexError>
         ensures { ReadsNextLine (reader_of self.old) result (reader_of self.new) }
     {
-        if !self.has_next()? {
+        if let Some(fault) = self.state.fault {
+            return Err(LexError::Fault(fault));
+        }
+        if self.state.place as usize == self.bytes.len() {
             return Ok(None);
         }
-        let line = self.scan()?;
+        let end_len = self.scan()?;
+        let line = self.line(end_len);
         let after = line.line + line_ends(line.text.as_bytes());
         self.state.pass(line.text.len(), after);
         Ok(Some(line))
@@ -91,29 +85,26 @@ impl<'t> Source<'t> {
         Ok(())
     }
 
-    /// Reads the next line with its tokens, and answers it with the line after it. It is not passed yet.
-    fn read_next(&mut self) -> Result<(Line<'t>, u64), LexError>
-        requires { LeavesNext self.old }
-        ensures { ReadsNext self.old result self.new }
-    {
-        let rest = &self.bytes[self.state.place as usize..];
-        if let Some((end_len, after)) = self.state.read_simple(rest)? {
-            return Ok((self.line(end_len), after));
-        }
-        let line = self.scan()?;
-        let text = line.text.as_bytes();
-        let after = self.state.read_line(text, line.end_len, line.line)?;
-        Ok((line, after))
-    }
-
-    /// Reads the next line with its tokens, if there is one.
+    /// Reads the next line with its tokens, and passes it, if there is one.
     pub fn advance(&mut self) -> Result<Option<Line<'t>>, LexError>
         ensures { Advances self.old result self.new }
     {
-        if !self.has_next()? {
+        if let Some(fault) = self.state.fault {
+            return Err(LexError::Fault(fault));
+        }
+        let place = self.state.place as usize;
+        if place == self.bytes.len() {
             return Ok(None);
         }
-        let (line, after) = self.read_next()?;
+        if let Some((end_len, after)) = self.state.read_simple(&self.bytes[place..])? {
+            let line = self.line(end_len);
+            self.state.pass(line.text.len(), after);
+            return Ok(Some(line));
+        }
+        let end_len = self.scan()?;
+        let line = self.line(end_len);
+        let text = line.text.as_bytes();
+        let after = self.state.read_line(text, line.end_len, line.line)?;
         self.state.pass(line.text.len(), after);
         Ok(Some(line))
     }

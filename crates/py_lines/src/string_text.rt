@@ -81,9 +81,8 @@ fn escape_move(host: StringWithFields, region: Region, named: bool, bytes: &[u8]
     requires { is_backslash (slice_index bytes.now 0) ≡ true }
     ensures { DoesInFields host region named bytes.now result }
 {
-    let mode = Mode::Fields(host, region, named);
     match bytes {
-        [_, b'{' | b'}', ..] => TextMove::Grows(mode, 1),
+        [_, b'{' | b'}', ..] => TextMove::Grows(Mode::Fields(host, region, named), 1),
         // A specification of a short string holds no line end, and none after a backslash.
         [_, b'\n' | b'\r', ..] if matches!(region, Region::Specification) && !host.is_long => {
             TextMove::BreaksString
@@ -91,7 +90,7 @@ fn escape_move(host: StringWithFields, region: Region, named: bool, bytes: &[u8]
         [_, b'N', b'{', ..] if !host.is_raw => TextMove::Grows(Mode::Fields(host, region, true), 3),
         [_, b'N'] if !host.is_raw => TextMove::Waits,
         _ => match escape_len(bytes) {
-            Some(len) => TextMove::Grows(mode, len),
+            Some(len) => TextMove::Grows(Mode::Fields(host, region, named), len),
             None => TextMove::Waits,
         },
     }

@@ -1,18 +1,31 @@
 -- The text ends with what is held: its last line, or the fault that stands there.
-use Rattle.py_lines.proofs.Prelude.{◌≡◌, ℕ, ◌+◌, ◌<◌, ⊎_elim, true, None, Some, Ok, Err, List, [], ◌∷◌, ◌++◌, length, refl, sym, ap, ◌∙◌, subst, append-nil, arith, Option, drop, length-drop, encode_utf8_all, length-append, length-take-le, take-append-drop, take_all, LogicalLine, byte_len, spelled, AreFirstLines, byte_len-append}
+use Rattle.py_lines.proofs.Prelude.{◌≡◌, ℕ, ◌+◌, ◌<◌, ⊎_elim, true, None, Some, Err, List, [], ◌∷◌, ◌++◌, length, refl, sym, ap, ◌∙◌, subst, append-nil, arith, Option, drop, length-drop, encode_utf8_all, length-append, length-take-le, take, take-append-drop, take_all, LogicalLine, byte_len, spelled, AreFirstLines, byte_len-append}
 use Rattle.py_lines.specs.Lexed.{IsLexed}
-use Rattle.py_lines.specs.ScannerState.{IsScanning, fed_of, EndsFaulty, EndsScan, Finishes, ScannerState}
-use Rattle.py_lines.specs.Private.LineState.{HasNextFault, HasNextLine, rescanned}
-use Rattle.py_lines.specs.Private.Feed.{EndsText, Fault, HasRoom, HoldsLine, IsHeldOpen, Holds, HasEndedText, HasReadTokens, HoldsSo, IsSoundFeed, ReadsTokens, StandsSo, with_line, LexError, LineFault, LineState, Scan, Feed, scanning_of, ready_of}
+use Rattle.py_lines.specs.ScannerState.{HoldsLast, IsScanning, WhereWhole, fed_of, EndsFaulty, EndsScan, Finishes, ScannerState, ready_lines}
+use Rattle.py_lines.specs.Private.LineState.{HasNextFault, HasNextLine, IsFaultAfter, rescanned}
+use Rattle.py_lines.specs.Private.Feed.{Fault, HasRoom, HoldsLine, IsHeldOpen, Holds, HasReadTokens, HoldsSo, IsSoundFeed, ReadsTokens, StandsSo, with_line, LexError, LineFault, LineState, Scan, Feed, scanning_of, ready_of}
 use Rattle.py_lines.proofs.Feeds.Known.{first_at}
-use Rattle.py_lines.proofs.Feeds.OpenLine.{FailsAt, dropped, runs_out}
+use Rattle.py_lines.proofs.Feeds.OpenLine.{FailsAt, dropped, fails_keep, runs_out}
 use Rattle.py_lines.specs.Settled.{IsSettled}
 use Rattle.py_lines.proofs.Lexings.FirstLines.{all_first, begins_settled}
 use Rattle.py_lines.proofs.Lexings.LineEnds.{none_both}
 use Rattle.py_lines.proofs.Feeds.FedScanner.{settled_held}
 
+-- the text that ends with what is held has this fault, which is kept
+pub record HasEndFault (old : Feed) (fault : Fault) (new : Feed) : Type 0 where
+  pub text : Holds old old.held.items (Some fault) new
+  pub none_ready : new.ready ≡ None
+  pub lexed : WhereWhole (scanning_of old) (λ text lines. IsLexed text lines (Some fault))
+
+-- the text ends with what is held, and has no fault there: the line that stands there, if one does, is its last
+pub record HasEndedText (old new : Feed) : Type 0 where
+  pub text : Holds old old.held.items old.state.fault new
+  pub line : Option LogicalLine
+  pub holds : HoldsSo new new.ready line
+  pub lexed : WhereWhole (scanning_of old) (λ text lines. IsLexed text (lines ++ ready_lines line) None × HoldsLast new.held.items line)
+
 -- nothing is held
-pub text_empty : {old : Feed} → old.ready ≡ None → IsHeldOpen old → old.held.items ≡ [] → EndsText old (Ok tt) old
+pub text_empty : {old : Feed} → old.ready ≡ None → IsHeldOpen old → old.held.items ≡ [] → HasEndedText old old
 text_empty {old} not_ready opens none = record {
   text = record { held = refl; place = refl; line = refl; ended = refl; fault = refl };
   line = None;
@@ -36,7 +49,7 @@ reach_end {text} {place} {line} {lines} last f settled = ⊎_elim
 
 -- the text's last line
 pub last_line : (old : Feed) → old.ready ≡ None → 0 < length old.held.items → (scan : Scan) {end_len : ℕ} → HasNextLine old.state.place old.state.line old.held.items scan.stop end_len
-    → EndsText old (Ok tt) (record old { state = record old.state { scan = scan }; ready = Some end_len })
+    → HasEndedText old (record old { state = record old.state { scan = scan }; ready = Some end_len })
 last_line old not_ready some scan {end_len} h =
     let u = h.is.pieces in let items = old.held.items in let stop = scan.stop in let size : byte_len (spelled u) ≡ stop = ap length h.is.text.spell ∙ length-take-le stop items h.is.within in
     let held : HoldsLine (record old { state = record old.state { scan = scan }; ready = Some end_len }) end_len = record {
@@ -63,8 +76,19 @@ last_line old not_ready some scan {end_len} h =
 
 -- or the fault that stands there
 pub last_fault : (old new : Feed) → old.ready ≡ None → (state : LineState) → state ≡ rescanned old.state state → {wrong : LineFault} → HasNextFault old.state old.held.items wrong
-    → (error : LexError) → FailsAt (record old { state = state }) wrong.kind wrong.place error new → EndsText old (Err error) new
-last_fault old new not_ready state same {wrong} h error fails = grind (arith, text_held)
+    → (error : LexError) → FailsAt (record old { state = state }) wrong.kind wrong.place error new → (fault : Fault) × (error ≡ LexError.Fault fault) × HasEndFault old fault new
+last_fault old new not_ready state same {wrong} h error fails =
+    let fault = fails.keeps.fault in
+    let at = subst (λ (t : LineState). IsFaultAfter t wrong.kind wrong.place (take wrong.place old.held.items) fault) same fails.keeps.at in
+    let kept = fails_keep (record old { state = state }) new wrong.kind wrong.place error fails in (
+      fault,
+      fails.keeps.error_is,
+      record {
+        text = record { held = kept.held; place = kept.place ∙ ap (λ (t : LineState). t.place) same; line = kept.line ∙ ap (λ (t : LineState). t.line) same; ended = kept.ended; fault = kept.fault };
+        none_ready = ap (λ (f : Feed). f.ready) fails.same ∙ not_ready;
+        lexed = λ text lines scanning whole. h.lexed fault (record { is = at.is; place = at.place; line = at.line }) text lines scanning.first (text_held old text lines scanning whole);
+      },
+    )
 
 -- the fault was known before
 pub ends_known : (s : ScannerState) {fault : Fault} → s.fault ≡ Some fault → EndsFaulty s fault s
@@ -103,10 +127,10 @@ finish_now old f no_fault e = record {
 pub same_room : {old new : Feed} {known : Option Fault} → IsSoundFeed old → Holds old old.held.items known new → HasRoom new 0
 same_room sound text = record { fits = omega (arith, sound.room.fits, text.place, ap length text.held); few_lines = omega (arith, sound.room.few_lines, text.place, text.line) }
 
--- what an error of the call that ends the text comes to
-pub finish_errs : {old new : Feed} → IsSoundFeed old → old.state.fault ≡ None → old.ready ≡ None → (error : LexError) → EndsText old (Err error) new
-    → Finishes (scanning_of old) (Err error) (scanning_of new) × IsSoundFeed new
-finish_errs {old} {new} sound no_fault not_ready (LexError.Fault fault) ends = let text = ends.text in (
+-- what a fault at the text's end comes to
+pub finish_errs : {old new : Feed} {fault : Fault} → IsSoundFeed old → old.state.fault ≡ None → old.ready ≡ None → HasEndFault old fault new
+    → Finishes (scanning_of old) (Err (LexError.Fault fault)) (scanning_of new) × IsSoundFeed new
+finish_errs {old} {new} sound no_fault not_ready ends = let text = ends.text in (
   record {
     all = ends.lexed;
     again = λ first is. absurd (let h = sym no_fault ∙ is in cc);
@@ -120,7 +144,6 @@ finish_errs {old} {new} sound no_fault not_ready (LexError.Fault fault) ends = l
   },
   record { room = same_room sound text; state = subst (StandsSo new) (sym ends.none_ready) (λ no_more. absurd (let h = sym text.fault ∙ no_more in cc)) },
 )
-finish_errs sound no_fault not_ready LexError.Memory short = runs_out sound no_fault not_ready short
 
 module _ {old f : Feed} (sound : IsSoundFeed old) (no_fault : old.state.fault ≡ None) (e : HasEndedText old f) where
   -- once the tokens of the line that is left are read, if one is
@@ -131,7 +154,7 @@ module _ {old f : Feed} (sound : IsSoundFeed old) (no_fault : old.state.fault �
   )
 
   -- where there is no memory for them
-  pub finish_short : old.ready ≡ None → {all : ℕ} → all ≡ length f.held.items → {new : Feed} (error : LexError) → ReadsTokens f all (Err error) new
+  pub finish_short : old.ready ≡ None → {new : Feed} (error : LexError) → ReadsTokens f 0 (Err error) new
       → Finishes (scanning_of old) (Err error) (scanning_of new) × IsSoundFeed new
-  finish_short not_ready size (LexError.Fault x) never = absurd never
-  finish_short not_ready size {new} LexError.Memory drops = runs_out sound no_fault not_ready (dropped old f new [] (subst (λ l. Holds old l old.state.fault f) (sym (append-nil old.held.items)) e.text) (size ∙ ap length e.text.held) drops)
+  finish_short not_ready (LexError.Fault x) never = absurd never
+  finish_short not_ready {new} LexError.Memory drops = runs_out sound no_fault not_ready (dropped old f new [] (subst (λ l. Holds old l old.state.fault f) (sym (append-nil old.held.items)) e.text) (omega (arith, ap length e.text.held)) drops)

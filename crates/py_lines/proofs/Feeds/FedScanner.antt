@@ -277,17 +277,21 @@ module _ {old new : Feed} {piece : List ℕ} {n : ℕ} (t : TakesLine old piece 
   pub takes_short : new.ready ≡ None → {now : Feed} → IsUnchanged new now → TakesLine old piece n now
   takes_short none {now} unchanged = grind arith
 
+  -- they are held after what was
+  pub size_held : length old.held.items + n ≡ length new.held.items
+  size_held = sym (ap length t.takes.held ∙ length-append old.held.items (take n piece) ∙ ap (λ (k : ℕ). length old.held.items + k) (length-take-le n piece t.takes.within))
+
   -- where there is no memory for the tokens
-  pub fed_short : IsSoundFeed old → old.ready ≡ None → {held : ℕ} → held ≡ length old.held.items → {now : Feed} (error : LexError) → ReadsTokens new held (Err error) now
+  pub fed_short : IsSoundFeed old → old.ready ≡ None → {now : Feed} (error : LexError) → ReadsTokens new n (Err error) now
       → Feeds (scanning_of old) piece (Err error) (scanning_of now) × IsSoundFeed now
-  fed_short sound was before (LexError.Fault f) never = absurd never
-  fed_short sound was before {now} LexError.Memory drops = runs_out sound t.takes.fault was (dropped old new now (take n piece) (record {
+  fed_short sound was (LexError.Fault f) never = absurd never
+  fed_short sound was {now} LexError.Memory drops = runs_out sound t.takes.fault was (dropped old new now (take n piece) (record {
     held = t.takes.held;
     place = t.takes.place;
     line = t.takes.line;
     ended = t.takes.open_yet;
     fault = t.takes.no_fault ∙ sym t.takes.fault;
-  }) before drops)
+  }) (omega (arith, size_held)) drops)
 
   -- where it was not let go, and the tokens of the line that stands in what is held are read
   pub fed_named : {now : Feed} {word other : List ℕ} → (is_some new.ready ≡ true → ¬ (LacksBoth word other (take new.state.scan.stop new.held.items))) → HasReadTokens new now → TakesNaming word other (scanning_of old) piece n (scanning_of now)

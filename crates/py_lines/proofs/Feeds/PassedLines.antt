@@ -1,6 +1,6 @@
 -- Lines that a scanner passed over are the next ones of each text that goes on with them.
 use mir.Val.{bool_byte}
-use Rattle.py_lines.proofs.Prelude.{◌≡◌, ℕ, ◌+◌, ◌<◌, ◌≤◌, ◌^◌, ⊎_elim, inl, inr, Bool, true, Option, None, List, [], ◌∷◌, ◌++◌, ◌-◌, eqb, length, take, drop, refl, sym, ap, ◌∙◌, subst, append_assoc, append-nil, arith, length-append, encode_utf8_all, flat_map, min, Vec, cases_lt, Decides-eqb, starts_is, ends_with, starts_with, drop-append_seam, take-add, take-append_seam, length-drop, length-take-le, length-take, encodes-append, length-le-encodes, is_return, ends}
+use Rattle.py_lines.proofs.Prelude.{◌≡◌, ℕ, ◌+◌, ◌<◌, ◌≤◌, ◌^◌, ⊎_elim, inl, inr, Bool, Option, None, List, [], ◌∷◌, ◌++◌, ◌-◌, eqb, length, take, drop, refl, sym, ap, ◌∙◌, subst, append_assoc, append-nil, arith, length-append, encode_utf8_all, flat_map, min, Vec, cases_lt, ends_with, drop-append_seam, take-add, length-drop, length-take-le, length-take, encodes-append, length-le-encodes, is_return, ends}
 use Rattle.py_lines.specs.LogicalLine.{LogicalLine, byte_len, first_or_zero, line_ends, line_of}
 use Rattle.py_lines.specs.Settled.{IsSettled}
 use Rattle.py_lines.specs.ScannerState.{EndsExactly, GoesOnWith, HasSettled, HoldsAfterLines, HoldsReady, IsScanning, PassesPieceLines, ScannerState, StandsAtLine, ready_lines}
@@ -57,12 +57,6 @@ module _ (bytes : List ℕ) (len : ℕ) (found : BeginWithLines bytes len) (retu
   pub holds_after : HoldsAfterLines bytes len (take (bool_byte returns) (drop len bytes))
   holds_after = let k = bool_byte returns in let size : length (take k (drop len bytes)) ≡ k = length-take-le k (drop len bytes) more_held.0 in
       record { exact = more_held.1; within = omega (arith, size, end_within); next = ap (λ (n : ℕ). take (len + n) bytes) size ∙ take-add len k bytes }
-
--- bytes that begin with those that are held
-pub began_with : (bytes held like : List ℕ) (begins : Bool) → like ≡ held → begins ≡ starts_with eqb bytes like → begins ≡ true → take (length held) bytes ≡ held
-began_with bytes held like begins same is does =
-    let spell = (starts_is Decides-eqb bytes like begins is).0 does in
-    subst (λ t. take (length t) bytes ≡ t) same (ap (take (length like)) spell ∙ take-append_seam like (drop (length like) bytes))
 
 -- no line is passed over
 pub none_found : (s : ScannerState) (bytes : List ℕ) (before : ℕ) → PassesPieceLines s bytes before 0 s

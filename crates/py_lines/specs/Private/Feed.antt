@@ -1,5 +1,5 @@
 -- What the scanner inside a `Scanner` holds: the text since the line that was released last, and how far it was scanned.
-use Rattle.std.specs.Prelude.{◌≡◌, ℕ, ◌+◌, ◌<◌, ◌≤◌, ◌^◌, ◌⊎◌, Bool, true, Option, None, Some, Result, Ok, Err, List, [], ◌∷◌, ◌++◌, length, take, drop, encode_utf8_all}
+use Rattle.std.specs.Prelude.{◌≡◌, ℕ, ◌+◌, ◌-◌, ◌<◌, ◌≤◌, ◌^◌, ◌⊎◌, Bool, true, Option, None, Some, Result, Ok, Err, List, [], ◌∷◌, ◌++◌, length, take, drop, encode_utf8_all}
 use Rattle.std.specs.Str.{all_scalars}
 use Rattle.py_lines.specs.Piece.{Piece, spelled}
 use Rattle.py_lines.specs.LogicalLine.{byte_len, cut, end_len_of, line_ends, line_of}
@@ -7,8 +7,7 @@ pub use Rattle.py_lines.specs.LogicalLine.{LogicalLine}
 use Rattle.py_lines.specs.Lexed.{IsLexed}
 use Rattle.py_lines.specs.Settled.{IsHopeless, Decides}
 pub use Rattle.py_lines.specs.Given.{AreFirstLines}
-use Rattle.py_lines.specs.ScannerState.{ScannerState, EndsExactly, Feeds, GoesOnWith, HoldsLast, TakesBytes, WhereWhole, ready_lines}
-pub use Rattle.py_lines.specs.ScannerState.{StandsAtLine}
+use Rattle.py_lines.specs.ScannerState.{ScannerState, EndsExactly, Feeds, GoesOnWith, StandsAtLine, TakesBytes}
 pub use Rattle.py_lines.specs.ScannerState.View.{line_of_feed, ready_of, scanning_of}
 use Rattle.py_lines.specs.Private.LineScan.{Reached, ScansIn}
 use Rattle.py_lines.specs.Private.LineState.{BeginsAnew, first_mode}
@@ -23,6 +22,12 @@ pub use Rattle.py_lines.specs.declared.scan.Scan.{Scan}
 pub use Rattle.py_lines.specs.declared.scan.Stop.{Stop}
 pub use Rattle.py_lines.specs.declared.feed.Feed.{Feed}
 pub use Rattle.py_lines.specs.ScannerState.View.{scanning_of}
+
+-- so many bytes are held, with which these begin, and a line begins before them or after them
+pub record StandsBefore (f : Feed) (bytes : List ℕ) (held : ℕ) : Type 0 where
+  pub size : held ≡ length f.held.items
+  pub stands : StandsAtLine (scanning_of f)
+  pub began : take held bytes ≡ f.held.items
 
 -- these bytes are held, from the same place on, and this fault is known
 pub record HoldsAt (at number : ℕ) (over : Bool) (items : List ℕ) (known : Option Fault) (f : Feed) : Type 0 where
@@ -146,11 +151,11 @@ pub record HasReadTokens (old new : Feed) : Type 0 where
   pub seen : (line : Option LogicalLine) → HoldsSo old old.ready line → scanning_of new ≡ with_line old line
   pub sound : IsSoundFeed new
 
--- what a call that reads the tokens answers and leaves
+-- what a call that reads the tokens answers and leaves, where so many bytes were taken last
 abbrev pub ReadsTokens : Feed → ℕ → Result (Unit {0}) LexError → Feed → Type 0
-ReadsTokens old before (Ok done) new = HasReadTokens old new
-ReadsTokens old before (Err (LexError.Fault f)) new = ⊥
-ReadsTokens old before (Err LexError.Memory) new = DropsLine old before new
+ReadsTokens old taken (Ok done) new = HasReadTokens old new
+ReadsTokens old taken (Err (LexError.Fault f)) new = ⊥
+ReadsTokens old taken (Err LexError.Memory) new = DropsLine old (length old.held.items - taken) new
 
 -- All that is held was scanned, and no line has ended in it. Or it is the line that has ended, with one byte more after CR alone, unless
 -- the line had ended in these bytes of it.
@@ -203,31 +208,6 @@ pub record TakesLine (old : Feed) (piece : List ℕ) (n : ℕ) (new : Feed) : Ty
 abbrev pub TakesSo : Feed → List ℕ → Result ℕ LexError → Feed → Type 0
 TakesSo old piece (Ok n) new = TakesLine old piece n new
 TakesSo old piece (Err error) new = Feeds (scanning_of old) piece (Err error) (scanning_of new) × IsSoundFeed new
-
--- the line with which a piece begins is ready with its tokens, or nothing that contracts see has changed
-abbrev pub TakesSimple : Feed → List ℕ → Result (Option ℕ) LexError → Feed → Type 0
-TakesSimple old piece (Ok (Some n)) new = TakesBytes (scanning_of old) piece n (scanning_of new) × IsSoundFeed new
-TakesSimple old piece (Ok None) new = (scanning_of new ≡ scanning_of old) × (new.ready ≡ None) × IsSoundFeed new
-TakesSimple old piece (Err error) new = Feeds (scanning_of old) piece (Err error) (scanning_of new) × IsSoundFeed new
-
--- the text that ends with what is held has this fault, which is kept
-pub record HasEndFault (old : Feed) (fault : Fault) (new : Feed) : Type 0 where
-  pub text : Holds old old.held.items (Some fault) new
-  pub none_ready : new.ready ≡ None
-  pub lexed : WhereWhole (scanning_of old) (λ text lines. IsLexed text lines (Some fault))
-
--- the text ends with what is held, and has no fault there: the line that stands there, if one does, is its last
-pub record HasEndedText (old new : Feed) : Type 0 where
-  pub text : Holds old old.held.items old.state.fault new
-  pub line : Option LogicalLine
-  pub holds : HoldsSo new new.ready line
-  pub lexed : WhereWhole (scanning_of old) (λ text lines. IsLexed text (lines ++ ready_lines line) None × HoldsLast new.held.items line)
-
--- what a call that ends the text answers and leaves
-abbrev pub EndsText : Feed → Result (Unit {0}) LexError → Feed → Type 0
-EndsText old (Ok done) new = HasEndedText old new
-EndsText old (Err (LexError.Fault f)) new = HasEndFault old f new
-EndsText old (Err LexError.Memory) new = IsUnchanged old new
 
 -- the line that was ready is let go: what is held begins after it, and so does the scan of the next line
 pub record LetsGo (old new : Feed) : Type 0 where

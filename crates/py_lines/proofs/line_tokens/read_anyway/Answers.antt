@@ -6,7 +6,7 @@ use Rattle.py_lines.proofs.PassedPieces.FirstBytes.{first_later}
 use Rattle.py_lines.proofs.LineTokens.FirstCharacters.{OfByte}
 use Rattle.py_lines.proofs.LineTokens.Anyway.{comment_anyway, feed_anyway, operator_anyway, run_some, space_anyway, word_anyway}
 use Rattle.py_lines.proofs.line_tokens.read_anyway.Goals as goal
-use Rattle.py_lines.proofs.line_tokens.read_anyway.Goals.{else-len-rest-via-then-len-rest+else-is_quote, else-len-rest-via-else-len-rest}
+use Rattle.py_lines.proofs.line_tokens.read_anyway.Goals.{Joined-class, in-Hash, in-Operator, in-Word+else-len-rest, else-len-rest-via-then-len-rest+else-is_quote, else-len-rest-via-else-len-rest}
 
 -- some bytes stand there
 some : (bytes : List ℕ) (start : ℕ) → start < length bytes → 0 < length (rest_of bytes start)
@@ -24,30 +24,43 @@ read bytes start {old} {new} {line} {len} {ends} some within few is adds =
     subst (λ l. ReadsAnyway l old start line len ends new) (rest_is bytes start)
     (record { some = some; within = within; few = few; role = _; is = is; adds = adds })
 
-pub returns-in_ok-add_token-in-Word : goal.returns-in_ok-add_token-in-Word
-returns-in_ok-add_token-in-Word c =
+-- what stands there is a token of this kind and length
+first : (c : Joined-class) → let rest = rest_of c.args.bytes.now c.args.start in
+    let k = c.match-class.kind in
+    (0 < k.1) × (k.1 ≤ length rest) × IsFirstAnyway rest (token_piece k.0 k.1 0)
+first c =
     let bytes = c.args.bytes.now in
     let rest = rest_of bytes c.args.start in
-    let len = c.len_in-len.result in
-    let word = told bytes c.args.start c.requires.class c.in-Word.is in
-    let wide = or_left _ _ word in
-    let more = run_some is_wide_word rest len (some bytes c.args.start c.requires.within) wide c.len_in-len.ensures in
-    let other : len < length rest → is_quote (slice_index rest len) ≡ false = elim c.else-len-rest.branch [
-      | else-len-rest-via-then-len-rest+else-is_quote w ↦ λ less. sym w.is_quote.ensures ∙ w.if-is_quote.false
-      | else-len-rest-via-else-len-rest w ↦ λ less. absurd (omega (arith, less, w.if-len-rest.false))
-    ] in
-    read bytes c.args.start more c.len_in-len.ensures.within (omega arith)
-    (subst (λ k. IsFirstAnyway rest (token_piece k len 0)) (sym c.word_kind.ensures) (word_anyway rest len word c.len_in-len.ensures more other))
-    c.in_ok-add_token-in-Word.ensures
+    let any = some bytes c.args.start c.requires.within in
+    let is : TokKind × ℕ → Type 0 = λ k. (0 < k.1) × (k.1 ≤ length rest) × IsFirstAnyway rest (token_piece k.0 k.1 0) in
+    elim c.match-class.branch [
+      | in-Word+else-len-rest w ↦
+          let len = w.len_in-len.result in
+          let word = told bytes c.args.start c.requires.class w.in-Word.is in
+          let more = run_some is_wide_word rest len any (or_left _ _ word) w.len_in-len.ensures in
+          let other : len < length rest → is_quote (slice_index rest len) ≡ false = elim w.else-len-rest.branch [
+            | else-len-rest-via-then-len-rest+else-is_quote v ↦ λ less. sym v.is_quote.ensures ∙ v.if-is_quote.false
+            | else-len-rest-via-else-len-rest v ↦ λ less. absurd (omega (arith, less, v.if-len-rest.false))
+          ] in
+          subst is (sym w.kind-is) (more, w.len_in-len.ensures.within, subst (λ k. IsFirstAnyway rest (token_piece k len 0)) (sym w.word_kind.ensures) (word_anyway rest len word w.len_in-len.ensures more other))
+      | in-Operator w ↦ subst is (sym w.kind-is) (
+        omega arith,
+        omega (arith, any),
+        operator_anyway rest c.args.class (told bytes c.args.start c.requires.class refl) (λ p of.
+            ⊎_elim (λ is. subst (λ k. OfByte k p.class) is of)
+            (⊎_elim (λ is. subst (λ k. OfByte k p.class) is of) (λ is. subst (λ k. OfByte k p.class) is of)) w.in-Operator.is),
+      )
+      | in-Hash w ↦ subst is (sym w.kind-is) (
+        omega arith,
+        omega (arith, any, w.comment_run.ensures.within, ap length (rest_is rest 1), length-drop 1 rest),
+        comment_anyway rest w.comment_run.result (told bytes c.args.start c.requires.class w.in-Hash.is) w.comment_run.ensures,
+      )
+    ]
 
-pub returns-in_ok-add_token-in-Operator : goal.returns-in_ok-add_token-in-Operator
-returns-in_ok-add_token-in-Operator c =
-    let bytes = c.args.bytes.now in
-    read bytes c.args.start (omega arith) (omega (arith, some bytes c.args.start c.requires.within)) (omega arith)
-    (operator_anyway (rest_of bytes c.args.start) c.args.class (told bytes c.args.start c.requires.class refl) (λ p of.
-    ⊎_elim (λ is. subst (λ k. OfByte k p.class) is of)
-    (⊎_elim (λ is. subst (λ k. OfByte k p.class) is of) (λ is. subst (λ k. OfByte k p.class) is of)) c.in-Operator.is))
-    c.in_ok-add_token-in-Operator.ensures
+pub returns : goal.returns
+returns c =
+    let (some, within, is) = first (goal.at.returns c).Joined-class in
+    read c.args.bytes.now c.args.start some within (omega arith) is c.in_ok-add_token.ensures
 
 pub returns-in-Space : goal.returns-in-Space
 returns-in-Space c =
@@ -63,12 +76,3 @@ returns-in-LineFeed c =
     let feed = told bytes c.args.start c.requires.class c.in-LineFeed.is in
     read bytes c.args.start (omega arith) (omega (arith, some bytes c.args.start c.requires.within)) (omega arith) (feed_anyway _ feed)
     (sym (append-nil _))
-
-pub returns-in_ok-add_token-in-Hash : goal.returns-in_ok-add_token-in-Hash
-returns-in_ok-add_token-in-Hash c =
-    let bytes = c.args.bytes.now in
-    let rest = rest_of bytes c.args.start in
-    let hash = told bytes c.args.start c.requires.class c.in-Hash.is in
-    read bytes c.args.start (omega arith)
-    (omega (arith, some bytes c.args.start c.requires.within, c.comment_run-len.ensures.within, ap length (rest_is rest 1), length-drop 1 rest)) (omega arith)
-    (comment_anyway rest c.comment_run-len.result hash c.comment_run-len.ensures) c.in_ok-add_token-in-Hash.ensures

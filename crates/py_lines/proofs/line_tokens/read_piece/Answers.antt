@@ -1,16 +1,15 @@
 use Rattle.std.proofs.lemmas.Grind.{common_steps}
-use Rattle.py_lines.proofs.Prelude.{◌≡◌, ◌+◌, ◌∙◌, ℕ, None, Some, List, true, false, ap, append-nil, arith, drop, le_refl, length, length-drop, refl, slice_index, subst, sym, ⊎_elim, MatchOption, nat_le, both_ways, or_left, or_right, take_all, Piece, Token, nat_tests, rest_is, rest_of, is_of_class}
+use Rattle.py_lines.proofs.Prelude.{◌≡◌, ◌+◌, ◌∙◌, ℕ, None, Some, List, true, false, ap, append-nil, arith, drop, le_refl, length, length-drop, refl, slice_index, subst, sym, ⊎_elim, MatchOption, TokKind, nat_le, both_ways, or_left, or_right, take_all, Piece, Token, nat_tests, rest_is, rest_of, is_of_class}
 use Rattle.py_lines.specs.declared.class.Class.{Class as ByteClass}
 use Rattle.py_lines.specs.declared.class.Class.TheVariants as class
-use Rattle.py_lines.specs.declared.token.TokKind.TheVariants as kind
-use Rattle.py_lines.specs.Private.LineTokens.{AddsPiece, BeginWithPiece, IsFirstPiece, ReadsAnyway, ReadsPiece, StaysUnread, is_simple}
+use Rattle.py_lines.specs.Private.LineTokens.{AddsPiece, BeginWithPiece, IsFirstPiece, ReadsAnyway, ReadsPiece, StaysUnread, is_simple, token_piece}
 use Rattle.py_lines.specs.Private.Run.{is_ascii_word, is_wide_word}
 use Rattle.py_lines.proofs.LineTokens.Anyway.{begins_from, piece_read}
 use Rattle.py_lines.proofs.LineTokens.FirstCharacters.{class_is, class_told, some_bytes}
 use Rattle.py_lines.proofs.LineTokens.FirstPieces.{join_taken, line_end_taken}
 use Rattle.py_lines.proofs.LineTokens.FirstString.{first_within}
 use Rattle.py_lines.proofs.line_tokens.read_piece.Goals as goal
-use Rattle.py_lines.proofs.line_tokens.read_piece.Goals.{After-of-class, In_default, In-Some}
+use Rattle.py_lines.proofs.line_tokens.read_piece.Goals.{After-of-class, In_default, In-Some, Joined-class, in-Quote, in-Word}
 
 -- the piece, as a slice has the bytes
 there : (c : After-of-class) → (p : Piece) × BeginWithPiece (rest_of c.args.text.now c.args.start) p
@@ -34,33 +33,37 @@ returns-in-Some c =
       adds = r.adds;
     }
 
-pub word_or_string-kind-requires-clause-word : goal.word_or_string-kind-requires-clause-word
-word_or_string-kind-requires-clause-word c =
+pub word_or_string-requires-clause-word : goal.word_or_string-requires-clause-word
+word_or_string-requires-clause-word c =
     let rest = rest_of c.args.text.now c.args.start in
     let first = slice_index rest 0 in
     let told = c.of-class.ensures in
-    begins_from is_wide_word rest (some_bytes rest (there (goal.at.word_or_string-kind-requires-clause-word c).After-of-class))
+    begins_from is_wide_word rest (some_bytes rest (there (goal.at.word_or_string-requires-clause-word c).After-of-class))
     (⊎_elim (λ is. or_left (is_ascii_word first) (nat_le 128 first) (ap (λ k. is_of_class k first) (sym is) ∙ told))
     (λ is. or_right (is_ascii_word first) (nat_le 128 first) (ap (λ k. is_of_class k first) (sym is) ∙ told)) c.in-Word.is)
 
-pub word_or_string-kind-requires-clause-piece : goal.word_or_string-kind-requires-clause-piece
-word_or_string-kind-requires-clause-piece c = there (goal.at.word_or_string-kind-requires-clause-piece c).After-of-class
+pub word_or_string-requires-clause-piece : goal.word_or_string-requires-clause-piece
+word_or_string-requires-clause-piece c = there (goal.at.word_or_string-requires-clause-piece c).After-of-class
+
+-- what stands there is a token of this kind, with so many bytes and line ends
+first : (c : Joined-class) → IsFirstPiece (rest_of c.args.text.now c.args.start) (token_piece c.match-class.kind.0 c.match-class.kind.1 c.match-class.kind.2)
+first c =
+    let is : TokKind × ℕ × ℕ → Type 0 = λ k. IsFirstPiece (rest_of c.args.text.now c.args.start) (token_piece k.0 k.1 k.2) in
+    elim c.match-class.branch [
+      | in-Word w ↦ subst is (sym w.kind-is) w.word_or_string.ensures
+      | in-Quote w ↦ subst is (sym w.kind-is) w.string_len-len.ensures
+    ]
 
 pub add_token-requires : goal.add_token-requires
 add_token-requires c =
     let (text, start) : _ × _ = (c.args.text.now, c.args.start) in
-    omega (arith, c.well_formed, first_within (there (goal.at.add_token-requires c).After-of-class) c.word_or_string-kind.ensures, ap length (rest_is text start), length-drop start text)
+    omega (arith, c.well_formed, first_within (there (goal.at.add_token-requires c).After-of-class) (first (goal.at.add_token-requires c).Joined-class), ap length (rest_is text start), length-drop start text)
 
 pub string_len-len-requires-clause-piece : goal.string_len-len-requires-clause-piece
 string_len-len-requires-clause-piece c = there (goal.at.string_len-len-requires-clause-piece c).After-of-class
 
 pub string_len-len-requires-clause-string : goal.string_len-len-requires-clause-string
 string_len-len-requires-clause-string c = λ p b. class_is b c.of-class.ensures c.in-Quote.is
-
-pub add_token-requires-in-Quote : goal.add_token-requires-in-Quote
-add_token-requires-in-Quote c =
-    let (text, start) : _ × _ = (c.args.text.now, c.args.start) in
-    omega (arith, c.well_formed, first_within (there (goal.at.add_token-requires-in-Quote c).After-of-class) c.string_len-len.ensures, ap length (rest_is text start), length-drop start text)
 
 -- a byte of no other class begins a piece that isn't read before
 leftover : (k : ByteClass) (bytes : List ℕ) (p : Piece) → BeginWithPiece bytes p → is_of_class k (slice_index bytes 0) ≡ true → is_simple k ≡ false
@@ -97,26 +100,13 @@ returns-in-Return c =
       adds = (unread (goal.at.returns-in-Return c).In_default).1 ∙ sym (append-nil _);
     })
 
-pub returns-in_ok-add_token-in-Word : goal.returns-in_ok-add_token-in-Word
-returns-in_ok-add_token-in-Word c =
-    let (text, start) : _ × _ = (c.args.text.now, c.args.start) in
-    let k = c.word_or_string-kind.result in
+pub returns : goal.returns
+returns c =
+    let (text, start, k) : _ × _ × _ = (c.args.text.now, c.args.start, c.match-class.kind) in
     subst (λ l. ReadsPiece l c.args.tokens.now.items start c.args.line k.1 k.2 c.add_token.new.tokens.items) (rest_is text start) (record {
       role = Some k.0;
-      is = c.word_or_string-kind.ensures;
-      adds = subst (λ (t : List Token). AddsPiece t (Some k.0) start (start + k.1) c.args.line c.add_token.new.tokens.items)
-          (unread (goal.at.returns-in_ok-add_token-in-Word c).In_default).1 c.in_ok-add_token-in-Word.ensures;
-    })
-
-pub returns-in_ok-add_token-in-Quote : goal.returns-in_ok-add_token-in-Quote
-returns-in_ok-add_token-in-Quote c =
-    let (text, start) : _ × _ = (c.args.text.now, c.args.start) in
-    let r = c.string_len-len.result in
-    subst (λ l. ReadsPiece l c.args.tokens.now.items start c.args.line r.0 r.1 c.add_token-in-Quote.new.tokens.items) (rest_is text start) (record {
-      role = Some kind.Str;
-      is = c.string_len-len.ensures;
-      adds = subst (λ (t : List Token). AddsPiece t (Some kind.Str) start (start + r.0) c.args.line c.add_token-in-Quote.new.tokens.items)
-          (unread (goal.at.returns-in_ok-add_token-in-Quote c).In_default).1 c.in_ok-add_token-in-Quote.ensures;
+      is = first (goal.at.returns c).Joined-class;
+      adds = subst (λ (t : List Token). AddsPiece t (Some k.0) start (start + k.1) c.args.line c.add_token.new.tokens.items) (unread (goal.at.returns c).In_default).1 c.in_ok-add_token.ensures;
     })
 
 pub read_anyway-requires-clause-class : goal.read_anyway-requires-clause-class

@@ -1,6 +1,6 @@
 use Rattle.std.proofs.lemmas.Grind.{common_steps}
-use Rattle.py_lines.proofs.Prelude.{◌≡◌, ◌≤◌, ℕ, ◌+◌, ◌-◌, ◌==◌, Ok, sym, ap, ◌∙◌, subst, arith, is_some, length, length-take, get_or_default_zero, vec_len, byte_len}
-use Rattle.py_lines.specs.Private.Feed.{Feed, Meets, Stop, StopsHeld}
+use Rattle.py_lines.proofs.Prelude.{◌≡◌, ◌≤◌, ℕ, ◌+◌, ◌-◌, ◌==◌, sym, ap, ◌∙◌, arith, is_some, length, length-take, get_or_default_zero, byte_len}
+use Rattle.py_lines.specs.Private.Feed.{Stop, StopsHeld}
 use Rattle.py_lines.specs.Settled.{IsHopeless}
 use Rattle.py_lines.proofs.Readers.LineAnswers.{all_within}
 use Rattle.py_lines.proofs.Readers.LineFaults.{refused_within}
@@ -88,12 +88,11 @@ returns-in-Err-clause-meets c = let (s, (at, never)) = hopeless (goal.at.returns
 pub returns-in_default-clause-meets : goal.returns-in_default-clause-meets
 returns-in_default-clause-meets c =
     let f = c.args.self.now in let s = left (goal.at.returns-in_default-clause-meets c).In-TextEnd in
-    let (same, more) : (c.in_default.self ≡ f) × ¬ (IsHopeless s.rest) = elim c.in_default.branch [
-      | in_default-via-in-Err+else-is_some w ↦ (w.self-is, part_held f s _ c.deref.ensures.value (tells_part _ _ _ w.in-Err.ensures.cases.1 w.in-Err.ensures.fault (ap is_some (sym w.error_len.ensures) ∙ sym w.is_some.ensures ∙ w.if-is_some.false)))
-      | in_default-via-in_default w ↦ (w.self-is, part_held f s _ c.deref.ensures.value (tells_ok _ (rw w.in_default.is at c.from_utf8.ensures.cases).1))
+    let more : ¬ (IsHopeless s.rest) = elim c.in_default.branch [
+      | in_default-via-in-Err+else-is_some w ↦ part_held f s _ c.deref.ensures.value (tells_part _ _ _ w.in-Err.ensures.cases.1 w.in-Err.ensures.fault (ap is_some (sym w.error_len.ensures) ∙ sym w.is_some.ensures ∙ w.if-is_some.false))
+      | in_default-via-in_default w ↦ part_held f s _ c.deref.ensures.value (tells_ok _ (rw w.in_default.is at c.from_utf8.ensures.cases).1)
     ] in
-    subst (Meets f c.args.before (Ok (c.len-in_default.result - c.args.before))) (sym same)
-    (stays_open f c.args.before c.requires.within _ (omega (arith, c.len-in_default.ensures, ap (λ (x : Feed). vec_len x.held) same)) c.requires.not_ready (s, more))
+    stays_open f c.args.before c.requires.within _ (omega (arith, c.len-in_default.ensures)) c.requires.not_ready (s, more)
 
 pub returns-in-Wrong-clause-meets : goal.returns-in-Wrong-clause-meets
 returns-in-Wrong-clause-meets c =
@@ -108,11 +107,7 @@ overflow_sub-result c = omega (arith, c.requires.within, c.len.ensures, ap lengt
 
 pub overflow_sub-result-in_default : goal.overflow_sub-result-in_default
 overflow_sub-result-in_default c =
-    let same : c.in_default.self ≡ c.args.self.now = elim c.in_default.branch [
-      | in_default-via-in-Err+else-is_some w ↦ w.self-is
-      | in_default-via-in_default w ↦ w.self-is
-    ] in
-    omega (arith, c.len-in_default.ensures, ap (λ (x : Feed). vec_len x.held) same, c.requires.within)
+    omega (arith, c.len-in_default.ensures, c.requires.within)
 
 pub overflow_add-place : goal.overflow_add-place
 overflow_add-place c = let (s, (at, never)) = hopeless c in omega (arith, (within_held c.args.self.now s.read s.rest s.spell _ (all_within s.read _ at)).0, c.requires.room.fits)

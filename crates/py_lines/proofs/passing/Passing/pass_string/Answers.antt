@@ -1,9 +1,11 @@
-use Rattle.py_lines.proofs.Prelude.{◌+◌, ◌∙◌, Some, ap, arith, drop, get_or-drop, length-drop, refl, slice_index, subst, sym, true, false, length, ◌<◌, ◌≡◌, both_ways, drop-drop, rest_is}
+use Rattle.py_lines.proofs.Prelude.{◌+◌, ◌≤◌, ◌∙◌, List, ℕ, Frame, rest_of, Some, ap, arith, drop, get_or-drop, length-drop, refl, slice_index, subst, sym, true, false, length, ◌<◌, ◌≡◌, both_ways, drop-drop, rest_is}
+use Rattle.py_lines.specs.Private.FieldText.{HasText}
 use Rattle.py_lines.specs.Private.LongStrings.{TakesLong}
 use Rattle.py_lines.specs.Private.Marks.{HasMarks}
 use Rattle.py_lines.specs.Private.Passing.{MeetsString, TellsFields, word_before}
 use Rattle.py_lines.specs.Private.Scan.{passed, quotes_in}
-use Rattle.py_lines.proofs.PassedPieces.Counts.{plain_counts, quoted_counts}
+use Rattle.py_lines.proofs.PassedPieces.Counts.{line_counts, plain_counts, quoted_counts}
+use Rattle.py_lines.proofs.PassedPieces.FieldStrings.{field_over}
 use Rattle.py_lines.proofs.PassedPieces.FirstBytes.{bytes_from, first_later, quotes_fit}
 use Rattle.py_lines.proofs.PassedPieces.Items.{empty_over, long_over}
 use Rattle.py_lines.proofs.PassedPieces.Passed.{passes_same}
@@ -19,13 +21,6 @@ meets c = record {
   many = ap Some (sym c.in-Some-eq1.field-0-test) ∙ sym c.in-Some-eq1.is ∙ c.quotes_len.ensures ∙ ap quotes_in (rest_is c.args.bytes.now c.args.at);
 }
 
-pub pass_fields-requires : goal.pass_fields-requires
-pass_fields-requires c = record {
-  quote = meets (goal.at.pass_fields-requires c).In-Some-eq1;
-  fields = subst (λ b. TellsFields (word_before c.args.bytes.now c.args.at c.args.self.now) (Some b)) c.in-Some-true.field-0-test
-      c.in-Some-true.ensures;
-}
-
 pub pass_text-requires : goal.pass_text-requires
 pass_text-requires c = record {
   quote = meets (goal.at.pass_text-requires c).In-Some-eq1;
@@ -33,8 +28,47 @@ pass_text-requires c = record {
       c.in-Some-false.ensures;
 }
 
-pub returns-in-Some-true : goal.returns-in-Some-true
-returns-in-Some-true c = record { passed = c.pass_fields.ensures.passed; same = c.pass_fields.ensures.same }
+-- so many bytes and one more stand there
+more_there : (bytes : List ℕ) (from n : ℕ) → n ≤ length (rest_of bytes from) → (n ≡ length (rest_of bytes from) → ⊥) → from + n < length bytes
+more_there bytes from n within less = omega (arith, within, less, ap length (rest_is bytes from), length-drop from bytes)
+
+pub returns-else-text-len : goal.returns-else-text-len
+returns-else-text-len c =
+    let bytes = c.args.bytes.now in
+    let at = c.args.at in
+    let old = c.args.self.now in
+    let next = c.requires.next in
+    let here = c.requires.within in
+    let n = c.text_len-len.result in
+    let q = slice_index bytes at in
+    let has = c.text_len-len.ensures in
+    let (text, within, last) = subst (λ (xs : List ℕ). HasText q xs n × (n < length xs) × (slice_index xs n ≡ q)) (rest_is bytes (at + 1))
+    (has, omega (arith, c.if-len-text.false, has.0), c.if-text-len.false) in
+    let room : at + 1 + n < length bytes = omega (arith, within, length-drop (at + 1) bytes) in
+    let many = (meets (goal.at.returns-else-text-len c).In-Some-eq1).many in
+    let fields = subst (λ b. TellsFields (word_before bytes at old) (Some b)) c.in-Some-true.field-0-test c.in-Some-true.ensures in
+    record {
+      passed = λ _ place. passes_same bytes at old next here _ c.args.frames.now (1 + (n + 1)) place (omega arith)
+          (omega (arith, room)) (omega arith) refl
+          (ap (λ m. old.ends + m) (quoted_counts bytes at (at + 1 + n) _ (omega arith) here room c.requires.quote
+          (sym (get_or-drop (at + 1) bytes n 0) ∙ last) (line_counts bytes (at + 1) n text.1.low)))
+          (c.pass.ensures (at + 1) (next.rest here) (omega arith))
+          (λ scan p frames. field_over p q (next.special here) _ n c.requires.quote fields
+          (omega (arith, ap (λ (fs : List Frame). length fs) frames, c.len.ensures.is, c.if-len-gt10.false))
+          (many ∙ ap quotes_in (bytes_from bytes at here)) text within last);
+      same = λ h. absurd (both_ways true h refl);
+    }
+
+pub returns-then-len-gt10 : goal.returns-then-len-gt10
+returns-then-len-gt10 c = record { passed = λ so. absurd (both_ways false refl so); same = λ _. refl }
+
+pub pass-requires : goal.pass-requires
+pass-requires c =
+    let room = more_there c.args.bytes.now (c.args.at + 1) c.text_len-len.result c.text_len-len.ensures.0 c.if-len-text.false in
+    record { base = omega (arith, (c.requires.next.held c.requires.within).0); within = omega (arith, room) }
+
+pub bounds-text-len : goal.bounds-text-len
+bounds-text-len c = grind arith
 
 pub returns-in-Some-false : goal.returns-in-Some-false
 returns-in-Some-false c = record { passed = λ so place. c.pass_text.ensures.passed so place c.args.frames.now; same = c.pass_text.ensures.same }
@@ -88,15 +122,15 @@ returns-in-Some-eq2 c =
           (omega (arith, two.0, length-drop at bytes)) refl refl
           (ap (λ n. c.args.self.now.ends + n) (quoted_counts bytes at (at + 1) (at + 2) (omega arith) c.requires.within
           (omega (arith, two.0, length-drop at bytes)) c.requires.quote (sym (get_or-drop at bytes 1 0) ∙ two.1 ∙ first_later bytes at) refl))
-          (c.pass.ensures (at + 1) (next.rest c.requires.within) (omega arith))
+          (c.pass-in-Some-eq2.ensures (at + 1) (next.rest c.requires.within) (omega arith))
           (λ scan p frames. empty_over p q (next.special c.requires.within) c.requires.quote (drop (at + 1) bytes)
           (told all ∙ ap quotes_in (bytes_from bytes at c.requires.within)));
       same = λ h. absurd (both_ways true h refl);
     }
 
-pub pass-requires : goal.pass-requires
-pass-requires c =
-    let two = two_quotes (goal.at.pass-requires c).In-Some-eq2 in
+pub pass-requires-in-Some-eq2 : goal.pass-requires-in-Some-eq2
+pass-requires-in-Some-eq2 c =
+    let two = two_quotes (goal.at.pass-requires-in-Some-eq2 c).In-Some-eq2 in
     record {
       base = omega (arith, (c.requires.next.held c.requires.within).0);
       within = omega (arith, two.0, length-drop c.args.at c.args.bytes.now);

@@ -1,8 +1,8 @@
-use Rattle.py_lines.proofs.Prelude.{rules, take, length-take, arith, sym, subst, ap, ◌∙◌, length-take-le, line_ends}
+use Rattle.py_lines.proofs.Prelude.{◌≡◌, ℕ, rules, take, length-take, arith, sym, subst, ap, ◌∙◌, length-take-le, line_ends}
 use Rattle.py_lines.specs.ScannerState.{PassesPieceLines, ScannerState, StandsAtLine}
 use Rattle.py_lines.specs.Private.LineState.{BeginsAnew}
-use Rattle.py_lines.specs.Private.Feed.{Feed, IsSoundFeed, LineState, scanning_of}
-use Rattle.py_lines.proofs.Feeds.PassedLines.{began_with, begun_none, end_within, none_found, passed}
+use Rattle.py_lines.specs.Private.Feed.{Feed, IsSoundFeed, LineState, StandsBefore, scanning_of}
+use Rattle.py_lines.proofs.Feeds.PassedLines.{begun_none, end_within, none_found, passed}
 use Rattle.py_lines.proofs.Feeds.LastBytes.{ends_with_return, one_most}
 use Rattle.py_lines.proofs.LineScan.LineCount.{few_first}
 use Rattle.py_lines.proofs.Text.LineEnds.{line_ends-encoded}
@@ -26,34 +26,34 @@ none_passed : (c : goal.After-restart) → StandsAtLine (scanning_of c.self.insi
 none_passed c at = begun_none c.self.inside.feed c.extend_from_slice.new.self c.restart.new.self c.pass_lines-len.new.self at (search rules) c.restart.ensures c.args.bytes.now c.args.before c.self.invariant
 
 pub invariant_of-self : goal.invariant_of-self
-invariant_of-self c = (none_passed c (c.stands_at_line.ensures c.if-not-stands_at_line.false)).1
+invariant_of-self c = (none_passed c c.in-Some.ensures.stands).1
 
 pub returns-then-is_err : goal.returns-then-is_err
 returns-then-is_err c = record {
   passes = subst (λ s. PassesPieceLines s c.args.bytes.now c.args.before 0 (scanning_of (record c.self.inside.feed { held = c.extend_from_slice.new.self; state = c.restart.new.self })))
-      c.self.view_is (none_passed c (c.stands_at_line.ensures c.if-not-stands_at_line.false)).0;
+      c.self.view_is (none_passed c c.in-Some.ensures.stands).0;
 }
 
 -- lines were passed, if any were found
-some_passed : (c : goal.After-restart-2) → StandsAtLine (scanning_of c.self.inside.feed)
+some_passed : (c : goal.After-restart-2) {held : ℕ} → StandsBefore c.self.inside.feed c.args.bytes.now held
     → let new : Feed = record c.self.inside.feed { held = c.drop-drain.new.self.0; state = c.restart-2.new.self } in
     PassesPieceLines (scanning_of c.self.inside.feed) c.args.bytes.now c.args.before c.pass_lines-len.result.0 (scanning_of new) × IsSoundFeed new
 some_passed c at =
     let f = c.self.inside.feed in let bytes = c.args.bytes.now in let lines = c.pass_lines-len.ensures.lines in
-    let began = began_with bytes f.held.items c.deref.result.now c.starts_with.result c.deref.ensures.value c.starts_with.ensures.value c.if-not-starts_with.false in
-    passed f bytes c.args.before c.min.result c.pass_lines-len.result.0 at began c.min.ensures lines c.drop-drain.new.self.0
+    let began = subst (λ n. take n bytes ≡ f.held.items) at.size at.began in
+    passed f bytes c.args.before c.min.result c.pass_lines-len.result.0 at.stands began c.min.ensures lines c.drop-drain.new.self.0
     c.ends_with.result c.ends_with.ensures.value (search rules)
     (c.pass_lines-len.ensures.ends ∙ ap line_ends (sym lines.spell) ∙ line_ends-encoded lines.read)
     (subst (λ (s : LineState). BeginsAnew s c.restart-2.new.self) c.pass.ensures c.restart-2.ensures)
     (omega (arith, c.requires.fits, ap (λ (s : ScannerState). s.place) c.self.view_is)) c.self.invariant
 
 pub invariant_of-self-2 : goal.invariant_of-self-2
-invariant_of-self-2 c = (some_passed c (c.stands_at_line.ensures c.if-not-stands_at_line.false)).1
+invariant_of-self-2 c = (some_passed c c.in-Some.ensures).1
 
 pub returns : goal.returns
 returns c = record {
   passes = subst (λ s. PassesPieceLines s c.args.bytes.now c.args.before c.pass_lines-len.result.0 (scanning_of (record c.self.inside.feed { held = c.drop-drain.new.self.0; state = c.restart-2.new.self })))
-      c.self.view_is (some_passed c (c.stands_at_line.ensures c.if-not-stands_at_line.false)).0;
+      c.self.view_is (some_passed c c.in-Some.ensures).0;
 }
 
 pub slice_bounds-clear-end : goal.slice_bounds-clear-end
@@ -80,8 +80,8 @@ drain-requires-clause-not_exhausted c = tt
 pub pass-requires : goal.pass-requires
 pass-requires c = omega (arith, c.pass_lines-len.ensures.lines.within, length-take c.min.result c.args.bytes.now, c.requires.fits, ap (λ (s : ScannerState). s.place) c.self.view_is)
 
-pub returns-then-not-stands_at_line : goal.returns-then-not-stands_at_line
-returns-then-not-stands_at_line c = record { passes = none_found c.args.self.now c.args.bytes.now c.args.before }
+pub returns-in_default : goal.returns-in_default
+returns-in_default c = record { passes = none_found c.args.self.now c.args.bytes.now c.args.before }
 
 pub drain-requires-clause-in_bounds : goal.drain-requires-clause-in_bounds
 drain-requires-clause-in_bounds c = grind arith

@@ -1,7 +1,7 @@
 use Rattle.py_lines.proofs.Prelude.{not, ap, ◌∙◌, ◌≡◌, ℕ, ◌<◌, true, false, Option, None, Some, List, length, ⊎_elim, arith, is_some, cases_lt}
 use Rattle.memchr.specs.Find.{FindsNeedle}
 use Rattle.py_lines.specs.ScannerState.{LacksWord}
-use Rattle.py_lines.proofs.scanner.lacks_both.Goals as goal
+use Rattle.py_lines.proofs.feed.lacks_both.Goals as goal
 
 -- whether one is found: the empty word stands before the first byte
 tells : (bytes word : List ℕ) (r : Option ℕ) → 0 < length bytes → FindsNeedle bytes word 0 r → (is_some r ≡ false → LacksWord bytes word) × (is_some r ≡ true → ¬ (LacksWord bytes word))
