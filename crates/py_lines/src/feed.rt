@@ -66,10 +66,7 @@ impl Feed {
         };
         let stop = self.state.scan.stop;
         let line = self.state.line;
-        let read = self.state.read_line(&self.held[..stop], end_len, line);
-        // The scan was lent for the strings of the line.
-        self.state.scan.stop = stop;
-        match read {
+        match self.state.read_line(&self.held[..stop], end_len, line) {
             Ok(line) => {
                 self.next_line = line;
                 Ok(())
@@ -212,10 +209,8 @@ impl Feed {
             return Err(LexError::Fault(fault));
         }
         if !self.held.is_empty() {
-            match self.state.scan_line(&self.held) {
-                Ok(end_len) => self.ready = Some(end_len),
-                Err(line_fault) => return Err(self.state.fail(line_fault, &self.held)),
-            }
+            let end_len = self.state.scan_line(&self.held)?;
+            self.ready = Some(end_len);
         }
         self.read_tokens(0)?;
         self.ended = true;

@@ -37,8 +37,8 @@ pub struct LineState {
 }
 
 impl LineState {
-    ghost use Rattle.py_lines.specs.Private.LineState.{BeginsAnew, BeginsAt, HoldsTokens, IsLineAfter, IsLineText, KeepsFault, ReadsLine, ScansLine};
-    ghost use Rattle.py_lines.specs.Private.LineState.{first_mode, passed, reread, rescanned};
+    ghost use Rattle.py_lines.specs.Private.LineState.{BeginsAnew, BeginsAt, GivesNext, HoldsTokens, IsLineAfter, IsLineText, KeepsFault, ReadsLine, ScansLine};
+    ghost use Rattle.py_lines.specs.Private.LineState.{first_mode, passed, reread};
 
     /// At this byte of a text, which is on this line. Nothing of the next line is read.
     pub fn at(alloc: Global, place: u64, line: u64) -> LineState
@@ -80,37 +80,65 @@ impl LineState {
         if self.place == 0 {
             return Ok(None);
         }
-        self.scan.restart(Mode::Free);
-        read_simple_line(&mut self.scan, &mut self.tokens, bytes, self.line)
+        let scan = &mut self.scan;
+        scan.restart(Mode::Free);
+        read_simple_line(scan, &mut self.tokens, bytes, self.line)
     }
 
-    /// Scans the line with which the last bytes of a text begin, up to its end or the text's: how many bytes its line end has, or what is wrong.
-    pub fn scan_line(&mut self, bytes: &[u8]) -> Result<usize, LineFault>
-        requires { 0 < length bytes.now }
-        ensures same { self.new ≡ rescanned self.old self.new }
-        ensures scans { ScansLine self.old bytes.now result self.new.scan.stop }
+    /// Scans the line with which the last bytes of a text begin, up to its end or the text's: how many bytes its line end has. The error is the
+    /// text's fault.
+    pub fn scan_line(&mut self, bytes: &[u8]) -> Result<usize, LexError>
+        requires some { 0 < length bytes.now }
+        requires places { self.old.place + length bytes.now < 2 ^ 64 }
+        requires lines { self.old.line + length bytes.now < 2 ^ 64 }
+        ensures { ScansLine self.old bytes.now result self.new }
     {
-        self.scan.restart(first_mode(self.place));
-        match self.scan.extend(bytes) {
+        let scan = &mut self.scan;
+        scan.restart(first_mode(self.place));
+        let scanned = match scan.extend(bytes) {
             Stop::LineEnd(len) => Ok(len),
             Stop::TextEnd => {
-                let scanned = self.scan.stop;
-                self.scan.end(&bytes[scanned..])
+                let stop = scan.stop;
+                scan.end(&bytes[stop..])
             }
             Stop::Wrong(line_fault) => Err(line_fault),
+        };
+        match scanned {
+            Ok(end_len) => Ok(end_len),
+            Err(line_fault) => Err(self.fail(line_fault, bytes)),
         }
     }
 
+    /// Reads the line with which the last bytes of a text begin, with its tokens: how many bytes its line end has, and the line after it. The
+    /// scan stops after it. The error is the text's fault, or there was no memory for the tokens.
+    pub fn read_next(&mut self, bytes: &[u8]) -> Result<(usize, u64), LexError>
+        requires some { 0 < length bytes.now }
+        requires places { self.old.place + length bytes.now < 2 ^ 64 }
+        requires lines { self.old.line + length bytes.now < 2 ^ 64 }
+        ensures { GivesNext self.old bytes.now result self.new }
+    {
+        if let Some(read) = self.read_simple(bytes)? {
+            return Ok(read);
+        }
+        let end_len = self.scan_line(bytes)?;
+        let stop = self.scan.stop;
+        let after = self.read_line(&bytes[..stop], end_len, self.line)?;
+        Ok((end_len, after))
+    }
+
     /// Reads the tokens of a whole logical line without fault, which has this text and begins on this line: the line after it. Its last
-    /// `end_len` bytes are its line end. The scan is lent for its strings. Without memory nothing is said of the tokens that are held.
+    /// `end_len` bytes are its line end. The scan is lent for its strings, and stops where it did. Without memory nothing is said of that, and
+    /// of the tokens that are held.
     pub fn read_line(&mut self, text: &[u8], end_len: usize, line: u64) -> Result<u64, AllocError>
         requires text { IsLineText text.now end_len }
         requires lines { line + length text.now < 2 ^ 64 }
         ensures same { self.new ≡ reread self.old self.new }
+        ensures stop { OnOk result (self.new.scan.stop ≡ self.old.scan.stop) }
         ensures tokens { OnOk result (HoldsTokens text.now end_len line self.new.tokens.items) }
         ensures after { IfOk result (IsLineAfter line text.now end_len) }
     {
         let LineState { scan, tokens, .. } = self;
+        let stop = scan.stop;
         tokens.clear();
         let mut start = mark_len(text);
         let mut line_here = line;
@@ -120,6 +148,7 @@ impl LineState {
             line_here += line_ends;
             start += piece;
         }
+        scan.stop = stop;
         Ok(line_here + (end_len > 0) as u64)
     }
 

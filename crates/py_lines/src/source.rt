@@ -23,7 +23,7 @@ pub struct Source<'t> {
 
 impl<'t> Source<'t> {
     ghost use Rattle.std.specs.Prelude.{◌≡◌, OnOk};
-    ghost use Rattle.py_lines.specs.Private.Source.{Advances, HasNextOf, HasTokens, IsLine, IsOutlineNext, LeavesNext, ReadsNextLine, ScansNext, outline_in};
+    ghost use Rattle.py_lines.specs.Private.Source.{Advances, HasNextOf, HasTokens, IsLine, IsOutlineNext, ReadsNextLine, outline_in};
     ghost use Rattle.py_lines.specs.Private.Source.{reader_of};
 
     /// The next line, up to where the scan has stopped after it, with so many bytes of line end.
@@ -37,18 +37,6 @@ impl<'t> Source<'t> {
         Line::of(text, state.place, state.line, end_len)
     }
 
-    /// Scans the next line: how many bytes its line end has. It is not passed yet.
-    fn scan(&mut self) -> Result<usize, LexError>
-        requires { LeavesNext self.old }
-        ensures { ScansNext self.old result self.new }
-    {
-        let rest = &self.bytes[self.state.place as usize..];
-        match self.state.scan_line(rest) {
-            Ok(end_len) => Ok(end_len),
-            Err(line_fault) => Err(self.state.fail(line_fault, rest)),
-        }
-    }
-
     /// Passes the next line, if there is one, without its tokens.
     pub fn pass_line(&mut self) -> Result<Option<Line<'t>>, LexError>
         ensures { ReadsNextLine (reader_of self.old) result (reader_of self.new) }
@@ -56,10 +44,11 @@ impl<'t> Source<'t> {
         if let Some(fault) = self.state.fault {
             return Err(LexError::Fault(fault));
         }
-        if self.state.place as usize == self.bytes.len() {
+        let place = self.state.place as usize;
+        if place == self.bytes.len() {
             return Ok(None);
         }
-        let end_len = self.scan()?;
+        let end_len = self.state.scan_line(&self.bytes[place..])?;
         let line = self.line(end_len);
         let after = line.line + line_ends(line.text.as_bytes());
         self.state.pass(line.text.len(), after);
@@ -87,7 +76,7 @@ impl<'t> Source<'t> {
 
     /// Reads the next line with its tokens, and passes it, if there is one.
     pub fn advance(&mut self) -> Result<Option<Line<'t>>, LexError>
-        ensures { Advances self.old result self.new }
+        ensures { Advances (reader_of self.old) result (reader_of self.new) self.new.state.tokens.items }
     {
         if let Some(fault) = self.state.fault {
             return Err(LexError::Fault(fault));
@@ -96,15 +85,8 @@ impl<'t> Source<'t> {
         if place == self.bytes.len() {
             return Ok(None);
         }
-        if let Some((end_len, after)) = self.state.read_simple(&self.bytes[place..])? {
-            let line = self.line(end_len);
-            self.state.pass(line.text.len(), after);
-            return Ok(Some(line));
-        }
-        let end_len = self.scan()?;
+        let (end_len, after) = self.state.read_next(&self.bytes[place..])?;
         let line = self.line(end_len);
-        let text = line.text.as_bytes();
-        let after = self.state.read_line(text, line.end_len, line.line)?;
         self.state.pass(line.text.len(), after);
         Ok(Some(line))
     }

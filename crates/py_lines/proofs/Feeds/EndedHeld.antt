@@ -1,21 +1,15 @@
 -- The text ends with what is held: its last line, or the fault that stands there.
-use Rattle.py_lines.proofs.Prelude.{◌≡◌, ℕ, ◌+◌, ◌<◌, ⊎_elim, true, None, Some, Err, List, [], ◌∷◌, ◌++◌, length, refl, sym, ap, ◌∙◌, subst, append-nil, arith, Option, drop, length-drop, encode_utf8_all, length-append, length-take-le, take, take-append-drop, take_all, LogicalLine, byte_len, spelled, AreFirstLines, byte_len-append}
+use Rattle.py_lines.proofs.Prelude.{◌≡◌, ℕ, ◌+◌, ◌<◌, ⊎_elim, true, None, Some, Err, List, [], ◌∷◌, ◌++◌, length, refl, sym, ap, ◌∙◌, subst, append-nil, arith, Option, drop, length-drop, encode_utf8_all, length-append, length-take-le, take-append-drop, take_all, LogicalLine, byte_len, spelled, AreFirstLines, byte_len-append}
 use Rattle.py_lines.specs.Lexed.{IsLexed}
 use Rattle.py_lines.specs.ScannerState.{HoldsLast, IsScanning, WhereWhole, fed_of, EndsFaulty, EndsScan, Finishes, ScannerState, ready_lines}
-use Rattle.py_lines.specs.Private.LineState.{HasNextFault, HasNextLine, IsFaultAfter, rescanned}
-use Rattle.py_lines.specs.Private.Feed.{Fault, HasRoom, HoldsLine, IsHeldOpen, Holds, HasReadTokens, HoldsSo, IsSoundFeed, ReadsTokens, StandsSo, with_line, LexError, LineFault, LineState, Scan, Feed, scanning_of, ready_of}
+use Rattle.py_lines.specs.Private.LineState.{HasNextLine, ScansLine}
+use Rattle.py_lines.specs.Private.Feed.{Fault, HasRoom, HoldsLine, IsHeldOpen, Holds, HasReadTokens, HoldsSo, IsSoundFeed, ReadsTokens, StandsSo, with_line, LexError, LineState, Scan, Feed, scanning_of, ready_of}
 use Rattle.py_lines.proofs.Feeds.Known.{first_at}
-use Rattle.py_lines.proofs.Feeds.OpenLine.{FailsAt, dropped, fails_keep, runs_out}
+use Rattle.py_lines.proofs.Feeds.OpenLine.{dropped, runs_out}
 use Rattle.py_lines.specs.Settled.{IsSettled}
 use Rattle.py_lines.proofs.Lexings.FirstLines.{all_first, begins_settled}
 use Rattle.py_lines.proofs.Lexings.LineEnds.{none_both}
 use Rattle.py_lines.proofs.Feeds.FedScanner.{settled_held}
-
--- the text that ends with what is held has this fault, which is kept
-pub record HasEndFault (old : Feed) (fault : Fault) (new : Feed) : Type 0 where
-  pub text : Holds old old.held.items (Some fault) new
-  pub none_ready : new.ready ≡ None
-  pub lexed : WhereWhole (scanning_of old) (λ text lines. IsLexed text lines (Some fault))
 
 -- the text ends with what is held, and has no fault there: the line that stands there, if one does, is its last
 pub record HasEndedText (old new : Feed) : Type 0 where
@@ -74,22 +68,6 @@ last_line old not_ready some scan {end_len} h =
           (all_first text _ _ _ first end, sym (h.is.text.spell ∙ take_all stop items (omega (arith, all))));
     }
 
--- or the fault that stands there
-pub last_fault : (old new : Feed) → old.ready ≡ None → (state : LineState) → state ≡ rescanned old.state state → {wrong : LineFault} → HasNextFault old.state old.held.items wrong
-    → (error : LexError) → FailsAt (record old { state = state }) wrong.kind wrong.place error new → (fault : Fault) × (error ≡ LexError.Fault fault) × HasEndFault old fault new
-last_fault old new not_ready state same {wrong} h error fails =
-    let fault = fails.keeps.fault in
-    let at = subst (λ (t : LineState). IsFaultAfter t wrong.kind wrong.place (take wrong.place old.held.items) fault) same fails.keeps.at in
-    let kept = fails_keep (record old { state = state }) new wrong.kind wrong.place error fails in (
-      fault,
-      fails.keeps.error_is,
-      record {
-        text = record { held = kept.held; place = kept.place ∙ ap (λ (t : LineState). t.place) same; line = kept.line ∙ ap (λ (t : LineState). t.line) same; ended = kept.ended; fault = kept.fault };
-        none_ready = ap (λ (f : Feed). f.ready) fails.same ∙ not_ready;
-        lexed = λ text lines scanning whole. h.lexed fault (record { is = at.is; place = at.place; line = at.line }) text lines scanning.first (text_held old text lines scanning whole);
-      },
-    )
-
 -- the fault was known before
 pub ends_known : (s : ScannerState) {fault : Fault} → s.fault ≡ Some fault → EndsFaulty s fault s
 ends_known s is = grind arith
@@ -128,22 +106,30 @@ pub same_room : {old new : Feed} {known : Option Fault} → IsSoundFeed old → 
 same_room sound text = record { fits = omega (arith, sound.room.fits, text.place, ap length text.held); few_lines = omega (arith, sound.room.few_lines, text.place, text.line) }
 
 -- what a fault at the text's end comes to
-pub finish_errs : {old new : Feed} {fault : Fault} → IsSoundFeed old → old.state.fault ≡ None → old.ready ≡ None → HasEndFault old fault new
-    → Finishes (scanning_of old) (Err (LexError.Fault fault)) (scanning_of new) × IsSoundFeed new
-finish_errs {old} {new} sound no_fault not_ready ends = let text = ends.text in (
-  record {
-    all = ends.lexed;
-    again = λ first is. absurd (let h = sym no_fault ∙ is in cc);
-    place = text.place;
-    line = text.line;
-    held = text.held;
-    fed = omega (arith, text.place, ap length text.held);
-    ready = ap (ready_of new) ends.none_ready ∙ sym (ap (ready_of old) not_ready);
-    open_yet = text.ended;
-    kept = text.fault;
-  },
-  record { room = same_room sound text; state = subst (StandsSo new) (sym ends.none_ready) (λ no_more. absurd (let h = sym text.fault ∙ no_more in cc)) },
-)
+pub finish_errs : {old : Feed} {state : LineState} (error : LexError) → IsSoundFeed old → old.state.fault ≡ None → old.ready ≡ None → ScansLine old.state old.held.items (Err error) state
+    → let new = record old { state = state } in Finishes (scanning_of old) (Err error) (scanning_of new) × IsSoundFeed new
+finish_errs {old} {state} (LexError.Fault fault) sound no_fault not_ready meets =
+    let new = record old { state = state } in
+    let place = ap (λ (t : LineState). t.place) meets.same in
+    let line = ap (λ (t : LineState). t.line) meets.same in
+    let kept = ap (λ (t : LineState). t.fault) meets.same in (
+      record {
+        all = λ text lines scanning whole. meets.lexed text lines scanning.first (text_held old text lines scanning whole);
+        again = λ first is. absurd (let h = sym no_fault ∙ is in cc);
+        place = place;
+        line = line;
+        held = refl;
+        fed = omega (arith, place);
+        ready = ap (ready_of new) not_ready ∙ sym (ap (ready_of old) not_ready);
+        open_yet = refl;
+        kept = kept;
+      },
+      record {
+        room = same_room {new = new} sound (record { held = refl; place = place; line = line; ended = refl; fault = kept });
+        state = subst (StandsSo new) (sym not_ready) (λ no_more. absurd (let h = sym kept ∙ no_more in cc));
+      },
+    )
+finish_errs LexError.Memory sound no_fault not_ready never = absurd never
 
 module _ {old f : Feed} (sound : IsSoundFeed old) (no_fault : old.state.fault ≡ None) (e : HasEndedText old f) where
   -- once the tokens of the line that is left are read, if one is

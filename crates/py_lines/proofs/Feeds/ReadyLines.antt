@@ -53,14 +53,7 @@ module _ (f : Feed) (end_len : ℕ) (h : HoldsLine f end_len) where
   pub held_line_text : IsLineText (take f.state.scan.stop f.held.items) end_len
   held_line_text = (h.pieces, (h.text, h.ends))
 
--- no line stands in what is held: there are no tokens to be read
-pub none_read : {f : Feed} → HasRoom f 0 → f.ready ≡ None → (line : Option LogicalLine) × HoldsSo f f.ready line → HasReadTokens f f
-none_read {f} room none (held, holds) = record {
-  seen = λ line h. ap (with_line f) (ap (ready_of f) none ∙ sym (subst (λ r. HoldsSo f r line) none h).0);
-  sound = record { room = room; state = subst (StandsSo f) (sym none) (subst (λ r. HoldsSo f r held) none holds).1 };
-}
-
--- the tokens of the line that does were read
+-- the tokens of the line that stands in what is held were read
 module _ (f : Feed) (state : LineState) (end_len line : ℕ) (tokens : HoldsTokens (take f.state.scan.stop f.held.items) end_len f.state.line state.tokens.items)
     (after : IsLineAfter f.state.line (take f.state.scan.stop f.held.items) end_len line) where
   abbrev pub with_read : Feed

@@ -1,14 +1,16 @@
 -- The line that a reader gives next, without its tokens and with them.
-use Rattle.py_lines.proofs.Prelude.{◌≡◌, ℕ, ◌+◌, ◌≤◌, None, Some, List, [], length, take, drop, refl, sym, ap, ◌∙◌, subst, transport, arith, length-drop, length-take-le, Piece, spelled, LineState, Token, EachLiesIn}
+use Rattle.py_lines.proofs.Prelude.{◌≡◌, ℕ, ◌+◌, ◌<◌, ◌≤◌, Err, None, Ok, Result, Some, List, [], length, take, drop, refl, sym, ap, ◌∙◌, subst, transport, arith, length-drop, length-take-le, Piece, spelled, LineState, Token, EachLiesIn}
+use Rattle.py_lines.specs.Lexed.{IsLexed}
 use Rattle.py_lines.specs.LogicalLine.{LogicalLine, line_ends, line_of, tokens_from}
 use Rattle.py_lines.specs.Outline.{IsOutlineOf, Outline}
 use Rattle.py_lines.specs.Reader.{Ends, Fails, PassesLine, Reader}
 use Rattle.py_lines.specs.UnitLine.{outline_in}
-use Rattle.py_lines.specs.Private.LineState.{passed}
-use Rattle.py_lines.specs.Private.LineTokens.{AreLineOf, AreLineText, HoldsTokens, IsLineAfter}
+use Rattle.py_lines.specs.Private.LineState.{GivesNext, HasNextLine, HasReadNext, ScansLine, WhereLeft, passed, reread}
+use Rattle.py_lines.specs.Private.LineTokens.{AreLineOf, AreLineText}
 use Rattle.py_lines.specs.Private.Outline.{with_tokens}
-use Rattle.py_lines.specs.Private.Source.{HasNextOf, IsOutlineNext}
+use Rattle.py_lines.specs.Private.Source.{Advances, HasNextOf, IsOutlineNext, ReadsNextLine}
 use Rattle.py_lines.specs.declared.fault.Fault.{Fault}
+use Rattle.py_lines.specs.declared.fault.LexError.{LexError}
 use Rattle.py_lines.specs.declared.unit.Line as given
 use Rattle.py_lines.proofs.Lexings.FirstLines.{all_first}
 use Rattle.py_lines.proofs.LineScan.LineCount.{line_ends-bytes}
@@ -20,12 +22,6 @@ use Rattle.py_lines.proofs.Readers.NextLines.{further, passes_next}
 pub record IsNext (r : Reader) (l : given.Line) : Type 0 where
   pub next : HasNextOf r (length l.text.now) l.end_len
   pub is : IsOutlineNext r l (length l.text.now) l.end_len
-
--- the next line and the line after it, with the tokens that are held
-pub record IsReadNext (r : Reader) (l : given.Line) (after : ℕ) (tokens : List Token) : Type 0 where
-  pub is : IsNext r l
-  pub tokens_are : tokens ≡ tokens_from 0 r.line is.next.is.pieces
-  pub after_is : after ≡ r.line + line_ends (spelled is.next.is.pieces)
 
 -- no line is left at the text's end
 pub ends_there : (r : Reader) → r.fault ≡ None → r.place ≡ length r.text → Ends r r
@@ -79,12 +75,7 @@ module _ {r : Reader} {l : given.Line} (next : IsNext r l) where
         same = line_told _ n.text n.whole r.place r.line l.end_len n.ends ∙ sym next.is;
       }
 
-  -- it was read
-  pub read_is : {after : ℕ} {tokens : List Token} → HoldsTokens l.text.now l.end_len r.line tokens → IsLineAfter r.line l.text.now l.end_len after
-      → IsReadNext r l after tokens
-  read_is holds after = record { is = next; tokens_are = holds pieces is_line; after_is = after pieces is_line }
-
-  -- and with its tokens it is this line
+  -- with its tokens it is this line
   module _ {tokens : List Token} (are : tokens ≡ tokens_from 0 r.line pieces) where
     pub whole_is : with_tokens (outline_in l) tokens ≡ logical
     whole_is = ap (λ (o : Outline). with_tokens o tokens) next.is
@@ -113,18 +104,65 @@ moved {text} {t} {new} {r} len ends same is after = λ i. record {
 }
 
 -- a line that was read with its tokens is passed
-module _ {text : List ℕ} {t new : LineState} {r : Reader} {l : given.Line} {after : ℕ} (same : reader_at text t ≡ r) (read : IsReadNext r l after t.tokens.items)
-    (to : new ≡ passed t (length l.text.now) after) where
-  stands : reader_at text new ≡ further r (length l.text.now) (line_ends (spelled (pieces read.is)))
-  stands = moved _ _ same to read.after_is
+module _ (text : List ℕ) {bytes : List ℕ} {s t : LineState} (l : given.Line) {end_len after : ℕ} (from : bytes ≡ drop s.place text) (read : HasReadNext s bytes end_len after t)
+    (line : IsOutlineNext (reader_at text t) l t.scan.stop end_len) where
+  -- it is the next one
+  pub is_read : IsNext (reader_at text s) l
+  is_read = next_at (ap (reader_at text) read.same) (subst (λ b. HasNextLine s.place s.line b t.scan.stop end_len) from read.is) line
 
-  pub passes_read : r.fault ≡ None → PassesLine r (with_tokens (outline_in l) new.tokens.items) (reader_at text new) × EachLiesIn l.text.now new.tokens.items
-  passes_read none =
-      let are = ap (λ (s : LineState). s.tokens.items) to ∙ read.tokens_are in
-      (transport (λ i. PassesLine r (sym (whole_is read.is are) i) (sym stands i)) (passes_it read.is _ none refl), each_lies read.is are)
+  -- with these pieces
+  are_pieces : AreLineOf (take t.scan.stop bytes) end_len (pieces is_read)
+  are_pieces =
+      let text_same = ap (take t.scan.stop) from ∙ ap (λ (u : LineState). take t.scan.stop (drop u.place text)) (sym read.same) ∙ sym (ap (λ (o : Outline). o.text) line) in
+      transport (λ i. AreLineOf (sym text_same i) (ap (λ (o : Outline). o.end_len) line i) (pieces is_read)) (is_line is_read)
 
-  pub within_read : r.line ≤ r.place + 1 → (new.place ≤ length text) × (new.line ≤ new.place + 1)
-  within_read few =
-      let (within, ends) = bounds read.is in
-      let place = ap (λ (q : Reader). q.place) stands in
-      (omega (arith, place, within, ap (λ (q : Reader). length q.text) same), omega (arith, place, ap (λ (q : Reader). q.line) stands, ends, few))
+  module _ {new : LineState} (to : new ≡ passed t (length l.text.now) after) where
+    further_on : reader_at text new ≡ further (reader_at text s) (length l.text.now) (line_ends (spelled (pieces is_read)))
+    further_on = moved _ _ (ap (reader_at text) read.same) to (read.after_is _ are_pieces)
+
+    pub passes_read : s.fault ≡ None → Advances (reader_at text s) (Ok (Some l)) (reader_at text new) new.tokens.items
+    passes_read none =
+        let are = ap (λ (u : LineState). u.tokens.items) to ∙ read.tokens _ are_pieces in
+        (transport (λ i. PassesLine (reader_at text s) (sym (whole_is is_read are) i) (sym further_on i)) (passes_it is_read _ none refl), each_lies is_read are)
+
+    pub within_read : s.line ≤ s.place + 1 → (new.place ≤ length text) × (new.line ≤ new.place + 1)
+    within_read few =
+        let (within, ends) = bounds is_read in
+        let place = ap (λ (q : Reader). q.place) further_on in
+        (omega (arith, place, within), omega (arith, place, ap (λ (q : Reader). q.line) further_on, ends, few))
+
+-- where a line was not scanned it was not read, and the reader stays there
+module _ (s new : LineState) (bytes : List ℕ) where
+  pub not_scanned : {mid : LineState} (error : LexError) → mid ≡ reread s mid → ScansLine mid bytes (Err error) new → GivesNext s bytes (Err error) new
+  not_scanned (LexError.Fault f) same meets = record {
+    same = meets.same ∙ ap (λ (t : LineState). record (reread t new) { fault = Some f }) same;
+    lexed = subst (λ (t : LineState). WhereLeft t.place t.line bytes (λ text lines. IsLexed text lines (Some f))) same meets.lexed;
+  }
+  not_scanned LexError.Memory same never = absurd never
+
+  pub stays : (result : Result (ℕ × ℕ) LexError) → GivesNext s bytes result new → (new.place ≡ s.place) × (new.line ≡ s.line)
+  stays (Ok read) has = (ap (λ (t : LineState). t.place) has.same, ap (λ (t : LineState). t.line) has.same)
+  stays (Err (LexError.Fault f)) meets = (ap (λ (t : LineState). t.place) meets.same, ap (λ (t : LineState). t.line) meets.same)
+  stays (Err LexError.Memory) same = (ap (λ (t : LineState). t.place) same, ap (λ (t : LineState). t.line) same)
+
+  pub stays_scanned : (result : Result ℕ LexError) → ScansLine s bytes result new → (new.place ≡ s.place) × (new.line ≡ s.line)
+  stays_scanned (Ok end_len) scans = (ap (λ (t : LineState). t.place) scans.0, ap (λ (t : LineState). t.line) scans.0)
+  stays_scanned (Err error) scans = stays (Err error) (not_scanned error refl scans)
+
+-- no line was given
+module _ (text : List ℕ) (s new : LineState) {bytes : List ℕ} (from : bytes ≡ drop s.place text) (none : s.fault ≡ None) (more : s.place < length text) where
+  pub not_read : (error : LexError) → GivesNext s bytes (Err error) new → Advances (reader_at text s) (Err error) (reader_at text new) new.tokens.items
+  not_read (LexError.Fault f) meets = let same = meets.same in record {
+    all = λ lines given. meets.lexed _ lines given.first from;
+    again = λ first is. let clash : None ≡ Some first = sym none ∙ is in absurd (cc);
+    more = λ _. more;
+    text = refl;
+    place = ap (λ (t : LineState). t.place) same;
+    line = ap (λ (t : LineState). t.line) same;
+    kept = ap (λ (t : LineState). t.fault) same;
+  }
+  not_read LexError.Memory same = record { same = ap (reader_at text) same; more = more; fault = none }
+
+  pub not_passed : (error : LexError) → ScansLine s bytes (Err error) new → ReadsNextLine (reader_at text s) (Err error) (reader_at text new)
+  not_passed (LexError.Fault f) meets = not_read (LexError.Fault f) meets
+  not_passed LexError.Memory never = absurd never

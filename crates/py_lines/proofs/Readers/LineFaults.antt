@@ -173,10 +173,6 @@ open_line {read = read} way start open_yet = let t = way.field in closed_one_lin
 
 -- Pieces before the others of the outermost list leave the rest as it is.
 module _ (base : List Piece) where
-  code_same : (outer : List Level) (os : List ℕ) → unfinished_code (levels_after base outer) os ≡ unfinished_code outer os
-  code_same [] os = refl
-  code_same outer os = refl
-
   open_same : (outer : List Level) (os : List ℕ) (m : FieldMode) → unfinished_in (levels_after base outer) os m ≡ unfinished_in outer os m
   open_same outer os m = grind (arith, levels_same)
 

@@ -3,13 +3,14 @@ use Rattle.py_lines.proofs.Prelude.{◌≡◌, ℕ, ◌+◌, ◌-◌, ◌<◌, �
 use Rattle.py_lines.specs.Lexed.{IsLexed}
 use Rattle.py_lines.specs.Reader.{HasGiven, PassesLine, Reader}
 use Rattle.py_lines.specs.ScannerState.{GoesOnWith}
+use Rattle.py_lines.specs.declared.fault.LexError.{LexError}
 use Rattle.py_lines.specs.declared.scan.Stop.{Stop}
 use Rattle.py_lines.specs.declared.scan.Stop.TheVariants as stops
 use Rattle.py_lines.specs.Private.Machine.{Mode}
 use Rattle.py_lines.specs.Private.LineTokens.{AreLineText}
 use Rattle.py_lines.specs.Private.FieldMachine.{field_pieces}
 use Rattle.py_lines.specs.Private.LineScan.{IsUnderWay, ScansIn, begins_line}
-use Rattle.py_lines.specs.Private.LineState.{HasNextFault, HasNextLine, IsFaultAfter, ScansLine, WhereLeft, first_mode}
+use Rattle.py_lines.specs.Private.LineState.{HasNextLine, IsFaultAfter, KeepsFault, ScansLine, WhereLeft, first_mode, reread, rescanned}
 use Rattle.py_lines.specs.Private.Scan.{EndsTextSo, HasPending}
 use Rattle.py_lines.proofs.Feeds.DecidedSoFar.{by_character, ended_bytes, ended_unfinished}
 use Rattle.py_lines.proofs.Feeds.Known.{IsKnown, first_at, is_known}
@@ -21,6 +22,27 @@ use Rattle.py_lines.proofs.LineScan.LineSteps.{follows_whole, returned, way_here
 use Rattle.py_lines.proofs.LineScan.TextSteps.{begun_sound}
 use Rattle.py_lines.proofs.Readers.LineAnswers.{ComesToEnd, IsEnded, IsScannedLine, all_within, fits_on, left_ends, left_stop, left_text, line_at_end, line_at_text_end, line_text, one_more}
 use Rattle.py_lines.proofs.Readers.LineFaults.{Within, ends_as_read, finished, refused_within, unfinished_within}
+
+-- this is wrong in the line with which the bytes begin, so far from its start
+pub record HasNextFault (s : LineState) (bytes : List ℕ) (line_fault : LineFault) : Type 0 where
+  pub within : line_fault.place ≤ length bytes
+  pub lexed : (fault : Fault) → IsFaultAfter s line_fault.kind line_fault.place (take line_fault.place bytes) fault
+      → WhereLeft s.place s.line bytes (λ text lines. IsLexed text lines (Some fault))
+
+-- the line was scanned, or this is wrong in it
+abbrev pub IsScanned : LineState → List ℕ → Result ℕ LineFault → ℕ → Type 0
+IsScanned s bytes (Ok end_len) stop = HasNextLine s.place s.line bytes stop end_len
+IsScanned s bytes (Err line_fault) stop = HasNextFault s bytes line_fault
+
+-- what is wrong is the text's fault then, and is kept
+pub meets : {s mid new : LineState} {bytes : List ℕ} {f : LineFault} {error : LexError} → mid ≡ rescanned s mid → HasNextFault s bytes f
+    → KeepsFault mid f.kind f.place (take f.place bytes) error new → ScansLine s bytes (Err error) new
+meets {s} {mid} {new} {bytes} {f} same wrong kept =
+    let at = subst (λ (t : LineState). IsFaultAfter t f.kind f.place (take f.place bytes) kept.fault) same kept.at in
+    subst (λ e. ScansLine s bytes (Err e) new) (sym kept.error_is) (record {
+      same = subst (λ t. t ≡ record (reread s t) { fault = Some kept.fault }) (sym (kept.same ∙ ap (λ (t : LineState). record t { fault = Some kept.fault }) same)) refl;
+      lexed = wrong.lexed kept.fault (record { is = at.is; place = at.place; line = at.line });
+    })
 
 -- characters and bytes that are nothing together
 both_none : (more tail : List ℕ) → encode_utf8_all more ++ tail ≡ [] → (more ≡ []) × (tail ≡ [])
@@ -122,22 +144,22 @@ module _ (s : LineState) {bytes : List ℕ} {scan : Scan} (l : ScansIn (first_mo
   way = l.stops.way
 
   -- so the text ends
-  pub text_ended : 0 < length bytes → (result : Result ℕ LineFault) (new : Scan) → EndsTextSo scan (take (length bytes - scan.stop) (drop scan.stop bytes)) result new → ScansLine s bytes result new.stop
+  pub text_ended : 0 < length bytes → (result : Result ℕ LineFault) (new : Scan) → EndsTextSo scan (take (length bytes - scan.stop) (drop scan.stop bytes)) result new → IsScanned s bytes result new.stop
   text_ended some result new ends = by result (left_ends l.stops start l.spell result new (subst (λ b. EndsTextSo scan b result new) bytes_left ends)) where
     some_read : l.rest ≡ [] → 0 < byte_len l.read
     some_read none = omega (arith, some, bytes_size (read_in l), ap length none)
 
-    by : (result : Result ℕ LineFault) → ComesToEnd way.field l.rest result new → ScansLine s bytes result new.stop
+    by : (result : Result ℕ LineFault) → ComesToEnd way.field l.rest result new → IsScanned s bytes result new.stop
     -- with the line end CR
     by (Ok len) (stop, inl (one, is)) = let none = left_none l.stops is in
         let at = returned way start stop is (λ after same. ap (begins is_line_feed) (encodes_same after [] same)) in
-        subst (λ n. ScansLine s bytes (Ok n) new.stop) (sym one) (line_read (read_in l) s.place s.line (line_at_end (first_mode s.place) new l.read [] 1 at [] refl) (λ more tail follow. (
+        subst (λ n. IsScanned s bytes (Ok n) new.stop) (sym one) (line_read (read_in l) s.place s.line (line_at_end (first_mode s.place) new l.read [] 1 at [] refl) (λ more tail follow. (
           subst (AreReadBefore (at.body ++ at.last ∷ [])) (sym (both_none more tail (follow ∙ none)).0) (at.fit [] refl),
           IsEnded.by_line at.body at.last refl at.are.class at.are.level,
         )))
     -- with none
     by (Ok len) (stop, inr (zero, none, open_yet, unfinished)) = let final = finished way.field unfinished in
-        subst (λ n. ScansLine s bytes (Ok n) new.stop) (sym zero)
+        subst (λ n. IsScanned s bytes (Ok n) new.stop) (sym zero)
         (line_read (read_in l) s.place s.line (line_at_text_end (first_mode s.place) new l.read way start final open_yet (some_read none) (stop ∙ way_here way start)) (λ more tail follow.
         let (no_more, no_tail) = both_none more tail (follow ∙ none) in (
           subst (AreReadBefore (field_pieces way.field)) (sym no_more) (ends_as_read way.field l.read (way_sound way start) final).fit,

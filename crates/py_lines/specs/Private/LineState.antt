@@ -17,7 +17,6 @@ use Rattle.py_lines.specs.declared.line_state.LineState.{LineState}
 use Rattle.py_lines.specs.Private.Machine.{Mode}
 use Rattle.py_lines.specs.Private.Mode as modes
 use Rattle.py_lines.specs.declared.scan.Scan.{Scan}
-use Rattle.py_lines.specs.declared.scan.LineFault.{LineFault}
 use Rattle.py_lines.specs.declared.scan.Stop.TheVariants as stops
 
 -- what is open where a line begins: a mark may stand at the text's start
@@ -94,11 +93,10 @@ pub record HasNextLine (place line : ℕ) (bytes : List ℕ) (stop end_len : ℕ
   pub next : WhereLeft place line bytes (λ text lines.
       AreFirstLines text (place + stop) (line + line_ends (spelled is.pieces)) (lines ++ line_of place line is.pieces ∷ []))
 
--- or this is wrong in it, so far from its start
-pub record HasNextFault (s : LineState) (bytes : List ℕ) (line_fault : LineFault) : Type 0 where
-  pub within : line_fault.place ≤ length bytes
-  pub lexed : (fault : Fault) → IsFaultAfter s line_fault.kind line_fault.place (take line_fault.place bytes) fault
-      → WhereLeft s.place s.line bytes (λ text lines. IsLexed text lines (Some fault))
+-- or the text has this fault there, and it is kept
+pub record MeetsFault (old : LineState) (bytes : List ℕ) (fault : Fault) (new : LineState) : Type 0 where
+  pub same : new ≡ record (reread old new) { fault = Some fault }
+  pub lexed : WhereLeft old.place old.line bytes (λ text lines. IsLexed text lines (Some fault))
 
 -- the line with which these bytes begin was read, with its tokens: so many of its bytes are its line end, and the line after it is this one
 pub record ReadsLine (s : LineState) (bytes : List ℕ) (end_len after : ℕ) (new : LineState) : Type 0 where
@@ -106,6 +104,21 @@ pub record ReadsLine (s : LineState) (bytes : List ℕ) (end_len after : ℕ) (n
   pub tokens : HoldsTokens (take new.scan.stop bytes) end_len s.line new.tokens.items
   pub after_is : IsLineAfter s.line (take new.scan.stop bytes) end_len after
 
-abbrev pub ScansLine : LineState → List ℕ → Result ℕ LineFault → ℕ → Type 0
-ScansLine s bytes (Ok end_len) stop = HasNextLine s.place s.line bytes stop end_len
-ScansLine s bytes (Err line_fault) stop = HasNextFault s bytes line_fault
+-- what a call that scans this line answers and leaves
+abbrev pub ScansLine : LineState → List ℕ → Result ℕ LexError → LineState → Type 0
+ScansLine old bytes (Ok end_len) new = (new ≡ rescanned old new) × HasNextLine old.place old.line bytes new.scan.stop end_len
+ScansLine old bytes (Err (LexError.Fault f)) new = MeetsFault old bytes f new
+ScansLine old bytes (Err LexError.Memory) new = ⊥
+
+-- this line was scanned and read, with its tokens
+pub record HasReadNext (old : LineState) (bytes : List ℕ) (end_len after : ℕ) (new : LineState) : Type 0 where
+  pub same : new ≡ reread old new
+  pub is : HasNextLine old.place old.line bytes new.scan.stop end_len
+  pub tokens : HoldsTokens (take new.scan.stop bytes) end_len old.line new.tokens.items
+  pub after_is : IsLineAfter old.line (take new.scan.stop bytes) end_len after
+
+-- what a call that reads this line answers and leaves
+abbrev pub GivesNext : LineState → List ℕ → Result (ℕ × ℕ) LexError → LineState → Type 0
+GivesNext old bytes (Ok read) new = HasReadNext old bytes read.0 read.1 new
+GivesNext old bytes (Err (LexError.Fault f)) new = MeetsFault old bytes f new
+GivesNext old bytes (Err LexError.Memory) new = new ≡ reread old new

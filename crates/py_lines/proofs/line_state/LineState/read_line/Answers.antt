@@ -68,7 +68,7 @@ pub overflow_add-result : goal.overflow_add-result
 overflow_add-result c =
     let (ps, is) = c.requires.text in
     let bound : c.pieces.line_here + bool_byte (nat_lt 0 c.args.end_len) < 18446744073709551616
-    = omega (arith, after c ps is, line_ends-bytes (spelled ps), ap length is.0.spell, c.requires.lines) in
+    = omega (arith, after (goal.at.overflow_add-result c).After-pieces ps is, line_ends-bytes (spelled ps), ap length is.0.spell, c.requires.lines) in
     search (rules, bound)
 
 pub returns-clause-tokens : goal.returns-clause-tokens
